@@ -1,0 +1,5 @@
+pub mod Choice
+pub mod Squares
+pub mod Places
+pub mod Plans
+pub mod References

@@ -1,0 +1,13 @@
+//! Places, the division areas that they lie in, and one-kilometre cells of them.
+#![tactic(auto)]
+
+pub mod cells;
+mod distances;
+mod lowest;
+pub mod places;
+mod plan_faults;
+pub mod plans;
+mod references;
+#[cfg(test)]
+mod tests;
+pub mod whole;
