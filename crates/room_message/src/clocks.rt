@@ -1,0 +1,143 @@
+//! What gives the moment, in whole seconds of UTC since 1970.
+ghost use Rattle.std.specs.Prelude.{◌≡◌, ◌<◌, ◌≤◌, ℕ, List, [], ◌∷◌, Bool, true, false, Option, Some, None, MatchOption, length, slice_get, take, replicate};
+ghost use Rattle.std.specs.Io.KnownBytes.{Appends, Keeps};
+
+use std::time::{self, SystemTime, UNIX_EPOCH};
+
+/// What gives the moment.
+pub trait Clock {
+    // The moments that it has given, where they are known.
+    ghost given: { Self → Option (List ℕ) };
+
+    // Whether its last answer was none.
+    ghost was_none: { Self → Bool };
+
+    /// The moment, or none where there is none to be had.
+    fn now(&mut self) -> Option<u64>
+        ensures moments { MatchOption result (Keeps (given self.old) (given self.new)) (λ at. Appends (given self.old) (given self.new) (at ∷ [])) }
+        ensures none { MatchOption result (was_none self.new ≡ true) (λ at. was_none self.new ≡ false) };
+}
+
+/// The clock of the machine: it answers none where it can't be read, or is set before 1970.
+#[derive(Drop)]
+pub struct MachineClock<'a, R> {
+    machine: &'a R,
+    was_none: bool,
+}
+
+impl<'a, R: time::Clock> MachineClock<'a, R> {
+    /// The clock of this machine.
+    pub fn new(machine: &'a R) -> MachineClock<'a, R>
+        ensures { result.was_none ≡ false }
+    {
+        MachineClock {
+            machine,
+            was_none: false,
+        }
+    }
+}
+
+impl<'a, R: time::Clock> Clock for MachineClock<'a, R> {
+    ghost given = { λ _. None };
+
+    ghost was_none = { λ clock. clock.was_none };
+
+    fn now(&mut self) -> Option<u64> {
+        let moment = SystemTime::now(self.machine)
+            .ok()
+            .and_then(|time| time.duration_since(UNIX_EPOCH).ok())
+            .map(|since| since.as_secs());
+        self.was_none = moment.is_none();
+        moment
+    }
+}
+
+/// A clock that gives the moments of a list, one after another, and then none.
+#[derive(Drop)]
+pub struct ListClock<'a> {
+    moments: &'a [u64],
+    next: usize,
+    was_none: bool,
+    ghost within: { next ≤ length moments.now },
+}
+
+impl<'a> ListClock<'a> {
+    /// A clock that has given nothing yet.
+    pub fn new(moments: &'a [u64]) -> ListClock<'a>
+        ensures moments { result.moments.now ≡ moments.now }
+        ensures next { result.next ≡ 0 }
+        ensures was_none { result.was_none ≡ false }
+    {
+        ListClock {
+            moments,
+            next: 0,
+            was_none: false,
+        }
+    }
+}
+
+impl<'a> Clock for ListClock<'a> {
+    ghost given = { λ clock. Some (take clock.next clock.moments.now) };
+
+    ghost was_none = { λ clock. clock.was_none };
+
+    fn now(&mut self) -> Option<u64>
+        ensures moments { let old = Some (take self.old.next self.old.moments.now) in let new = Some (take self.new.next self.new.moments.now) in
+            MatchOption result (Keeps old new) (λ at. Appends old new (at ∷ [])) }
+        ensures none { MatchOption result (self.new.was_none ≡ true) (λ at. self.new.was_none ≡ false) }
+        ensures next { result ≡ slice_get self.old.moments.now self.old.next }
+    {
+        match self.moments.get(self.next) {
+            Some(moment) => {
+                self.next += 1;
+                self.was_none = false;
+                Some(*moment)
+            }
+            None => {
+                self.was_none = true;
+                None
+            }
+        }
+    }
+}
+
+/// A clock that gives one moment each time, and none once its count is at its last value.
+#[derive(Clone, Copy, Debug)]
+pub struct FixedClock {
+    moment: u64,
+    count: u64,
+    was_none: bool,
+}
+
+impl FixedClock {
+    /// A clock that has given nothing yet.
+    pub fn new(moment: u64) -> FixedClock
+        ensures { result ≡ record { moment = moment; count = 0; was_none = false } }
+    {
+        FixedClock {
+            moment,
+            count: 0,
+            was_none: false,
+        }
+    }
+}
+
+impl Clock for FixedClock {
+    ghost given = { λ clock. Some (replicate clock.count clock.moment) };
+
+    ghost was_none = { λ clock. clock.was_none };
+
+    fn now(&mut self) -> Option<u64>
+        ensures moments { let old = Some (replicate self.old.count self.old.moment) in let new = Some (replicate self.new.count self.new.moment) in
+            MatchOption result (Keeps old new) (λ at. Appends old new (at ∷ [])) }
+        ensures none { MatchOption result (self.new.was_none ≡ true) (λ at. self.new.was_none ≡ false) }
+        ensures moment { self.old.count < u64.MAX → result ≡ Some self.old.moment }
+    {
+        self.was_none = self.count == u64::MAX;
+        if self.was_none {
+            return None;
+        }
+        self.count += 1;
+        Some(self.moment)
+    }
+}

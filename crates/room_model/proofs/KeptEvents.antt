@@ -1,0 +1,166 @@
+-- Each event keeps a room well-formed, and so do lists of events.
+use Rattle.std.proofs.Common.{ap, ◌∙◌}
+use Rattle.std.specs.Prelude.{List, None, Option, Some, [], is_some, refl, true, ℕ, ◌∷◌, ◌≡◌}
+use Rattle.room_place.specs.Plans.{has_division}
+use Rattle.room_types.specs.Keyed.{put_row, row_at}
+use Rattle.room_types.specs.Keys.{callsign_cmp, vehicle_key}
+use Rattle.room_types.specs.Texts.{Callsign}
+use Rattle.room_types.specs.declared.asks.Ask.{Ask}
+use Rattle.room_types.specs.declared.asks.Event.{Event}
+use Rattle.room_types.specs.declared.asks.Who.{Who}
+use Rattle.room_types.specs.declared.asks.Who.TheVariants.{Crew, Desk, Position}
+use Rattle.room_types.specs.declared.changes.Change.{Change}
+use Rattle.room_types.specs.declared.changes.Change.TheVariants.{DropAssignment, DropLoan, DropOffer, PutAssignment, PutCall, PutDivision, PutIncident, PutLoan, PutOffer, PutPoint, PutReport, PutTurn, PutVehicle, Settle}
+use Rattle.room_types.specs.declared.tables.Assignment.{Assignment}
+use Rattle.room_types.specs.declared.tables.Vehicle.{Vehicle}
+use Rattle.room_model.proofs.IncidentChanges.{vehicles_put}
+use Rattle.room_model.proofs.KeptAsks.{Kept, active_kept, duty_kept, mobilise_kept, off_kept, stand_down_kept, standby_kept}
+use Rattle.room_model.proofs.KeptCalls.{take_call_kept}
+use Rattle.room_model.proofs.KeptIncidents.{clear_kept, close_kept, needs_kept, set_point_kept}
+use Rattle.room_model.proofs.KeptLoans.{accept_kept, decline_kept, give_back_kept, lend_kept, recall_kept, withdraw_kept}
+use Rattle.room_model.proofs.KeptMerge.{merge_kept}
+use Rattle.room_model.proofs.KeptReports.{take_report_kept}
+use Rattle.room_model.proofs.Tests.{both_true, left_true, right_true}
+use Rattle.room_model.proofs.VehicleRows.{settle}
+use Rattle.room_model.specs.Events.{AreAddressed, IsNumbered}
+use Rattle.room_model.specs.Calls.{new_call}
+use Rattle.room_model.specs.DayTimes.{show_times}
+use Rattle.room_model.specs.Decisions.{changes_of, show}
+use Rattle.room_model.specs.Incidents.{show_incidents}
+use Rattle.room_model.specs.Loans.{show_loans, show_offers}
+use Rattle.room_model.specs.Points.{show_points}
+use Rattle.room_model.specs.Proposals.{all_proposed, propose}
+use Rattle.room_model.specs.Queries.{assignment_at, vehicle_at}
+use Rattle.room_model.specs.Queue.{show_queue}
+use Rattle.room_model.specs.Reports.{order_of}
+use Rattle.room_model.specs.Room.{Room, apply, apply_one, settled}
+use Rattle.room_model.specs.Run.{room_run}
+use Rattle.room_model.specs.Step.{IsAddressed, crew_asks, decided, desk_asks, is_crews, is_desks, is_for, position_asks, room_after, who_asks}
+use Rattle.room_model.specs.Vehicles.{show_vehicles}
+use Rattle.room_model.specs.WellFormed.{IsWellFormed}
+use Rattle.room_types.specs.declared.answers.Answer.TheVariants as answer
+use Rattle.room_types.specs.declared.asks.Ask.TheVariants as ask
+
+propose_kept : (d n at : ℕ) (r : Room) (w : IsWellFormed r) → Kept d r w (propose d n at r)
+unfolding propose
+propose_kept d n at r w = active_kept d r w n (λ i. show (answer.Proposals (all_proposed d i at r))) (λ i e active. w)
+
+desk_kept : (d : ℕ) (a : Ask) (at : ℕ) (r : Room) (w : IsWellFormed r) → has_division r.plan d ≡ true → Kept d r w (desk_asks d a at r)
+unfolding show_incidents show_vehicles show_queue show_points show_loans show_offers show_times
+desk_kept d (ask.Call f) at r w h = w
+desk_kept d ask.Incidents at r w h = w
+desk_kept d (ask.Propose n) at r w h = propose_kept d n at r w
+desk_kept d (ask.Mobilise n c) at r w h = mobilise_kept d r w n c at
+desk_kept d (ask.Needs n needs) at r w h = needs_kept d r w n needs
+desk_kept d (ask.Merge n m) at r w h = merge_kept d r w n m
+desk_kept d (ask.Close n) at r w h = close_kept d r w n
+desk_kept d ask.Vehicles at r w h = w
+desk_kept d (ask.StandDown c) at r w h = stand_down_kept d r w c at
+desk_kept d (ask.Standby c p) at r w h = standby_kept d r w c p at
+desk_kept d (ask.Duty c place until) at r w h = duty_kept d r w c place until at
+desk_kept d (ask.Off c) at r w h = off_kept d r w c
+desk_kept d (ask.Lend c to until) at r w h = lend_kept d r w c to until at
+desk_kept d (ask.Withdraw c) at r w h = withdraw_kept d r w c
+desk_kept d (ask.Decline c) at r w h = decline_kept d r w c
+desk_kept d (ask.Accept c) at r w h = accept_kept d r w c at
+desk_kept d (ask.Recall c) at r w h = recall_kept d r w c
+desk_kept d (ask.GiveBack c) at r w h = give_back_kept d r w c
+desk_kept d ask.Queue at r w h = w
+desk_kept d (ask.Clear c n) at r w h = clear_kept d r w c n
+desk_kept d ask.Points at r w h = w
+desk_kept d (ask.SetPoint n place cover) at r w h = set_point_kept d r w n place cover h
+desk_kept d ask.Loans at r w h = w
+desk_kept d ask.Offers at r w h = w
+desk_kept d (ask.Times from to) at r w h = w
+desk_kept d ask.Order at r w h = w
+desk_kept d (ask.Report p) at r w h = w
+
+position_kept : (p : ℕ) (a : Ask) (at : ℕ) (r : Room) (w : IsWellFormed r) → Kept 0 r w (position_asks p a at r)
+position_kept p (ask.Call f) at r w = take_call_kept r w (new_call p f at)
+position_kept p a at r w = w
+
+show_order_kept : (v : Option Vehicle) (a : Option Assignment) (r : Room) (w : IsWellFormed r) → Kept 0 r w (order_of v a)
+show_order_kept None a r w = w
+show_order_kept (Some v) a r w = w
+
+crew_kept : (c : Callsign) (a : Ask) (at : ℕ) (r : Room) (w : IsWellFormed r) → IsNumbered a → Kept 0 r w (crew_asks c a at r)
+crew_kept c ask.Order at r w h = show_order_kept (vehicle_at c r) (assignment_at c r) r w
+crew_kept c (ask.Report p) at r w h = take_report_kept c r w p at h
+crew_kept c a at r w h = w
+
+who_kept : (who : Who) (a : Ask) (at : ℕ) (r : Room) (w : IsWellFormed r) → is_for who a r ≡ true → IsNumbered a → Kept 0 r w (who_asks who a at r)
+who_kept (Desk d) a at r w h n = desk_kept d a at r w (right_true (is_desks a) (has_division r.plan d) h)
+who_kept (Position p) a at r w h n = position_kept p a at r w
+who_kept (Crew c) a at r w h n = crew_kept c a at r w n
+
+pub event_kept : (e : Event) (r : Room) → IsWellFormed r → IsAddressed e r → IsNumbered e.ask → IsWellFormed (room_after e r)
+event_kept e r w h n = who_kept e.who e.ask e.at r w h n
+
+-- ---- an event takes no address away
+plan_one : (r : Room) (x : Change) → (apply_one r x).plan ≡ r.plan
+plan_one r (PutDivision x) = refl
+plan_one r (PutIncident x) = refl
+plan_one r (PutCall x) = refl
+plan_one r (PutVehicle x) = refl
+plan_one r (PutTurn x) = refl
+plan_one r (PutAssignment x) = refl
+plan_one r (PutPoint x) = refl
+plan_one r (PutLoan x) = refl
+plan_one r (PutOffer x) = refl
+plan_one r (PutReport x) = refl
+plan_one r (DropAssignment c) = refl
+plan_one r (DropLoan c) = refl
+plan_one r (DropOffer c) = refl
+plan_one r (Settle c d) = refl
+
+pub plan_stays : (r : Room) (xs : List Change) → (apply r xs).plan ≡ r.plan
+plan_stays r [] = refl
+plan_stays r (x ∷ xs) = plan_stays (apply_one r x) xs ∙ plan_one r x
+
+abbrev IsThere : Callsign → List Vehicle → Type 0
+IsThere c vs = is_some (row_at callsign_cmp vehicle_key vs c) ≡ true
+
+pub put_there : (c : Callsign) (vs : List Vehicle) (v : Vehicle) → IsThere c vs → IsThere c (put_row callsign_cmp vehicle_key vs v)
+put_there c vs v h = vehicles_put (λ k o. is_some (row_at callsign_cmp vehicle_key vs k) ≡ true → is_some o ≡ true) vs v (λ f. refl) (λ k apart f. f) c h
+
+settled_there : (c : Callsign) (o : Option Vehicle) (d : ℕ) (vs : List Vehicle) → IsThere c vs → IsThere c (settled o d vs)
+settled_there c None d vs h = h
+settled_there c (Some v) d vs h = put_there c vs (settle d v) h
+
+there_one : (c : Callsign) (r : Room) (x : Change) → IsThere c r.vehicles → IsThere c (apply_one r x).vehicles
+there_one c r (PutVehicle x) h = put_there c r.vehicles x h
+there_one c r (Settle k d) h = settled_there c (row_at callsign_cmp vehicle_key r.vehicles k) d r.vehicles h
+there_one c r (PutDivision x) h = h
+there_one c r (PutIncident x) h = h
+there_one c r (PutCall x) h = h
+there_one c r (PutTurn x) h = h
+there_one c r (PutAssignment x) h = h
+there_one c r (PutPoint x) h = h
+there_one c r (PutLoan x) h = h
+there_one c r (PutOffer x) h = h
+there_one c r (PutReport x) h = h
+there_one c r (DropAssignment k) h = h
+there_one c r (DropLoan k) h = h
+there_one c r (DropOffer k) h = h
+
+there_still : (c : Callsign) (r : Room) (xs : List Change) → IsThere c r.vehicles → IsThere c (apply r xs).vehicles
+there_still c r [] h = h
+there_still c r (x ∷ xs) h = there_still c (apply_one r x) xs (there_one c r x h)
+
+still_for : (who : Who) (a : Ask) (r : Room) (xs : List Change) → is_for who a r ≡ true → is_for who a (apply r xs) ≡ true
+unfolding vehicle_at
+still_for (Desk d) a r xs h = both_true (is_desks a) _ (left_true (is_desks a) _ h) (ap (λ p. has_division p d) (plan_stays r xs) ∙ right_true (is_desks a) _ h)
+still_for (Position p) a r xs h = h
+still_for (Crew c) a r xs h = both_true (is_crews a) _ (left_true (is_crews a) _ h) (there_still c r xs (right_true (is_crews a) _ h))
+
+pub addressed_still : (es : List Event) (r : Room) (xs : List Change) → AreAddressed es r → AreAddressed es (apply r xs)
+addressed_still [] r xs h = tt
+addressed_still (e ∷ es) r xs h = (still_for e.who e.ask r xs h.0, h.1, addressed_still es r xs h.2)
+
+pub addressed_run : (es : List Event) (r : Room) (e : Event) → IsAddressed e r → IsAddressed e (room_run es r)
+addressed_run [] r e h = h
+addressed_run (other ∷ es) r e h = addressed_run es (room_after other r) e (still_for e.who e.ask r (changes_of (decided other r)) h)
+
+pub run_kept : (es : List Event) (r : Room) → IsWellFormed r → AreAddressed es r → IsWellFormed (room_run es r)
+run_kept [] r w h = w
+run_kept (e ∷ es) r w h = run_kept es (room_after e r) (event_kept e r w h.0 h.1) (addressed_still es r (changes_of (decided e r)) h.2)

@@ -1,0 +1,56 @@
+-- What a decision is.
+use Rattle.std.specs.Prelude.{Bool, Err, List, None, Ok, Option, Result, Some, [], cond, not}
+use Rattle.room_types.specs.declared.answers.Answer.{Answer}
+use Rattle.room_types.specs.declared.changes.Change.{Change}
+use Rattle.room_types.specs.declared.refusals.Refusal.{Refusal}
+use Rattle.room_types.specs.declared.tables.Incident.{Incident}
+use Rattle.room_types.specs.declared.tables.Loan.{Loan}
+use Rattle.room_types.specs.declared.tables.Vehicle.{Vehicle}
+use Rattle.room_types.specs.Codes.{is_active}
+use Rattle.room_types.specs.declared.answers.Answer.TheVariants as answer
+use Rattle.room_types.specs.declared.refusals.Refusal.TheVariants as refusal
+
+-- the rows that change, and what is told
+pub record Decision : Type 0 where
+  pub changes : List Change
+  pub answer : Answer
+
+abbrev pub Decided : Type 0
+Decided = Result Decision Refusal
+
+abbrev pub tell : Answer → List Change → Decided
+tell a cs = Ok (record { changes = cs; answer = a })
+
+-- an answer that changes nothing
+abbrev pub show : Answer → Decided
+show a = tell a []
+
+abbrev pub done : List Change → Decided
+done cs = tell answer.Done cs
+
+-- a refusal, where its condition holds
+unfoldable pub refuse_if : Bool → Refusal → Decided → Decided
+refuse_if b e x = cond b (Err e) x
+
+-- why a vehicle that the desk does not hold is refused
+abbrev pub not_held : Option Loan → Refusal
+not_held None = refusal.NoSuchVehicle
+not_held (Some l) = refusal.VehicleLent
+
+-- what is decided of a vehicle that the desk holds
+abbrev pub where_held : Option Vehicle → Option Loan → (Vehicle → Decided) → Decided
+where_held None l f = Err (not_held l)
+where_held (Some v) l f = f v
+
+-- what is decided of an active incident
+abbrev pub where_active : Option Incident → (Incident → Decided) → Decided
+where_active None f = Err refusal.NoSuchIncident
+where_active (Some i) f = refuse_if (not (is_active i.state)) refusal.IncidentNotOpen (f i)
+
+abbrev pub changes_of : Decided → List Change
+changes_of (Ok x) = x.changes
+changes_of (Err e) = []
+
+abbrev pub answer_of : Decided → Result Answer Refusal
+answer_of (Ok x) = Ok x.answer
+answer_of (Err e) = Err e

@@ -1,0 +1,34 @@
+-- The rows that a request is decided on, and the room's.
+use Rattle.std.specs.Prelude.{List, Some, is_none, ℕ, ◌≡◌}
+use Rattle.room_place.specs.declared.plans.Area.{Area}
+use Rattle.room_types.specs.Keyed.{keep, row_at}
+use Rattle.room_types.specs.Keys.{assignment_key, callsign_cmp, loan_key, numbered_cmp, offer_key, report_key, turn_key, vehicle_key}
+use Rattle.room_types.specs.Texts.{Callsign}
+use Rattle.room_types.specs.declared.crews.CrewRows.{CrewRows}
+use Rattle.room_types.specs.declared.slices.DivisionRows.{DivisionRows}
+use Rattle.room_model.specs.Room.{Room}
+
+-- a division's rows as a room
+abbrev pub room_of : List Area → DivisionRows → Room
+room_of plan s = record {
+  plan = plan;
+  divisions = s.divisions;
+  incidents = s.incidents;
+  calls = s.calls;
+  vehicles = s.vehicles;
+  turns = s.turns;
+  assignments = s.assignments;
+  points = s.points;
+  loans = s.loans;
+  offers = s.offers;
+  reports = s.reports;
+}
+
+-- what the room has of vehicle c: the turn is that of its last order, where it is not ended, and the report that of number n
+pub record AreCrewRows (c : Callsign) (n : ℕ) (r : Room) (x : CrewRows) : Type 0 where
+  pub vehicle : row_at callsign_cmp vehicle_key r.vehicles c ≡ Some x.vehicle
+  pub assignment : row_at callsign_cmp assignment_key r.assignments c ≡ x.assignment
+  pub turn : keep (λ t. is_none t.ended) (row_at numbered_cmp turn_key r.turns (c, x.vehicle.last_order)) ≡ x.turn
+  pub loan : row_at callsign_cmp loan_key r.loans c ≡ x.loan
+  pub offer : row_at callsign_cmp offer_key r.offers c ≡ x.offer
+  pub report : row_at numbered_cmp report_key r.reports (c, n) ≡ x.report

@@ -1,0 +1,101 @@
+-- What the room decides, and the room after it.
+use Rattle.std.specs.Prelude.{Bool, Err, Result, false, is_some, true, ℕ, ◌&&◌, ◌≡◌}
+use Rattle.room_place.specs.Plans.{has_division}
+use Rattle.room_types.specs.declared.answers.Answer.{Answer}
+use Rattle.room_types.specs.declared.asks.Ask.{Ask}
+use Rattle.room_types.specs.declared.asks.Event.{Event}
+use Rattle.room_types.specs.declared.asks.Who.{Who}
+use Rattle.room_types.specs.declared.asks.Who.TheVariants.{Crew, Desk, Position}
+use Rattle.room_types.specs.declared.refusals.Refusal.{Refusal}
+use Rattle.room_types.specs.Texts.{Callsign}
+use Rattle.room_model.specs.Calls.{new_call, take_call}
+use Rattle.room_model.specs.DayTimes.{show_times}
+use Rattle.room_model.specs.Decisions.{Decided, answer_of, changes_of}
+use Rattle.room_model.specs.Incidents.{change_needs, close, merge, show_incidents}
+use Rattle.room_model.specs.Loans.{accept, decline, give_back, lend, recall, show_loans, show_offers, withdraw}
+use Rattle.room_model.specs.Points.{set_point, show_points}
+use Rattle.room_model.specs.Proposals.{propose}
+use Rattle.room_model.specs.Queries.{vehicle_at}
+use Rattle.room_model.specs.Queue.{clear, show_queue}
+use Rattle.room_model.specs.Reports.{show_order, take_report}
+use Rattle.room_model.specs.Room.{Room, apply}
+use Rattle.room_model.specs.Vehicles.{duty, mobilise, off, show_vehicles, stand_down, standby}
+use Rattle.room_types.specs.declared.asks.Ask.TheVariants as ask
+use Rattle.room_types.specs.declared.refusals.Refusal.TheVariants as refusal
+
+abbrev pub desk_asks : ℕ → Ask → ℕ → Room → Decided
+desk_asks d (ask.Call f) at r = Err refusal.WrongRole
+desk_asks d ask.Incidents at r = show_incidents d r
+desk_asks d (ask.Propose n) at r = propose d n at r
+desk_asks d (ask.Mobilise n c) at r = mobilise d n c at r
+desk_asks d (ask.Needs n needs) at r = change_needs d n needs r
+desk_asks d (ask.Merge n m) at r = merge d n m r
+desk_asks d (ask.Close n) at r = close d n r
+desk_asks d ask.Vehicles at r = show_vehicles d r
+desk_asks d (ask.StandDown c) at r = stand_down d c at r
+desk_asks d (ask.Standby c p) at r = standby d c p at r
+desk_asks d (ask.Duty c place until) at r = duty d c place until at r
+desk_asks d (ask.Off c) at r = off d c r
+desk_asks d (ask.Lend c to until) at r = lend d c to until at r
+desk_asks d (ask.Withdraw c) at r = withdraw d c r
+desk_asks d (ask.Decline c) at r = decline d c r
+desk_asks d (ask.Accept c) at r = accept d c at r
+desk_asks d (ask.Recall c) at r = recall d c r
+desk_asks d (ask.GiveBack c) at r = give_back d c r
+desk_asks d ask.Queue at r = show_queue d at r
+desk_asks d (ask.Clear c n) at r = clear d c n r
+desk_asks d ask.Points at r = show_points d at r
+desk_asks d (ask.SetPoint n place cover) at r = set_point d n place cover
+desk_asks d ask.Loans at r = show_loans d r
+desk_asks d ask.Offers at r = show_offers d r
+desk_asks d (ask.Times from to) at r = show_times d from to r
+desk_asks d ask.Order at r = Err refusal.WrongRole
+desk_asks d (ask.Report p) at r = Err refusal.WrongRole
+
+abbrev pub position_asks : ℕ → Ask → ℕ → Room → Decided
+position_asks p (ask.Call f) at r = take_call (new_call p f at) r
+position_asks p a at r = Err refusal.WrongRole
+
+abbrev pub crew_asks : Callsign → Ask → ℕ → Room → Decided
+crew_asks c ask.Order at r = show_order c r
+crew_asks c (ask.Report p) at r = take_report c p at r
+crew_asks c a at r = Err refusal.WrongRole
+
+abbrev pub who_asks : Who → Ask → ℕ → Room → Decided
+who_asks (Desk d) a at r = desk_asks d a at r
+who_asks (Position p) a at r = position_asks p a at r
+who_asks (Crew c) a at r = crew_asks c a at r
+
+abbrev pub decided : Event → Room → Decided
+decided e r = who_asks e.who e.ask e.at r
+
+abbrev pub room_after : Event → Room → Room
+room_after e r = apply r (changes_of (decided e r))
+
+abbrev pub answer_to : Event → Room → Result Answer Refusal
+answer_to e r = answer_of (decided e r)
+
+-- ---- addressed events
+abbrev pub is_desks : Ask → Bool
+is_desks (ask.Call f) = false
+is_desks ask.Order = false
+is_desks (ask.Report p) = false
+is_desks a = true
+
+abbrev pub is_crews : Ask → Bool
+is_crews ask.Order = true
+is_crews (ask.Report p) = true
+is_crews a = false
+
+abbrev pub is_positions : Ask → Bool
+is_positions (ask.Call f) = true
+is_positions a = false
+
+abbrev pub is_for : Who → Ask → Room → Bool
+is_for (Desk d) a r = is_desks a && has_division r.plan d
+is_for (Crew c) a r = is_crews a && is_some (vehicle_at c r)
+is_for (Position p) a r = is_positions a
+
+-- the ask is of the role of who asks, who is known
+abbrev pub IsAddressed : Event → Room → Type 0
+IsAddressed e r = is_for e.who e.ask r ≡ true

@@ -1,0 +1,41 @@
+-- What a slice's rows agree in, for one that decides on them.
+use Rattle.std.proofs.Common.{false, ◌≡◌, ℕ, ◌≤◌, Bool, true, cond, List, Option, Some, None, refl, sym, ap, ◌∙◌, subst, arith}
+use Rattle.std.proofs.lemmas.Bool.{eqb-true, le-leb, leb-true}
+use Rattle.std.specs.Prelude.{IfSome, IsSome, is_none, nat_le}
+use Rattle.room_types.specs.Keyed.{keep}
+use Rattle.room_types.specs.Keys.{assignment_key, callsign_cmp, numbered_cmp, owns_assignment, owns_vehicle, turn_key, vehicle_key}
+use Rattle.room_types.specs.Orders.{callsigns_total, exact_callsigns, exact_numbered, numbered_total}
+use Rattle.room_types.specs.Texts.{Callsign}
+use Rattle.room_types.specs.Sent.{SentAgrees}
+use Rattle.room_types.specs.Codes.{is_busy}
+use Rattle.room_types.specs.Slices.{IsActive, IsInTurn, IsShare, assignment_at, incident_at, is_share, open_turn, turn_at, vehicle_at}
+use Rattle.room_types.specs.declared.slices.DivisionRows.{DivisionRows}
+use Rattle.room_types.specs.declared.tables.Assignment.{Assignment}
+use Rattle.room_types.specs.declared.tables.Turn.{Turn}
+use Rattle.room_types.specs.declared.tables.Vehicle.{Vehicle}
+use Rattle.room_types.proofs.EachRow.{row_key}
+use Rattle.room_types.proofs.SentLaws as sent
+use Rattle.room_types.proofs.ShareLaws.{share_agrees}
+
+module _ (d : ℕ) (s : DivisionRows) (agrees : is_share d s ≡ true) where
+  share : IsShare d s
+  share = share_agrees d s agrees
+
+  pub vehicle_named : (c : Callsign) (v : Vehicle) → vehicle_at c s ≡ Some v → v.callsign ≡ c
+  vehicle_named c v e = subst (λ o. IfSome o (λ x. x.callsign ≡ c)) e (row_key callsign_cmp vehicle_key callsigns_total exact_callsigns s.vehicles c)
+
+  -- ---- a vehicle that is there
+  pub vehicle_sent : (c : Callsign) (v : Vehicle) → vehicle_at c s ≡ Some v → SentAgrees v (assignment_at c s) (open_turn v s)
+  vehicle_sent c v e = subst (λ o. IfSome o (λ v. SentAgrees v (assignment_at c s) (open_turn v s))) e (share.vehicles c)
+
+  pub idle_unassigned : (c : Callsign) (v : Vehicle) → vehicle_at c s ≡ Some v → is_busy v.status ≡ false → assignment_at c s ≡ None
+  idle_unassigned c v e idle = sent.idle_unassigned v _ _ (vehicle_sent c v e) idle
+
+  pub idle_unordered : (c : Callsign) (v : Vehicle) → vehicle_at c s ≡ Some v → is_busy v.status ≡ false → open_turn v s ≡ None
+  idle_unordered c v e idle = sent.idle_unordered v _ _ (vehicle_sent c v e) idle
+
+  pub busy_assigned : (c : Callsign) (v : Vehicle) → vehicle_at c s ≡ Some v → is_busy v.status ≡ true → IsSome (assignment_at c s)
+  busy_assigned c v e busy = sent.busy_assigned v _ _ (vehicle_sent c v e) busy
+
+  pub busy_ordered : (c : Callsign) (v : Vehicle) → vehicle_at c s ≡ Some v → is_busy v.status ≡ true → IsSome (open_turn v s)
+  busy_ordered c v e busy = sent.busy_ordered v _ _ (vehicle_sent c v e) busy

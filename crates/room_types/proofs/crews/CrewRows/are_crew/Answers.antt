@@ -1,0 +1,17 @@
+use Rattle.std.proofs.Common.{◌≡◌, rules}
+use Rattle.std.proofs.lemmas.Bool.Decides.{Decides-at}
+use Rattle.room_types.specs.Crews.{is_crew}
+use Rattle.room_types.proofs.CrewLaws.{crew_decides}
+use Rattle.room_types.proofs.crews.CrewRows.are_crew.Goals as goal
+
+pub returns-then-is_reported-clause-crew : goal.returns-then-is_reported-clause-crew
+unfolding is_crew
+returns-then-is_reported-clause-crew c =
+    let test : c.sent_agrees.result ≡ is_crew c.args.self.now = search rules in
+    Decides-at _ _ test (crew_decides c.args.self.now)
+
+pub returns-else-is_reported-clause-crew : goal.returns-else-is_reported-clause-crew
+unfolding is_crew
+returns-else-is_reported-clause-crew c =
+    let test : c.if-are_lent_rows.value ≡ is_crew c.args.self.now = search rules in
+    Decides-at _ _ test (crew_decides c.args.self.now)

@@ -1,0 +1,10 @@
+pub mod Codes
+pub mod Crews
+pub mod Keyed
+pub mod Keys
+pub mod Needs
+pub mod Orders
+pub mod Refusals
+pub mod Sent
+pub mod Slices
+pub mod Texts

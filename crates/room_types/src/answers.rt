@@ -1,0 +1,180 @@
+//! What is answered to a request, and the lines of the longer answers.
+ghost use Rattle.std.specs.Prelude.{◌≡◌, List, [], ◌∷◌, ◌++◌, length, IsTrue, ◌↔◌, OnOk, OnErr};
+ghost use Rattle.std.specs.Iterator.Adapters.{IterYieldsInOrder};
+ghost use Rattle.std.specs.Slice.Iter.{iter_rest};
+
+use crate::callsign::Callsign;
+use crate::codes::{Kind, Outcome, Status};
+use crate::needs::{Counts, Needs};
+use crate::numbers::{Class, Cover, Moment, Number, PointNumber};
+use crate::tables::{Assignment, Loan, Offer};
+use room_place::places::Place;
+use room_place::plans::DivisionNumber;
+use std::alloc::{AllocError, Global};
+use std::marker::Model;
+use std::slice::Iter;
+
+/// The lines of an answer, seen as a list.
+#[derive(Drop)]
+pub struct Listed<L: Copy> {
+    lines: Vec<L>,
+}
+
+impl<L: Copy> Model for Listed<L> {
+    ghost Value = { List L };
+
+    ghost view = { λ a. a.lines.items };
+}
+
+impl<L: Copy> Listed<L> {
+    /// No lines yet. It takes no memory before the first push.
+    pub fn new(alloc: Global) -> Self
+        ensures { result ≡ [] }
+    {
+        Listed {
+            lines: Vec::new(alloc),
+        }
+    }
+
+    /// The lines, in their order.
+    pub fn as_slice(&self) -> &[L]
+        ensures { result.now ≡ self.now }
+    {
+        self.lines.as_slice()
+    }
+
+    /// The lines one after another.
+    pub fn iter(&self) -> Iter<'_, L>
+        ensures rest { iter_rest result ≡ self.now }
+        ensures runs { IterYieldsInOrder L }
+    {
+        self.lines.iter()
+    }
+
+    /// How many lines there are.
+    pub fn len(&self) -> usize
+        ensures { result ≡ length self.now }
+    {
+        self.lines.len()
+    }
+
+    /// Whether there is no line.
+    pub fn is_empty(&self) -> bool
+        ensures { IsTrue result ↔ (self.now ≡ []) }
+    {
+        self.lines.is_empty()
+    }
+
+    /// Adds a line at the end. An error changes nothing.
+    pub fn push(&mut self, line: L) -> Result<(), AllocError>
+        ensures ok { OnOk result (self.new ≡ self.old ++ line ∷ []) }
+        ensures err { OnErr result (self.new ≡ self.old) }
+    {
+        self.lines.push(line)?;
+        Ok(())
+    }
+}
+
+/// An active incident, with its number of calls and what it lacks.
+#[derive(Clone, Copy, Debug)]
+pub struct IncidentLine {
+    pub number: Number,
+    pub place: Place,
+    pub class: Class,
+    pub needs: Needs,
+    pub lack: Counts,
+    pub opened: Moment,
+    /// How many calls belong to it.
+    pub calls: u64,
+}
+
+/// A vehicle that may be sent to an incident.
+#[derive(Clone, Copy, Debug)]
+pub struct Proposal {
+    /// Whether sending it leaves a standby point with fewer vehicles than it wants.
+    pub breaks: bool,
+    /// From the incident, in whole metres.
+    pub distance: u32,
+    pub kind: Kind,
+    pub callsign: Callsign,
+}
+
+/// A vehicle that the division holds, with the incident that it is assigned to.
+#[derive(Clone, Copy, Debug)]
+pub struct VehicleLine {
+    pub callsign: Callsign,
+    pub home: DivisionNumber,
+    pub incident: Option<Number>,
+    pub kind: Kind,
+    pub place: Place,
+    pub post: Option<PointNumber>,
+    pub shift_end: Moment,
+    pub status: Status,
+}
+
+/// A standby point, with the number of vehicles that hold it at the moment.
+#[derive(Clone, Copy, Debug)]
+pub struct PointLine {
+    pub number: PointNumber,
+    pub place: Place,
+    pub cover: Cover,
+    pub held: u32,
+}
+
+/// Something that needs an eye. Entries stand in the order of their fields, none before any callsign.
+#[derive(Clone, Copy, Debug, PartialEq, Eq, PartialOrd, Ord)]
+pub struct Entry {
+    /// 1 to 8, by what it is about.
+    pub rank: u8,
+    /// The moment that it counts from.
+    pub since: Moment,
+    /// Of an incident, a report, a point or the other division, by rank; 0 for a shift that is over.
+    pub number: u32,
+    /// The vehicle that it is about, if any.
+    pub callsign: Option<Callsign>,
+}
+
+/// An incident of a day, with the seconds from its opening to its first order, if it had one.
+#[derive(Clone, Copy, Debug)]
+pub struct TimesLine {
+    pub number: Number,
+    pub opened: Moment,
+    pub activation: Option<u32>,
+}
+
+/// The incidents of a day, merged ones left out.
+#[derive(Drop)]
+pub struct Times {
+    /// Seconds since 1970 in UTC: the first of the day.
+    pub from: i64,
+    /// The first second of the next day.
+    pub to: i64,
+    /// How many have had an order.
+    pub activated: u32,
+    /// How many had one within 180 seconds.
+    pub within: u32,
+    pub lines: Listed<TimesLine>,
+}
+
+/// One variant for each form of answer.
+#[derive(Drop)]
+pub enum Answer {
+    /// Division, incident, and whether the call was linked.
+    Called(DivisionNumber, Number, bool),
+    Incidents(Listed<IncidentLine>),
+    Proposals(Listed<Proposal>),
+    /// The order's number and the vehicle.
+    Mobilised(Number, Callsign),
+    /// The request was carried out, and there is nothing to tell.
+    Done,
+    Vehicles(Listed<VehicleLine>),
+    Queue(Listed<Entry>),
+    Points(Listed<PointLine>),
+    Loans(Listed<Loan>),
+    Offers(Listed<Offer>),
+    Times(Times),
+    /// What the vehicle was told, its post and its status.
+    Order(Option<Assignment>, Option<PointNumber>, Status),
+    /// The report's number, what became of it, and the status after it.
+    Reported(Number, Outcome, Status),
+}

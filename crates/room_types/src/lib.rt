@@ -1,0 +1,21 @@
+//! The rows of the dispatch room, what is asked and answered, and why a request is refused.
+#![tactic(auto)]
+
+pub mod answers;
+pub mod asks;
+pub mod callsign;
+pub mod changes;
+pub mod codes;
+pub mod crews;
+pub mod fleet;
+pub mod keyed;
+pub mod needs;
+pub mod note;
+pub mod numbers;
+pub mod refusals;
+pub mod rows;
+pub mod sent;
+pub mod slices;
+pub mod tables;
+pub mod text;
+pub mod token;

@@ -1,0 +1,169 @@
+//! Rows by key: what a row is, and a table of rows in key order.
+ghost use Rattle.std.specs.Prelude.{◌≡◌, ℕ, Bool, false, List, [], length, IsTrue, ◌↔◌, IfOk, IfErr, OnOk, OnErr, filter, option_copied, None, if◌then◌else◌};
+ghost use Rattle.std.specs.Iterator.Adapters.{IterYieldsInOrder};
+ghost use Rattle.std.specs.Slice.Iter.{iter_rest};
+ghost use Rattle.std.specs.declared.cmp.Ordering.TheVariants.{Equal};
+ghost use Rattle.room_types.specs.Keyed.{IsKeyed, row_at, put_row, drop_row, keep, IsAt, IsGapFor};
+ghost use Rattle.room_types.specs.declared.refusals.Refusal.TheVariants.{Memory};
+
+use crate::refusals::Refusal;
+use room_place::plans::DivisionNumber;
+use std::alloc::Global;
+use std::marker::Model;
+use std::slice::Iter;
+
+/// A row of a table. It has a key, of which a table holds one row at most, and divisions that own
+/// it: the desks of these divisions alone see and change it.
+///
+/// The law of the keys: two that compare alike are one and the same.
+pub trait Row: Copy {
+    type Key: Ord + Copy;
+
+    ghost key_of: { Self → Self.Key };
+
+    ghost owned: { ℕ → Self → Bool };
+
+    /// The key of the row.
+    fn key(&self) -> Self::Key
+        ensures { result ≡ key_of self.now };
+
+    /// Whether the division owns the row.
+    fn owned_by(&self, division: DivisionNumber) -> bool
+        ensures { result ≡ owned division self.now };
+
+    ghost exact: { (a b : Self.Key) → Self.Key.cmp a b ≡ Equal → a ≡ b };
+}
+
+/// Rows in key order, no two of one key. A contract sees the list of the rows.
+#[derive(Drop)]
+pub struct Rows<R: Row> {
+    rows: Vec<R>,
+}
+
+impl<R: Row> Model for Rows<R> {
+    ghost Value = { List R };
+
+    ghost view = { λ a. a.rows.items };
+
+    ghost invariant = { λ a. IsKeyed R.Key.cmp R.key_of a.rows.items };
+}
+
+impl<R: Row> Rows<R> {
+    /// No rows yet. It takes no memory before the first put.
+    pub fn new(alloc: Global) -> Self
+        ensures { result ≡ [] }
+    {
+        Rows {
+            rows: Vec::new(alloc),
+        }
+    }
+
+    /// The rows, in key order.
+    pub fn as_slice(&self) -> &[R]
+        ensures all { result.now ≡ self.now }
+        ensures keyed { IsKeyed R.Key.cmp R.key_of self.now }
+    {
+        self.rows.as_slice()
+    }
+
+    /// The rows one after another, in key order.
+    pub fn iter(&self) -> Iter<'_, R>
+        ensures rest { iter_rest result ≡ self.now }
+        ensures runs { IterYieldsInOrder R }
+    {
+        self.rows.iter()
+    }
+
+    /// How many rows there are.
+    pub fn len(&self) -> usize
+        ensures { result ≡ length self.now }
+    {
+        self.rows.len()
+    }
+
+    /// Whether there is no row.
+    pub fn is_empty(&self) -> bool
+        ensures { IsTrue result ↔ (self.now ≡ []) }
+    {
+        self.rows.is_empty()
+    }
+
+    /// The row of a key; none where no row has it.
+    pub fn get(&self, key: &R::Key) -> Option<&R>
+        ensures { option_copied result ≡ row_at R.Key.cmp R.key_of self.now key.now }
+    {
+        match self.search(key) {
+            Ok(at) => Some(&self.rows[at]),
+            Err(_) => None,
+        }
+    }
+
+    /// Puts a row in its key's place, and answers the row of that key that was there before. Rows
+    /// that come in key order are put at the end, at no search. The one refusal is `Memory`; it
+    /// changes nothing.
+    pub fn put(&mut self, row: R) -> Result<Option<R>, Refusal>
+        ensures before { IfOk result (λ before. before ≡ row_at R.Key.cmp R.key_of self.old (R.key_of row)) }
+        ensures ok { OnOk result (self.new ≡ put_row R.Key.cmp R.key_of self.old row) }
+        ensures err { OnErr result (self.new ≡ self.old) }
+        ensures memory { IfErr result (λ refusal. refusal ≡ Memory) }
+
+        // A division's rows change only where it owns the old row or the new one.
+        ensures local { (d : ℕ) → R.owned d row ≡ false → keep (R.owned d) (row_at R.Key.cmp R.key_of self.old (R.key_of row)) ≡ None → filter (R.owned d) self.new ≡ filter (R.owned d) self.old }
+        // They are the rows with this one, where it is the division's, and else without that of its key.
+        ensures own { OnOk result ((d : ℕ) → filter (R.owned d) self.new ≡ (if R.owned d row then put_row R.Key.cmp R.key_of (filter (R.owned d) self.old) row else drop_row R.Key.cmp R.key_of (filter (R.owned d) self.old) (R.key_of row))) }
+    {
+        match self.search(&row.key()) {
+            Ok(at) => {
+                let before = self.rows[at];
+                self.rows[at] = row;
+                Ok(Some(before))
+            }
+            Err(at) => {
+                self.rows.insert(at, row)?;
+                Ok(None)
+            }
+        }
+    }
+
+    /// Takes the row of a key out, and answers it; none where no row has that key.
+    pub fn take(&mut self, key: &R::Key) -> Option<R>
+        ensures before { result ≡ row_at R.Key.cmp R.key_of self.old key.now }
+        ensures removed { self.new ≡ drop_row R.Key.cmp R.key_of self.old key.now }
+    {
+        match self.search(key) {
+            Ok(at) => Some(self.rows.remove(at)),
+            Err(_) => None,
+        }
+    }
+
+    /// The rows that the division owns. The one refusal is `Memory`.
+    pub fn owned_by(&self, alloc: Global, division: DivisionNumber) -> Result<Rows<R>, Refusal>
+        ensures ok { IfOk result (λ own. own ≡ filter (R.owned division) self.now) }
+        ensures memory { IfErr result (λ refusal. refusal ≡ Memory) }
+    {
+        let mut rows = Vec::new(alloc);
+        for row in &self.rows {
+            if row.owned_by(division) {
+                rows.push(*row)?;
+            }
+        }
+        Ok(Rows { rows })
+    }
+
+    // Where the key is, or where it would go. The end is looked at first, since rows mostly come
+    // in key order.
+    fn search(&self, key: &R::Key) -> Result<usize, usize>
+        ensures found { IfOk result (IsAt R.Key.cmp R.key_of self.now key.now) }
+        ensures absent { IfErr result (IsGapFor R.Key.cmp R.key_of self.now key.now) }
+    {
+        if let Some(last) = self.rows.last()
+            && last.key().cmp(key).is_lt()
+        {
+            return Err(self.len());
+        }
+        self.rows.binary_search_by_key(key, |row| row.key())
+    }
+}
+
+#[cfg(test)]
+mod tests;

@@ -1,0 +1,29 @@
+//! What a vehicle's status, its assignment and its open turn agree in.
+ghost use Rattle.std.specs.Prelude.{◌≡◌, option_copied};
+ghost use Rattle.room_types.specs.Sent.{is_sent, sent_agrees};
+
+use crate::tables::{Assignment, Turn, Vehicle};
+
+fn is_sent(vehicle: &Vehicle, assignment: &Assignment, turn: &Turn) -> bool
+    ensures { result ≡ is_sent vehicle.now assignment.now turn.now }
+{
+    let last_order = vehicle.last_order.get();
+    vehicle.status.is_busy()
+        && assignment.division == vehicle.holder
+        && turn.division == vehicle.holder
+        && turn.incident == assignment.incident
+        && assignment.order.get() == last_order
+        && turn.order.get() == last_order
+}
+
+/// Whether there are an assignment and an open turn exactly where the vehicle is busy, both its
+/// holder's, for one incident, and of its last order.
+pub fn sent_agrees(vehicle: &Vehicle, assignment: Option<&Assignment>, turn: Option<&Turn>) -> bool
+    ensures { result ≡ sent_agrees vehicle.now (option_copied assignment.entry) (option_copied turn.entry) }
+{
+    match (assignment, turn) {
+        (None, None) => !vehicle.status.is_busy(),
+        (Some(assignment), Some(turn)) => is_sent(vehicle, assignment, turn),
+        _ => false,
+    }
+}

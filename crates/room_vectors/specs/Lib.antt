@@ -1,0 +1,15 @@
+pub mod Computing
+pub mod Telling
+pub mod ExampleRoom
+pub mod Places
+pub mod Calls
+pub mod Incidents
+pub mod Vehicles
+pub mod LoansAndOffers
+pub mod Reports
+pub mod Proposals
+pub mod Queue
+pub mod Times
+pub mod Rows
+pub mod Steps
+pub mod SampledRooms
