@@ -24,7 +24,8 @@ use Rattle.room_model.proofs.VehicleAgreements.{AreRecorded, agreed, opened_alik
 use Rattle.room_model.proofs.VehicleRows.{bare}
 use Rattle.room_types.specs.Codes.{is_active, is_merged}
 use Rattle.room_model.specs.Room.{IsInOrder, Room}
-use Rattle.room_model.specs.WellFormed.{CallAgrees, IsActive, IsOfIncident, IsPost, IsWellFormed, NumberAgrees, OpenedAgrees, PostAgrees, TurnIsActive}
+use Rattle.room_types.specs.Slices.{IsActive}
+use Rattle.room_model.specs.WellFormed.{CallAgrees, IsOfIncident, IsPost, IsWellFormed, NumberAgrees, OpenedAgrees, PostAgrees, TurnIsActive}
 
 -- what is found at each key, after a row was put
 pub put_rows : {R K : Type 0} (cmp : K → K → Ordering) (key : R → K) (total : IsTotalOrder cmp) (exact : CmpEqualImpliesEq cmp) (P : K → Option R → Type 0) (xs : List R) (x : R) → P (key x) (Some x) → ((k : K) → is_eq (cmp k (key x)) ≡ false → P k (row_at cmp key xs k)) → (k : K) → P k (row_at cmp key (put_row cmp key xs x) k)

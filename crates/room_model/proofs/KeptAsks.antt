@@ -28,7 +28,8 @@ use Rattle.room_model.specs.Moments.{first_of}
 use Rattle.room_model.specs.Queries.{held, incident_of, lent, open_turn, point_of, served}
 use Rattle.room_model.specs.Room.{Room, apply}
 use Rattle.room_model.specs.Vehicles.{assignment_row, duty, mobilise, mobilise_held, mobilised, off, off_duty, on_duty, posted, stand_down, stand_down_held, standby, standby_at, stands_by, turn_row, turn_stood_down}
-use Rattle.room_model.specs.WellFormed.{IsActive, IsPost, IsWellFormed, ReportAgrees}
+use Rattle.room_types.specs.Slices.{IsActive}
+use Rattle.room_model.specs.WellFormed.{IsPost, IsWellFormed, ReportAgrees}
 
 -- a report that is cleared
 cleared_report : (o : Option Vehicle) (n : ℕ) (x y : Report) → ReportAgrees o n (Some x) → ReportAgrees o n (Some y)

@@ -92,7 +92,7 @@ ReadsOpen d reads t = t.division == d ≡ true → is_open t ≡ true → reads 
 module _ (d : ℕ) (r : Room) (formed : IsWellFormed r) (here : has_division r.plan d ≡ true)
     (reads_incident : Incident → Bool) (reads_call : Call → Bool) (reads_turn : Turn → Bool) (reads_report : Report → Bool)
     (own_incidents : Implies reads_incident (owns_incident d)) (own_calls : Implies reads_call (owns_call d)) (own_turns : Implies reads_turn (owns_turn d)) (own_reports : Implies reads_report (owns_report d))
-    (reads_active : (n : ℕ) → room.IsActive (row_at pair_cmp incident_key r.incidents (d, n)) → room.IsActive (row_at pair_cmp incident_key (filter reads_incident r.incidents) (d, n)))
+    (reads_active : (n : ℕ) → IsActive (row_at pair_cmp incident_key r.incidents (d, n)) → IsActive (row_at pair_cmp incident_key (filter reads_incident r.incidents) (d, n)))
     (reads_open : (c : Callsign) (n : ℕ) → IfSome (row_at numbered_cmp turn_key r.turns (c, n)) (ReadsOpen d reads_turn)) where
   -- the share, with those of its incidents, calls, turns and reports that are read
   abbrev read_rows : DivisionRows
@@ -159,12 +159,12 @@ module _ (d : ℕ) (r : Room) (formed : IsWellFormed r) (here : has_division r.p
   vehicles_agreed c = subst (λ o. IfSome o (VehicleAgrees read_rows c)) (sym (vehicle_row c)) (if_kept (owns_vehicle d) (VehicleAgrees read_rows c) (row_at callsign_cmp vehicle_key r.vehicles c) (vehicle_agreed c))
 
   assigned_active : (v : Vehicle) (a : Assignment) (t : Option Turn) → v.holder ≡ d → is_busy v.status ≡ true → a.order ≡ v.last_order → room.TurnAgrees (Some v) v.last_order t → room.SameIncident (Some a) t → IfSome t (λ x. x.order ≡ v.last_order) → room.TurnIsActive r t
-      → room.IsActive (row_at pair_cmp incident_key r.incidents (d, a.incident))
+      → IsActive (row_at pair_cmp incident_key r.incidents (d, a.incident))
   assigned_active v a None held busy last ordered same numbered active = let idle = ordered refl in cc
   assigned_active v a (Some t) held busy last ordered same numbered active =
       let found = open_busy v v.last_order t t.ended ordered.2 refl busy in
-      subst (λ n. room.IsActive (row_at pair_cmp incident_key r.incidents (n, a.incident))) (found.1 ∙ held)
-      (subst (λ n. room.IsActive (row_at pair_cmp incident_key r.incidents (t.division, n))) (same (numbered ∙ sym last)) (active found.0))
+      subst (λ n. IsActive (row_at pair_cmp incident_key r.incidents (n, a.incident))) (found.1 ∙ held)
+      (subst (λ n. IsActive (row_at pair_cmp incident_key r.incidents (t.division, n))) (same (numbered ∙ sym last)) (active found.0))
 
   assignment_agreed : (c : Callsign) (a : Assignment) → row_at callsign_cmp assignment_key r.assignments c ≡ Some a → a.division == d ≡ true → AssignmentAgrees read_rows c a
   assignment_agreed c a e owned = (elim (row_at callsign_cmp vehicle_key r.vehicles c) as (λ o. row_at callsign_cmp vehicle_key r.vehicles c ≡ o → room.AssignmentAgrees o (Some a) → AssignmentAgrees read_rows c a) [
@@ -224,8 +224,8 @@ module _ (d : ℕ) (r : Room) (formed : IsWellFormed r) (here : has_division r.p
 abbrev rows_of : Room → DivisionRows
 rows_of r = record { divisions = r.divisions; incidents = r.incidents; calls = r.calls; vehicles = r.vehicles; turns = r.turns; assignments = r.assignments; points = r.points; loans = r.loans; offers = r.offers; reports = r.reports }
 
-own_active : (d : ℕ) (r : Room) → IsInOrder r → (n : ℕ) → room.IsActive (row_at pair_cmp incident_key r.incidents (d, n)) → room.IsActive (row_at pair_cmp incident_key (filter (owns_incident d) r.incidents) (d, n))
-own_active d r in_order n h = subst room.IsActive (sym (
+own_active : (d : ℕ) (r : Room) → IsInOrder r → (n : ℕ) → IsActive (row_at pair_cmp incident_key r.incidents (d, n)) → IsActive (row_at pair_cmp incident_key (filter (owns_incident d) r.incidents) (d, n))
+own_active d r in_order n h = subst IsActive (sym (
     row_filter pair_cmp incident_key pairs_total (owns_incident d) r.incidents (d, n) in_order.incidents
     ∙ keep_row pair_cmp incident_key (owns_incident d) r.incidents (d, n) (λ x e. eq-eqb x.division d (sym (ap (λ (k : ℕ × ℕ). k.0) (exact_pair (d, n) (incident_key x) (is_equal _ e))))))) h
 
@@ -233,14 +233,14 @@ pub share_is_slice : (d : ℕ) (r : Room) (s : DivisionRows) → IsWellFormed r 
 share_is_slice d r s formed here e = subst (IsShare d) (sym (ap rows_of e))
     (read_share d r formed here (owns_incident d) (owns_call d) (owns_turn d) (owns_report d) (λ x h. h) (λ x h. h) (λ x h. h) (λ x h. h) (own_active d r formed.order) (λ c n. if_from (ReadsOpen d (owns_turn d)) (row_at numbered_cmp turn_key r.turns (c, n)) (λ t f owned h. owned)))
 
-working_active : (d : ℕ) (a : Ask) (r : Room) → IsWellFormed r → (n : ℕ) → room.IsActive (row_at pair_cmp incident_key r.incidents (d, n)) → room.IsActive (row_at pair_cmp incident_key (working d a r).incidents (d, n))
+working_active : (d : ℕ) (a : Ask) (r : Room) → IsWellFormed r → (n : ℕ) → IsActive (row_at pair_cmp incident_key r.incidents (d, n)) → IsActive (row_at pair_cmp incident_key (working d a r).incidents (d, n))
 unfolding incident_of
-working_active d a r formed n h = subst room.IsActive (sym (incident_active d a r formed.order formed.active n h)) h
+working_active d a r formed n h = subst IsActive (sym (incident_active d a r formed.order formed.active n h)) h
 
 working_open : (d : ℕ) (a : Ask) (r : Room) → IsWellFormed r → (c : Callsign) (n : ℕ) → IfSome (row_at numbered_cmp turn_key r.turns (c, n)) (ReadsOpen d (λ t. t.division == d && reads_number d a r t.incident))
 unfolding incident_of
 working_open d a r formed c n = if_from (ReadsOpen d (λ t. t.division == d && reads_number d a r t.incident)) (row_at numbered_cmp turn_key r.turns (c, n)) (λ t e owned h. both_true _ _ owned (active_number d a r formed.order formed.active t.incident
-    (subst (λ m. room.IsActive (row_at pair_cmp incident_key r.incidents (m, t.incident))) (eqb-true t.division d owned)
+    (subst (λ m. IsActive (row_at pair_cmp incident_key r.incidents (m, t.incident))) (eqb-true t.division d owned)
     (subst (room.TurnIsActive r) e (formed.active c n) (none_of t.ended h)))))
 
 pub working_is_slice : (d : ℕ) (a : Ask) (r : Room) (s : DivisionRows) → IsWellFormed r → has_division r.plan d ≡ true → room_of r.plan s ≡ working d a r → IsShare d s

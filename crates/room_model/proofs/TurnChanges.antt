@@ -17,7 +17,8 @@ use Rattle.room_model.proofs.VehicleRows.{VehicleRows, put_at}
 use Rattle.room_types.specs.Codes.{is_busy, is_mobilised, is_offered}
 use Rattle.room_model.specs.Room.{Room}
 use Rattle.room_model.specs.Vehicles.{mobilised}
-use Rattle.room_model.specs.WellFormed.{IsActive, OpenAgrees, ReportAgrees, SameIncident, TurnAgrees, TurnIsActive}
+use Rattle.room_types.specs.Slices.{IsActive}
+use Rattle.room_model.specs.WellFormed.{OpenAgrees, ReportAgrees, SameIncident, TurnAgrees, TurnIsActive}
 
 -- the open turn, as the turns of one vehicle have it
 abbrev pub IsOpenTurn : ℕ → (ℕ → Option Turn) → Option Turn → Type 0

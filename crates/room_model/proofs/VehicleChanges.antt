@@ -21,7 +21,8 @@ use Rattle.room_model.proofs.VehicleRows.{VehicleRows, put_at, settle}
 use Rattle.room_types.specs.Codes.{is_busy, is_free, is_mobilised, is_off, is_offered}
 use Rattle.room_model.specs.Loans.{offered}
 use Rattle.room_model.specs.Room.{Room}
-use Rattle.room_model.specs.WellFormed.{IsActive, IsPost, LoanAgrees, OfferAgrees, OpenAgrees, ReportAgrees, SameIncident, TurnAgrees, TurnIsActive}
+use Rattle.room_types.specs.Slices.{IsActive}
+use Rattle.room_model.specs.WellFormed.{IsPost, LoanAgrees, OfferAgrees, OpenAgrees, ReportAgrees, SameIncident, TurnAgrees, TurnIsActive}
 
 -- statuses by their tests
 pub is_true : (b : Bool) → not b ≡ false → b ≡ true

@@ -24,7 +24,8 @@ use Rattle.room_model.specs.Moments.{age}
 use Rattle.room_model.specs.Queries.{active_incidents, calls_of, incident_of, is_attended, open_turn, report_of, served}
 use Rattle.room_model.specs.Queue.{entries, exception, overdue, shift_over, slow, slow_incident, slow_turn, unanswered, uncovered, unread, unread_turn, unserved}
 use Rattle.room_model.specs.Room.{IsInOrder, Room}
-use Rattle.room_model.specs.WellFormed.{IsActive, TurnIsActive}
+use Rattle.room_types.specs.Slices.{IsActive}
+use Rattle.room_model.specs.WellFormed.{TurnIsActive}
 use Rattle.room_model.specs.Working.{names_incident, names_moment, names_report, reads_incident, reads_number, reads_report, working}
 
 module _ (d : ℕ) (a : Ask) (r : Room) (in_order : IsInOrder r) (active : (c : Callsign) (n : ℕ) → TurnIsActive r (row_at numbered_cmp turn_key r.turns (c, n))) where

@@ -5,6 +5,7 @@ use Rattle.room_place.specs.Plans.{has_division}
 use Rattle.room_place.specs.declared.plans.Area.{Area}
 use Rattle.room_types.specs.Keyed.{row_at}
 use Rattle.room_types.specs.Keys.{assignment_key, call_key, callsign_cmp, division_key, incident_key, loan_key, numbered_cmp, offer_key, pair_cmp, point_key, report_key, turn_key, vehicle_key}
+use Rattle.room_types.specs.Slices.{IsActive}
 use Rattle.room_types.specs.declared.tables.Assignment.{Assignment}
 use Rattle.room_types.specs.declared.tables.Call.{Call}
 use Rattle.room_types.specs.declared.tables.Division.{Division}
@@ -55,11 +56,6 @@ abbrev pub SameIncident : Option Assignment → Option Turn → Type 0
 SameIncident None t = Unit {0}
 SameIncident (Some a) None = Unit {0}
 SameIncident (Some a) (Some t) = t.order ≡ a.order → t.incident ≡ a.incident
-
--- an open turn's incident is active
-abbrev pub IsActive : Option Incident → Type 0
-IsActive None = ⊥
-IsActive (Some i) = is_active i.state ≡ true
 
 abbrev pub TurnIsActive : Room → Option Turn → Type 0
 TurnIsActive r None = Unit {0}
