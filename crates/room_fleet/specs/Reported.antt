@@ -1,0 +1,91 @@
+-- A vehicle's rows after a report whose number is new.
+use Rattle.std.specs.Prelude.{Bool, List, None, Option, Some, [], cond, false, is_none, is_some, option_map, ℕ, ◌&&◌, ◌++◌, ◌∷◌, ◌≡◌}
+use Rattle.room_types.specs.declared.answers.Answer.{Answer}
+use Rattle.room_types.specs.declared.answers.Answer.TheVariants as answer
+use Rattle.room_types.specs.declared.asks.Press.{Press}
+use Rattle.room_types.specs.declared.changes.Change.{Change}
+use Rattle.room_types.specs.declared.changes.Change.TheVariants.{PutReport, PutTurn, PutVehicle}
+use Rattle.room_types.specs.declared.codes.Outcome.{Outcome}
+use Rattle.room_types.specs.declared.crews.CrewRows.{CrewRows}
+use Rattle.room_types.specs.declared.tables.Turn.{Turn}
+use Rattle.room_types.specs.Codes.{acts}
+use Rattle.room_model.specs.Queries.{borrowed, held, open_turn}
+use Rattle.room_model.specs.Reports.{back_changes, drop_changes, ends_turn, is_due, is_home, outcome_of, report_row, status_after, turn_after, vehicle_after, with_report}
+use Rattle.room_model.specs.Room.{Room}
+use Rattle.room_fleet.specs.declared.reports.Reported.{Reported}
+
+-- the vehicle goes home to its lender
+abbrev pub goes_back : CrewRows → Press → ℕ → Bool
+goes_back x p at = is_home p.button && is_due at x.loan
+
+-- a report that acts
+abbrev pub acted : CrewRows → Press → ℕ → Outcome → Reported
+acted x p at o = record {
+  vehicle = vehicle_after x.vehicle x.loan p (goes_back x p at);
+  assignment = cond (ends_turn p.button) None x.assignment;
+  turn = option_map (turn_after p.button at) x.turn;
+  loan = cond (goes_back x p at) None x.loan;
+  report = report_row x.vehicle p at o (status_after x.vehicle.status p.button);
+}
+
+-- one that does not: its row is kept, and the greatest number
+abbrev pub kept_alone : CrewRows → Press → ℕ → Outcome → Reported
+kept_alone x p at o = record { vehicle = with_report x.vehicle p; assignment = x.assignment; turn = x.turn; loan = x.loan; report = report_row x.vehicle p at o x.vehicle.status }
+
+-- a report acts by its outcome
+abbrev pub reported_as : CrewRows → Press → ℕ → Outcome → Reported
+reported_as x p at o = cond (acts o) (acted x p at o) (kept_alone x p at o)
+
+-- the rows after a report whose number is new
+abbrev pub reported : CrewRows → Press → ℕ → Reported
+reported x p at = reported_as x p at (outcome_of x.vehicle x.turn p)
+
+-- ---- in plain words
+-- late, stale or wrong
+abbrev pub IsKeptAlone : Reported → Type 0
+IsKeptAlone y = acts y.report.outcome ≡ false
+
+-- a moment that is set stays
+abbrev pub Stays : Option ℕ → Option ℕ → Type 0
+Stays None new = Unit {0}
+Stays (Some at) new = new ≡ Some at
+
+pub record KeepsMoments (old new : Turn) : Type 0 where
+  pub acknowledged : Stays old.acknowledged new.acknowledged
+  pub scene : Stays old.scene new.scene
+  pub left : Stays old.left new.left
+  pub hospital : Stays old.hospital new.hospital
+
+-- a turn keeps the moments that it has, and none comes where there was none
+abbrev pub TurnKeepsMoments : Option Turn → Option Turn → Type 0
+TurnKeepsMoments None new = new ≡ None
+TurnKeepsMoments (Some t) None = ⊥
+TurnKeepsMoments (Some t) (Some u) = KeepsMoments t u
+
+-- ---- what the room makes of it
+-- the room's holder of the vehicle has it, its open turn and its loan as these rows have them
+pub record AreHolders (r : Room) (x : CrewRows) : Type 0 where
+  pub vehicle : held x.vehicle.holder x.vehicle.callsign r ≡ Some x.vehicle
+  pub turn : open_turn x.vehicle.holder x.vehicle.callsign r ≡ x.turn
+  pub loan : borrowed x.vehicle.holder x.vehicle.callsign r ≡ x.loan
+
+-- the open turn's row is put, where there is one
+abbrev pub put_turn : Option Turn → List Change
+put_turn None = []
+put_turn (Some t) = PutTurn t ∷ []
+
+-- a loan was there, and is no more
+abbrev pub is_over : CrewRows → Reported → Bool
+is_over x y = is_some x.loan && is_none y.loan
+
+-- the rows that a report which acts changes, the vehicle's last
+abbrev pub changes_acted : CrewRows → Reported → List Change
+changes_acted x y = PutReport y.report ∷ put_turn y.turn ++ (drop_changes y.vehicle.callsign (ends_turn y.report.button) ++ (back_changes y.vehicle.callsign (is_over x y) ++ PutVehicle y.vehicle ∷ []))
+
+-- from these rows to the reported ones
+abbrev pub changes_of : CrewRows → Reported → List Change
+changes_of x y = cond (acts y.report.outcome) (changes_acted x y) (PutReport y.report ∷ PutVehicle y.vehicle ∷ [])
+
+-- what the crew is told
+abbrev pub answered : Reported → Answer
+answered y = answer.Reported y.report.number y.report.outcome y.report.status

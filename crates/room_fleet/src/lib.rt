@@ -1,0 +1,7 @@
+//! What a crew's reports and its shifts do to the rows of its vehicle.
+#![tactic(auto)]
+
+pub mod buttons;
+pub mod duty;
+pub mod laws;
+pub mod reports;

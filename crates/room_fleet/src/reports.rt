@@ -1,0 +1,178 @@
+//! What a crew's report does to its vehicle's rows.
+ghost use Rattle.std.specs.Prelude.{◌≡◌, None, Some, max, option_copied};
+ghost use Rattle.room_model.specs.Moments.{first_of};
+ghost use Rattle.room_model.specs.Reports.{is_due, outcome_of, report_row, turn_after, with_report};
+ghost use Rattle.room_fleet.specs.Reported.{IsKeptAlone, TurnKeepsMoments, acted, kept_alone, reported};
+
+use crate::buttons::{acts, ends_turn, is_home, names_order, press as outcome_at, status_after};
+use room_types::asks::Press;
+use room_types::codes::{Button, Outcome, Status};
+use room_types::crews::{CrewRows, CrewSlice};
+use room_types::numbers::{LastNumber, Moment};
+use room_types::tables::{Assignment, Loan, Report, Turn, Vehicle};
+
+/// A vehicle's rows after a report.
+#[derive(Clone, Copy, Debug)]
+pub struct Reported {
+    pub vehicle: Vehicle,
+    /// None where there was none, and where the report ended the order.
+    pub assignment: Option<Assignment>,
+    /// The turn that was open, as ended where the report ended it.
+    pub turn: Option<Turn>,
+    /// None where there was none, and where the vehicle went back to its lender.
+    pub loan: Option<Loan>,
+    /// What is kept of the report itself, with its outcome and the status that its crew is told.
+    pub report: Report,
+}
+
+/// What a report does whose number the vehicle did not send before (the caller sees to that).
+///
+/// A number below the greatest is late. Else a button from Mobile to Return of another order than
+/// the last is stale. Else the outcome is the button's at the vehicle's status. A report that is
+/// late, stale or wrong is kept alone. Any other sets the place, the status and the turn's moment.
+/// Return and Home end the turn and the assignment, and Home gives a vehicle back to its lender
+/// where its loan is recalled or over.
+#[tactic(auto, using(crate::proofs::MomentLaws::turn_keeps, crate::proofs::MomentLaws::same_turn_keeps))]
+pub fn report(slice: &CrewSlice, press: &Press, at: Moment) -> Reported
+    ensures rows { result ≡ reported slice.now.rows press.now at }
+    ensures status_stays { IsKeptAlone result → result.vehicle.status ≡ slice.now.rows.vehicle.status }
+    ensures place_stays { IsKeptAlone result → result.vehicle.place ≡ slice.now.rows.vehicle.place }
+    ensures turn_stays { IsKeptAlone result → result.turn ≡ slice.now.rows.turn }
+    ensures moments_stay { TurnKeepsMoments slice.now.rows.turn result.turn }
+    ensures owner { result.report.division ≡ slice.now.rows.vehicle.holder }
+    ensures greatest { result.vehicle.last_report ≡ max slice.now.rows.vehicle.last_report press.now.number }
+{
+    let rows = &slice.rows;
+    let outcome = outcome_of(&rows.vehicle, rows.turn.as_ref(), press);
+    if acts(outcome) {
+        act(rows, press, at, outcome)
+    } else {
+        keep_alone(rows, press, at, outcome)
+    }
+}
+
+fn act(rows: &CrewRows, press: &Press, at: Moment, outcome: Outcome) -> Reported
+    ensures { result ≡ acted rows.now press.now at outcome }
+{
+    let status = status_after(rows.vehicle.status, press.button);
+    let moved = Vehicle {
+        status,
+        place: press.place,
+        ..with_report(&rows.vehicle, press)
+    };
+    let at_home = is_home(press.button);
+    let (vehicle, loan) = match rows.loan {
+        Some(loan) if at_home && is_due(&loan, at) => (given_back(moved, &loan), None),
+        loan => (moved, loan),
+    };
+    let is_ended = ends_turn(press.button);
+    Reported {
+        vehicle,
+        assignment: if is_ended { None } else { rows.assignment },
+        turn: rows.turn.map(|turn| turn_after(turn, press.button, at)),
+        loan,
+        report: report_row(&rows.vehicle, press, at, outcome, status),
+    }
+}
+
+// Of a report that does not act, its row is kept, and the greatest number.
+fn keep_alone(rows: &CrewRows, press: &Press, at: Moment, outcome: Outcome) -> Reported
+    ensures { result ≡ kept_alone rows.now press.now at outcome }
+{
+    Reported {
+        vehicle: with_report(&rows.vehicle, press),
+        assignment: rows.assignment,
+        turn: rows.turn,
+        loan: rows.loan,
+        report: report_row(&rows.vehicle, press, at, outcome, rows.vehicle.status),
+    }
+}
+
+fn outcome_of(vehicle: &Vehicle, turn: Option<&Turn>, press: &Press) -> Outcome
+    ensures { result ≡ outcome_of vehicle.now (option_copied turn.entry) press.now }
+{
+    if press.number.get() < vehicle.last_report.get() {
+        return Outcome::Late;
+    }
+    if names_order(press.button) && press.order != vehicle.last_order {
+        return Outcome::Stale;
+    }
+    let acknowledged = turn.is_some_and(|turn| turn.acknowledged.is_some());
+    outcome_at(vehicle.status, press.button, acknowledged)
+}
+
+// A moment that is set stays.
+fn turn_after(turn: Turn, button: Button, at: Moment) -> Turn
+    ensures { result ≡ turn_after button at turn }
+{
+    let mut turn = turn;
+    match button {
+        Button::Position => {}
+        Button::Mobile => turn.acknowledged = first_of(turn.acknowledged, at),
+        Button::Scene => turn.scene = first_of(turn.scene, at),
+        Button::Leave => turn.left = first_of(turn.left, at),
+        Button::Hospital => turn.hospital = first_of(turn.hospital, at),
+        Button::Return | Button::Home => turn.ended = Some(at),
+    }
+    turn
+}
+
+fn first_of(moment: Option<Moment>, at: Moment) -> Option<Moment>
+    ensures { result ≡ first_of moment at }
+{
+    moment.or(Some(at))
+}
+
+// A loan ends only after its last second.
+fn is_due(loan: &Loan, at: Moment) -> bool
+    ensures { result ≡ is_due at (Some loan.now) }
+{
+    loan.recalled || loan.until < at
+}
+
+fn given_back(vehicle: Vehicle, loan: &Loan) -> Vehicle
+    ensures { result ≡ record vehicle { holder = loan.now.lender; post = None } }
+{
+    Vehicle {
+        holder: loan.lender,
+        post: None,
+        ..vehicle
+    }
+}
+
+// Late or not, a report counts for the greatest number.
+fn with_report(vehicle: &Vehicle, press: &Press) -> Vehicle
+    ensures { result ≡ with_report vehicle.now press.now }
+{
+    let greatest = vehicle.last_report.get().max(press.number.get());
+    Vehicle {
+        last_report: LastNumber::of(greatest),
+        ..*vehicle
+    }
+}
+
+fn report_row(
+    vehicle: &Vehicle,
+    press: &Press,
+    at: Moment,
+    outcome: Outcome,
+    status: Status,
+) -> Report
+    ensures { result ≡ report_row vehicle.now press.now at outcome status }
+{
+    Report {
+        callsign: vehicle.callsign,
+        number: press.number,
+        button: press.button,
+        order: press.order,
+        place: press.place,
+        at,
+        division: vehicle.holder,
+        outcome,
+        status,
+        cleared: false,
+    }
+}
+
+#[cfg(test)]
+mod tests;
