@@ -88,33 +88,36 @@ fn assignment(callsign: &str, order: u32) -> Option<Assignment> {
     })
 }
 
+fn one<R: Row>(alloc: Global, row: Option<R>) -> Result<Rows<R>, Fail> {
+    let mut rows = Rows::new(alloc);
+    rows.put(row.ok_or("in range")?)?;
+    Ok(rows)
+}
+
+fn two<R: Row>(alloc: Global, row: Option<R>, other: Option<R>) -> Result<Rows<R>, Fail> {
+    let mut rows = one(alloc, row)?;
+    rows.put(other.ok_or("in range")?)?;
+    Ok(rows)
+}
+
 // A1 is on its way to incident 1 under its first order. A2 had two orders and is available.
 fn small_division(alloc: Global) -> Result<DivisionRows, Fail> {
-    let mut rows = DivisionRows {
-        divisions: Rows::new(alloc),
-        incidents: Rows::new(alloc),
+    let a1 = vehicle("A1", Status::Mobilised, 1);
+    let a2 = vehicle("A2", Status::Available, 2);
+    let open = turn("A1", 1, 1, None);
+    let ended = turn("A2", 2, 1, Moment::new(1100));
+    Ok(DivisionRows {
+        divisions: one(alloc, division_row(1))?,
+        incidents: one(alloc, incident(State::Active))?,
         calls: Rows::new(alloc),
-        vehicles: Rows::new(alloc),
-        turns: Rows::new(alloc),
-        assignments: Rows::new(alloc),
+        vehicles: two(alloc, a1, a2)?,
+        turns: two(alloc, open, ended)?,
+        assignments: one(alloc, assignment("A1", 1))?,
         points: Rows::new(alloc),
         loans: Rows::new(alloc),
         offers: Rows::new(alloc),
         reports: Rows::new(alloc),
-    };
-    let a1 = vehicle("A1", Status::Mobilised, 1).ok_or("in range")?;
-    let a2 = vehicle("A2", Status::Available, 2).ok_or("in range")?;
-    rows.divisions.put(division_row(1).ok_or("in range")?)?;
-    rows.incidents
-        .put(incident(State::Active).ok_or("in range")?)?;
-    rows.vehicles.put(a1)?;
-    rows.vehicles.put(a2)?;
-    rows.turns.put(turn("A1", 1, 1, None).ok_or("in range")?)?;
-    rows.turns
-        .put(turn("A2", 2, 1, Moment::new(1100)).ok_or("in range")?)?;
-    rows.assignments
-        .put(assignment("A1", 1).ok_or("in range")?)?;
-    Ok(rows)
+    })
 }
 
 fn is_built(rows: DivisionRows) -> Result<bool, Fail> {
