@@ -16,7 +16,7 @@ use Rattle.room_types.specs.declared.tables.Report.{Report}
 use Rattle.room_types.specs.declared.tables.Turn.{Turn}
 use Rattle.room_types.specs.declared.tables.Vehicle.{Vehicle}
 use Rattle.room_types.specs.Texts.{Callsign}
-use Rattle.room_types.specs.Codes.{is_active, is_busy, is_free, is_merged, is_offered}
+use Rattle.room_types.specs.Codes.{is_busy, is_free, is_merged, is_offered}
 use Rattle.room_model.specs.Room.{IsInOrder, Room}
 
 -- holder differs from home exactly where a loan says so
