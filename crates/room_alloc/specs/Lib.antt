@@ -1,0 +1,9 @@
+pub mod Lending
+pub mod Orders
+pub mod Posts
+pub mod Standby
+pub mod Candidates
+pub mod Proposed
+pub mod Nearness
+pub mod NearnessOrder
+pub mod Rings

@@ -1,0 +1,15 @@
+//! Which vehicles are sent, where they stand by, and to whom they are lent.
+#![tactic(auto)]
+
+pub(crate) mod candidates;
+pub mod held;
+pub mod lending;
+pub(crate) mod near_rows;
+pub(crate) mod nearness;
+pub mod orders;
+pub mod posts;
+pub mod proposals;
+pub(crate) mod rings;
+pub mod standby;
+pub mod views;
+pub(crate) mod walk;

@@ -1,0 +1,20 @@
+//! What a search by rings goes over, and what it finds.
+use room_types::callsign::Callsign;
+use room_types::tables::Vehicle;
+
+/// How near a vehicle is: by distance in whole metres, and then by callsign.
+#[derive(Clone, Copy, Debug, PartialEq, Eq, PartialOrd, Ord)]
+pub(crate) struct Nearness {
+    pub(crate) distance: u32,
+    pub(crate) callsign: Callsign,
+}
+
+/// A vehicle that may be sent.
+#[derive(Clone, Copy, Debug)]
+pub(crate) struct Candidate {
+    /// Of cells, round the incident's.
+    pub(crate) ring: u32,
+    /// Whether sending it breaks cover.
+    pub(crate) breaks: bool,
+    pub(crate) vehicle: Vehicle,
+}

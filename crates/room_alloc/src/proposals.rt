@@ -1,0 +1,222 @@
+//! Which vehicles are proposed for an incident.
+ghost use Rattle.std.specs.Prelude.{◌≡◌, ◌++◌, List, IfOk, IfErr, None, OnOk, Some, map};
+ghost use Rattle.room_place.specs.Choice.{AreFirst};
+ghost use Rattle.room_place.specs.declared.plans.Area.{Area};
+ghost use Rattle.room_types.specs.declared.refusals.Refusal.TheVariants.{Memory};
+ghost use Rattle.room_types.specs.declared.tables.Incident.{Incident};
+ghost use Rattle.room_model.specs.Incidents.{lacking};
+ghost use Rattle.room_model.specs.Proposals.{all_proposed, is_before, propose, proposed};
+ghost use Rattle.room_model.specs.Queries.{incident_of};
+ghost use Rattle.room_model.specs.Room.{IsInOrder};
+ghost use Rattle.room_model.specs.Slices.{room_of};
+ghost use Rattle.room_alloc.specs.Candidates.{AreShort, unplanned};
+ghost use Rattle.room_alloc.specs.Proposed.{AreForIncident, AreTold};
+ghost use Rattle.room_alloc.specs.Rings.{AreApart, AreOfKind, ArePlaced, proposal_at};
+
+use crate::candidates::{candidates, short_points};
+use crate::nearness::Candidate;
+use crate::rings::{candidates_round, nearest};
+use crate::walk::first_few;
+use room_incident::active::active;
+use room_incident::served::lack;
+use room_types::answers::{Listed, Proposal};
+use room_types::codes::Kind;
+use room_types::numbers::{Moment, Number};
+use room_types::refusals::Refusal;
+use room_types::rows::Rows;
+use room_types::slices::{DivisionRows, Slice};
+use room_types::tables::{Incident, Point};
+use std::alloc::{AllocError, Global};
+
+/// How the first few of the candidates are found. Both ways find the same.
+#[derive(Clone, Copy, Debug)]
+enum Search {
+    /// The least that is left, again and again.
+    Walk,
+    /// Ring by ring of cells round the incident.
+    Rings,
+}
+
+/// The proposals for an active incident: of each kind as many of the eligible vehicles as it
+/// lacks, or all where there are fewer; those first that don't break cover, then the nearer, then
+/// by callsign.
+///
+/// Refused as `active` refuses, or as `Memory`.
+pub fn propose(
+    alloc: Global,
+    slice: &Slice,
+    number: Number,
+    at: Moment,
+) -> Result<Listed<Proposal>, Refusal>
+    ensures decision { (plan : List Area) → AreTold result (propose slice.now.division number at (room_of plan slice.now.rows)) }
+    ensures first { IfOk result (λ few. (plan : List Area) (i : Incident) → incident_of slice.now.division number (room_of plan slice.now.rows) ≡ Some i → AreForIncident slice.now.division i at (room_of plan slice.now.rows) few) }
+{
+    in_order(&slice.rows);
+    proposals(alloc, slice, number, at, Search::Rings)
+}
+
+/// The same proposals, by a plain walk over all vehicles: what `propose` is compared with.
+pub fn propose_plainly(
+    alloc: Global,
+    slice: &Slice,
+    number: Number,
+    at: Moment,
+) -> Result<Listed<Proposal>, Refusal>
+    ensures { (plan : List Area) → AreTold result (propose slice.now.division number at (room_of plan slice.now.rows)) }
+{
+    proposals(alloc, slice, number, at, Search::Walk)
+}
+
+fn proposals(
+    alloc: Global,
+    slice: &Slice,
+    number: Number,
+    at: Moment,
+    search: Search,
+) -> Result<Listed<Proposal>, Refusal>
+    ensures { (plan : List Area) → AreTold result (propose slice.now.division number at (room_of plan slice.now.rows)) }
+{
+    match active(slice, number) {
+        Ok(incident) => of_all_kinds(alloc, slice, incident, at, search),
+        Err(refusal) => Err(refusal),
+    }
+}
+
+fn of_all_kinds(
+    alloc: Global,
+    slice: &Slice,
+    incident: &Incident,
+    at: Moment,
+    search: Search,
+) -> Result<Listed<Proposal>, Refusal>
+    requires { incident.now.division ≡ slice.now.division }
+    ensures ok { IfOk result (λ all. all ≡ all_proposed slice.now.division incident.now at (unplanned slice.now.rows)) }
+    ensures memory { IfErr result (λ e. e ≡ Memory) }
+{
+    let short = short_points(alloc, slice, at)?;
+    let ambulances = of_kind(alloc, slice, incident, &short, Kind::Ambulance, at, search)?;
+    let cars = of_kind(alloc, slice, incident, &short, Kind::Car, at, search)?;
+    let support = of_kind(alloc, slice, incident, &short, Kind::Support, at, search)?;
+    joined(ambulances, &cars, &support)
+}
+
+// What is proposed of a kind.
+fn of_kind(
+    alloc: Global,
+    slice: &Slice,
+    incident: &Incident,
+    short: &Rows<Point>,
+    kind: Kind,
+    at: Moment,
+    search: Search,
+) -> Result<Listed<Proposal>, Refusal>
+    requires division { incident.now.division ≡ slice.now.division }
+    requires short { AreShort slice.now.division at (unplanned slice.now.rows) short.now }
+    ensures ok { IfOk result (λ few. few ≡ proposed slice.now.division incident.now at (unplanned slice.now.rows) kind) }
+    ensures memory { IfErr result (λ e. e ≡ Memory) }
+{
+    let count = lack(incident, &slice.rows.turns, kind).get();
+    match search {
+        Search::Walk => by_walk(alloc, slice, incident, short, kind, at, count),
+        Search::Rings => by_rings(alloc, slice, incident, short, kind, at, count),
+    }
+}
+
+fn by_walk(
+    alloc: Global,
+    slice: &Slice,
+    incident: &Incident,
+    short: &Rows<Point>,
+    kind: Kind,
+    at: Moment,
+    count: u32,
+) -> Result<Listed<Proposal>, Refusal>
+    requires short { AreShort slice.now.division at (unplanned slice.now.rows) short.now }
+    requires count { count ≡ lacking slice.now.division incident.now (unplanned slice.now.rows) kind }
+    ensures ok { IfOk result (λ few. few ≡ proposed slice.now.division incident.now at (unplanned slice.now.rows) kind) }
+    ensures memory { IfErr result (λ e. e ≡ Memory) }
+{
+    let all = candidates(alloc, slice, incident, short, kind, at)?;
+    let few = first_few(alloc, all.as_slice(), count)?;
+    Ok(few)
+}
+
+fn by_rings(
+    alloc: Global,
+    slice: &Slice,
+    incident: &Incident,
+    short: &Rows<Point>,
+    kind: Kind,
+    at: Moment,
+    count: u32,
+) -> Result<Listed<Proposal>, Refusal>
+    requires short { AreShort slice.now.division at (unplanned slice.now.rows) short.now }
+    requires count { count ≡ lacking slice.now.division incident.now (unplanned slice.now.rows) kind }
+    ensures ok { IfOk result (λ few. few ≡ proposed slice.now.division incident.now at (unplanned slice.now.rows) kind) }
+    ensures memory { IfErr result (λ e. e ≡ Memory) }
+{
+    in_order(&slice.rows);
+    let all = candidates_round(alloc, slice, incident, short, kind, at)?;
+    let few = first_of_both(alloc, all.as_slice(), incident, kind, count as usize)?;
+    Ok(few)
+}
+
+// Those first that don't break cover, and then, where they are too few, the others.
+fn first_of_both(
+    alloc: Global,
+    candidates: &[Candidate],
+    incident: &Incident,
+    kind: Kind,
+    count: usize,
+) -> Result<Listed<Proposal>, Refusal>
+    requires placed { ArePlaced incident.now candidates.now }
+    requires kind { AreOfKind kind candidates.now }
+    requires apart { AreApart candidates.now }
+    ensures ok { IfOk result (λ few. AreFirst is_before count None (map (proposal_at incident.now) candidates.now) few) }
+    ensures memory { IfErr result (λ e. e ≡ Memory) }
+{
+    let mut few = nearest(alloc, candidates, incident, kind, false, count)?;
+    let left = count.saturating_sub(few.len());
+    let others = nearest(alloc, candidates, incident, kind, true, left)?;
+    append(&mut few, &others)?;
+    Ok(few)
+}
+
+// A slice's rows are in order, which each list tells of itself.
+fn in_order(rows: &DivisionRows)
+    ensures { (plan : List Area) → IsInOrder (room_of plan rows.now) }
+{
+    let _divisions = rows.divisions.as_slice();
+    let _incidents = rows.incidents.as_slice();
+    let _calls = rows.calls.as_slice();
+    let _vehicles = rows.vehicles.as_slice();
+    let _turns = rows.turns.as_slice();
+    let _assignments = rows.assignments.as_slice();
+    let _points = rows.points.as_slice();
+    let _loans = rows.loans.as_slice();
+    let _offers = rows.offers.as_slice();
+    let _reports = rows.reports.as_slice();
+}
+
+fn joined(
+    ambulances: Listed<Proposal>,
+    cars: &Listed<Proposal>,
+    support: &Listed<Proposal>,
+) -> Result<Listed<Proposal>, Refusal>
+    ensures ok { IfOk result (λ all. all ≡ ambulances ++ (cars.now ++ support.now)) }
+    ensures memory { IfErr result (λ e. e ≡ Memory) }
+{
+    let mut all = ambulances;
+    append(&mut all, cars)?;
+    append(&mut all, support)?;
+    Ok(all)
+}
+
+fn append(all: &mut Listed<Proposal>, more: &Listed<Proposal>) -> Result<(), AllocError>
+    ensures { OnOk result (all.new ≡ all.old ++ more.now) }
+{
+    for proposal in more.as_slice() {
+        all.push(*proposal)?;
+    }
+    Ok(())
+}

@@ -1,0 +1,205 @@
+//! The nearest candidates, searched ring by ring of cells round the incident, so that the
+//! distances of those in later rings need not be known.
+ghost use Rattle.std.specs.Prelude.{◌≡◌, ◌<◌, ◌++◌, IfErr, IfOk, None, OnOk, filter, map, take};
+ghost use Rattle.std.specs.List.{filter_map, list_all};
+ghost use Rattle.room_place.specs.Choice.{AreFirst};
+ghost use Rattle.room_place.specs.Places.{IsInSquares};
+ghost use Rattle.room_types.specs.Keyed.{IsKeyed};
+ghost use Rattle.room_types.specs.declared.refusals.Refusal.TheVariants.{Memory};
+ghost use Rattle.room_model.specs.Proposals.{is_before};
+ghost use Rattle.room_alloc.specs.Nearness.{nearness_cmp, proposal_with, whole};
+ghost use Rattle.room_alloc.specs.Rings.{AreApart, AreOfKind, ArePlaced, IsPlaced, IsSearched, candidate_of, candidates_round, in_ring, is_enough, is_marked, is_seen, nearness_of, ordered_from, proposal_at};
+
+use crate::candidates::{has_point, is_candidate};
+use crate::nearness::{Candidate, Nearness};
+use room_place::cells::{cell_of, ring_floor, ring_of};
+use room_place::places::{Place, distance};
+use room_types::answers::{Listed, Proposal};
+use room_types::codes::Kind;
+use room_types::numbers::Moment;
+use room_types::refusals::Refusal;
+use room_types::rows::Rows;
+use room_types::slices::Slice;
+use room_types::tables::{Incident, Point, Vehicle};
+use std::alloc::{AllocError, Global};
+
+// The squares of the grid are 200 km wide, so no ring has a greater number than 199.
+const RINGS: u32 = 200;
+
+/// The division's eligible vehicles of a kind, in callsign order, each with its ring round the
+/// incident. The one refusal is `Memory`.
+pub(crate) fn candidates_round(
+    alloc: Global,
+    slice: &Slice,
+    incident: &Incident,
+    short: &Rows<Point>,
+    kind: Kind,
+    at: Moment,
+) -> Result<Vec<Candidate>, Refusal>
+    ensures ok { IfOk result (λ all. all.items ≡ candidates_round slice.now.division incident.now short.now kind at slice.now.rows.vehicles) }
+    ensures placed { IfOk result (λ all. ArePlaced incident.now all.items) }
+    ensures memory { IfErr result (λ refusal. refusal ≡ Memory) }
+{
+    let mut all = Vec::new(alloc);
+    for vehicle in slice.rows.vehicles.as_slice() {
+        if is_candidate(vehicle, slice.division, kind, at) {
+            all.push(candidate(slice, incident, short, vehicle))?;
+        }
+    }
+    Ok(all)
+}
+
+fn candidate(
+    slice: &Slice,
+    incident: &Incident,
+    short: &Rows<Point>,
+    vehicle: &Vehicle,
+) -> Candidate
+    ensures value { result ≡ candidate_of slice.now.division incident.now short.now vehicle.now }
+    ensures placed { IsPlaced incident.now result }
+{
+    // A place is in the squares, which bounds its ring and ties its distance to that.
+    in_squares(&vehicle.place);
+    in_squares(&incident.place);
+    Candidate {
+        ring: ring_of(cell_of(vehicle.place), cell_of(incident.place)),
+        breaks: has_point(short, vehicle, slice.division),
+        vehicle: *vehicle,
+    }
+}
+
+fn in_squares(place: &Place)
+    ensures { IsInSquares place.now }
+{
+    let _east = place.east.get();
+    let _north = place.north.get();
+}
+
+/// The first `count` of the candidates that break cover, or of those that don't.
+pub(crate) fn nearest(
+    alloc: Global,
+    candidates: &[Candidate],
+    incident: &Incident,
+    kind: Kind,
+    breaks: bool,
+    count: usize,
+) -> Result<Listed<Proposal>, Refusal>
+    requires placed { ArePlaced incident.now candidates.now }
+    requires kind { AreOfKind kind candidates.now }
+    requires apart { AreApart candidates.now }
+    ensures ok { IfOk result (λ few. AreFirst is_before count None (map (proposal_at incident.now) (filter (is_marked breaks) candidates.now)) few) }
+    ensures memory { IfErr result (λ refusal. refusal ≡ Memory) }
+{
+    let found = search(alloc, candidates, incident, breaks, count)?;
+    let few = first_of(alloc, &found, kind, breaks, count)?;
+    Ok(few)
+}
+
+// After each ring the search ends where all candidates were seen, or where enough were found and
+// the worst that is kept is nearer than any candidate of a later ring can be.
+fn search(
+    alloc: Global,
+    candidates: &[Candidate],
+    incident: &Incident,
+    breaks: bool,
+    count: usize,
+) -> Result<Rows<Nearness>, Refusal>
+    requires { ArePlaced incident.now candidates.now }
+    ensures ok { IfOk result (λ found. IsSearched count breaks incident.now candidates.now found) }
+    ensures memory { IfErr result (λ refusal. refusal ≡ Memory) }
+{
+    let mut found = Rows::new(alloc);
+    for ring in 0..RINGS {
+        add_ring(&mut found, candidates, incident, breaks, ring)?;
+        if are_seen(candidates, ring) {
+            return Ok(found);
+        }
+        if is_enough(&found, count, ring) {
+            return Ok(found);
+        }
+    }
+    Ok(found)
+}
+
+// Puts the candidates of a ring in their places.
+fn add_ring(
+    found: &mut Rows<Nearness>,
+    candidates: &[Candidate],
+    incident: &Incident,
+    breaks: bool,
+    ring: u32,
+) -> Result<(), Refusal>
+    ensures ok { OnOk result (found.new ≡ ordered_from found.old (filter_map (in_ring breaks incident.now ring) candidates.now)) }
+    ensures memory { IfErr result (λ refusal. refusal ≡ Memory) }
+{
+    for candidate in candidates {
+        if is_marked(candidate, breaks) && candidate.ring == ring {
+            found.put(nearness_of(candidate, incident))?;
+        }
+    }
+    Ok(())
+}
+
+fn is_marked(candidate: &Candidate, breaks: bool) -> bool
+    ensures { result ≡ is_marked breaks candidate.now }
+{
+    if breaks {
+        candidate.breaks
+    } else {
+        !candidate.breaks
+    }
+}
+
+fn nearness_of(candidate: &Candidate, incident: &Incident) -> Nearness
+    ensures { result ≡ nearness_of incident.now candidate.now }
+{
+    Nearness {
+        distance: distance(candidate.vehicle.place, incident.place),
+        callsign: candidate.vehicle.callsign,
+    }
+}
+
+fn are_seen(candidates: &[Candidate], ring: u32) -> bool
+    requires { ring < RINGS }
+    ensures { result ≡ list_all (is_seen ring) candidates.now }
+{
+    candidates.iter().all(|candidate| candidate.ring <= ring)
+}
+
+// Whether no candidate of a later ring can be among the first: one as far away as the worst could
+// stand before it by its callsign, so the worst has to be nearer than the next ring's floor.
+fn is_enough(found: &Rows<Nearness>, count: usize, ring: u32) -> bool
+    requires { ring < RINGS }
+    ensures { result ≡ is_enough count ring found.now }
+{
+    if count == 0 {
+        return true;
+    }
+    match found.as_slice().get(count - 1) {
+        Some(worst) => worst.distance < ring_floor(ring + 1),
+        None => false,
+    }
+}
+
+fn first_of(
+    alloc: Global,
+    found: &Rows<Nearness>,
+    kind: Kind,
+    breaks: bool,
+    count: usize,
+) -> Result<Listed<Proposal>, AllocError>
+    ensures few { IfOk result (λ few. few ≡ map (proposal_with breaks kind) (take count found.now)) }
+    ensures in_order { IsKeyed nearness_cmp whole found.now }
+{
+    let rows = found.as_slice();
+    let mut few = Listed::new(alloc);
+    for near in &rows[..count.min(rows.len())] {
+        few.push(Proposal {
+            breaks,
+            distance: near.distance,
+            kind,
+            callsign: near.callsign,
+        })?;
+    }
+    Ok(few)
+}

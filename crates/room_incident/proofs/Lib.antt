@@ -1,0 +1,7 @@
+pub mod CallLaws
+pub mod LeastLaws
+pub mod LinkLaws
+pub mod MergeLaws
+pub mod RowLaws
+pub mod ServedLaws
+pub mod TimesLaws

@@ -1,0 +1,7 @@
+pub mod CallsOf
+pub mod Decided
+pub mod Joined
+pub mod Links
+pub mod Served
+pub mod Taken
+pub mod Times

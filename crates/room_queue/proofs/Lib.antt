@@ -1,0 +1,3 @@
+pub mod QueueAnswers
+pub mod SeenLaws
+pub mod SortLaws

@@ -1,0 +1,56 @@
+-- What is found in a slice's rows are the entries of any room that has them.
+use Rattle.std.proofs.Common.{append_assoc, eqb-true, inl, inr, refl, subst, sym}
+use Rattle.std.specs.Prelude.{Bool, List, None, Option, Some, [], cond, false, true, ℕ, ◌∷◌, ◌≡◌}
+use Rattle.std.specs.List.{list_all}
+use Rattle.room_place.specs.Choice.{Among}
+use Rattle.room_place.specs.declared.plans.Area.{Area}
+use Rattle.room_types.proofs.ShareLaws.{share_agrees}
+use Rattle.room_types.specs.Keyed.{IsKeyed, row_at}
+use Rattle.room_types.specs.Keys.{callsign_cmp, numbered_cmp, owns_point, pair_cmp, point_key, turn_key, vehicle_key}
+use Rattle.room_types.specs.Orders.{callsigns_total, pairs_total}
+use Rattle.room_types.specs.Slices.{is_share}
+use Rattle.room_types.specs.Slices as slice
+use Rattle.room_types.specs.declared.answers.Entry.{Entry}
+use Rattle.room_types.specs.declared.slices.DivisionRows.{DivisionRows}
+use Rattle.room_types.specs.declared.tables.Point.{Point}
+use Rattle.room_types.specs.declared.tables.Turn.{Turn}
+use Rattle.room_types.specs.declared.tables.Vehicle.{Vehicle}
+use Rattle.room_model.proofs.SliceLookUps.{open_turn_is}
+use Rattle.room_model.proofs.Tests.{filter_map_among, left_true, right_true, row_among}
+use Rattle.room_model.specs.Queries.{holders, incident_of, open_turn, point_of, served}
+use Rattle.room_model.specs.Queue.{entries, slow, slow_turn, uncovered, unread, unread_turn}
+use Rattle.room_model.specs.Slices.{room_of}
+use Rattle.room_queue.specs.Seen.{room, seen, turn_ahead, uncovered_seen}
+
+-- what makes nothing of no turn may look at the turn's guard first
+guarded : (f : Option Turn → Option Entry) → f None ≡ None → (b : Bool) (o : Option Turn) → f (cond b o None) ≡ cond b (f o) None
+guarded f none true o = refl
+guarded f none false o = none
+
+all_among_hold : {X : Type 0} (p : X → Bool) (xs : List X) (x : X) → list_all p xs ≡ true → Among x xs → p x ≡ true
+all_among_hold p [] x h a = absurd a
+all_among_hold p (y ∷ ys) x h a = elim a [
+  | inl e ↦ rw e (left_true (p y) _ h)
+  | inr b ↦ all_among_hold p ys x (right_true (p y) _ h) b
+]
+
+module _ (d at : ℕ) (plan : List Area) (s : DivisionRows) (agrees : is_share d s ≡ true) (vehicles : IsKeyed callsign_cmp vehicle_key s.vehicles) (points : IsKeyed pair_cmp point_key s.points) (turns : IsKeyed numbered_cmp turn_key s.turns) where
+  same_turn : (v : Vehicle) → Among v s.vehicles → slice.open_turn v s ≡ open_turn d v.callsign (room_of plan s)
+  same_turn v a = sym (open_turn_is d plan s agrees v.callsign v (row_among callsign_cmp vehicle_key callsigns_total s.vehicles v vehicles a) turns)
+
+  unread_is : (v : Vehicle) → Among v s.vehicles → unread_turn at v (turn_ahead d s v) ≡ unread d at (room_of plan s) v
+  unread_is v a = rw (same_turn v a) (guarded (unread_turn at v) refl _ _)
+
+  slow_is : (v : Vehicle) → Among v s.vehicles → slow_turn d at (room_of plan s) v (turn_ahead d s v) ≡ slow d at (room_of plan s) v
+  slow_is v a = rw (same_turn v a) (guarded (slow_turn d at (room_of plan s) v) refl _ _)
+
+  uncovered_is : (p : Point) → Among p s.points → uncovered_seen d at s p ≡ uncovered d at (room_of plan s) p
+  unfolding holders point_of
+  uncovered_is p a =
+      let owned : p.division ≡ d = eqb-true p.division d (all_among_hold (owns_point d) s.points p (share_agrees d s agrees).owned.points a) in
+      let there : row_at pair_cmp point_key s.points (d, p.number) ≡ Some p = subst (λ k. row_at pair_cmp point_key s.points (k, p.number) ≡ Some p) owned (row_among pair_cmp point_key pairs_total s.points p points a) in
+      rw there refl
+
+  pub seen_all : seen d at s ≡ entries d at (room_of plan s)
+  unfolding entries holders incident_of served
+  seen_all = rw (filter_map_among _ _ s.vehicles unread_is) (rw (filter_map_among _ _ s.vehicles slow_is) (rw (filter_map_among _ _ s.points uncovered_is) (simp append_assoc refl)))
