@@ -1,0 +1,49 @@
+//! A call, decided on the rows of the division that it is placed in.
+ghost use Rattle.std.specs.Prelude.{◌≡◌, None, Ok, Some};
+ghost use Rattle.room_place.specs.Plans.{division_of};
+ghost use Rattle.room_types.specs.declared.asks.Ask.TheVariants.{Call as CallAsk};
+ghost use Rattle.room_types.specs.declared.asks.CallForm.{CallForm};
+ghost use Rattle.room_incident.specs.Taken.{decided_of_taken};
+ghost use Rattle.room_model.specs.Calls.{new_call, take_call};
+ghost use Rattle.room_model.specs.Queries.{kept_call};
+ghost use Rattle.room_model.specs.Room.{Room};
+ghost use Rattle.room_model.specs.Slices.{room_of};
+ghost use Rattle.room_model.specs.WellFormed.{IsWellFormed};
+ghost use Rattle.room_model.specs.Working.{working};
+ghost use Rattle.room_core.specs.Deciding.{Decides};
+
+use crate::decisions::Decision;
+use room_incident::calls::{Taken, take_call};
+use room_types::answers::{Answer, Listed};
+use room_types::asks::NewCall;
+use room_types::changes::Change;
+use room_types::refusals::Refusal;
+use room_types::slices::Slice;
+use std::alloc::Global;
+
+/// A call that the room has not kept, placed in the slice's division (the caller sees to both). In
+/// every well-formed room whose rows that the call may read are the slice's, the decision is the
+/// room's.
+pub fn decide_call(alloc: Global, slice: &Slice, new: &NewCall) -> Result<Decision, Refusal>
+    ensures { (r : Room) (f : CallForm) → IsWellFormed r → new.now ≡ new_call new.now.position f new.now.at → kept_call new.now.position f.serial r ≡ None → division_of r.plan f.place ≡ Some slice.now.division
+        → room_of r.plan slice.now.rows ≡ working slice.now.division (CallAsk f) r → Decides (take_call new.now r) result }
+{
+    match take_call(slice, new) {
+        Ok(taken) => put(alloc, &taken),
+        Err(refusal) => Err(refusal),
+    }
+}
+
+fn put(alloc: Global, taken: &Taken) -> Result<Decision, Refusal>
+    ensures { Decides (decided_of_taken (Ok taken.now)) result }
+{
+    let call = &taken.call;
+    let answer = Answer::Called(call.division, call.given, call.linked);
+    let mut changes = Listed::new(alloc);
+    if let Some(division) = taken.division {
+        changes.push(Change::PutDivision(division))?;
+    }
+    changes.push(Change::PutIncident(taken.incident))?;
+    changes.push(Change::PutCall(taken.call))?;
+    Ok(Decision::new(changes, answer))
+}
