@@ -1,0 +1,2 @@
+-- A row is read back as it was written, and SQL's order is that of the keys.
+pub mod RowLaws

@@ -1,0 +1,81 @@
+//! Incidents as rows of SQL.
+
+ghost use Rattle.std.specs.Prelude.{◌≡◌};
+ghost use Rattle.sqlite.specs.Values.{bound};
+ghost use Rattle.sqlite_value.specs.Value.{owned};
+ghost use Rattle.table_laws.specs.Typed.{number, number_or_null};
+ghost use Rattle.room_types.specs.Codes.{state_number, merged_into};
+ghost use Rattle.room_columns.specs.Rows.{incident_row};
+
+use crate::columns::{Field, Stored, integer, value_at};
+use room_place::places::Place;
+use room_types::codes::State;
+use room_types::needs::{Counts, Needs};
+use room_types::tables::Incident;
+use sqlite::Row;
+use sqlite_value::value::ValueRef;
+
+impl Stored for Incident {
+    ghost cells = { incident_row };
+
+    fn read(row: &Row) -> Option<Incident> {
+        if row.column_count() != 12 {
+            return None;
+        }
+        Some(Incident {
+            division: value_at(row, 0)?,
+            number: value_at(row, 1)?,
+            place: Place {
+                east: value_at(row, 2)?,
+                north: value_at(row, 3)?,
+            },
+            class: value_at(row, 4)?,
+            needs: Needs::new(Counts {
+                ambulances: value_at(row, 5)?,
+                cars: value_at(row, 6)?,
+                support: value_at(row, 7)?,
+            })?,
+            opened: value_at(row, 8)?,
+            first_order: value_at(row, 9)?,
+            state: State::from_columns(value_at(row, 10)?, value_at(row, 11)?)?,
+        })
+    }
+}
+
+/// The columns of an incident.
+pub fn incident_columns(incident: &Incident) -> [ValueRef<'_>; 12]
+    ensures { bound result ≡ incident_row incident.now }
+{
+    let counts = incident.needs.counts();
+    [
+        incident.division.store(),
+        incident.number.store(),
+        incident.place.east.store(),
+        incident.place.north.store(),
+        incident.class.store(),
+        integer(counts.ambulances.get()),
+        integer(counts.cars.get()),
+        integer(counts.support.get()),
+        incident.opened.store(),
+        incident.first_order.store(),
+        state_code(incident.state),
+        merged_code(incident.state),
+    ]
+}
+
+// The number of a state.
+fn state_code(state: State) -> ValueRef<'static>
+    ensures { owned result ≡ number (state_number state) }
+{
+    integer(u32::from(state.number()))
+}
+
+// The incident that one of this state was merged into.
+fn merged_code(state: State) -> ValueRef<'static>
+    ensures { owned result ≡ number_or_null (merged_into state) }
+{
+    match state.merged_into() {
+        Some(into) => integer(into.get()),
+        None => ValueRef::Null,
+    }
+}

@@ -1,0 +1,10 @@
+-- What a room's file is made of, and why its database fails.
+-- the tables and indexes
+pub mod Schema
+-- what the texts that make them do
+pub mod Definitions
+-- what a schema is tested for
+pub mod Forms
+pub mod Bare
+-- the errors of the database, as faults and as refusals
+pub mod Faults

@@ -1,0 +1,13 @@
+use Rattle.std.proofs.Common.{◌≡◌, ◌+◌, arith}
+use Rattle.std.proofs.lemmas.Grind.{common_steps}
+use Rattle.room_tables.proofs.PlanLaws.{areas_more}
+use Rattle.room_tables.proofs.areas.areas_in.Goals as goal
+
+pub loop-index-preserved : goal.loop-index-preserved
+loop-index-preserved c =
+    let place : c.in-Some.numbered.0 ≡ c.loop-index.index + 1 = omega arith in
+    record {
+      count = grind (arith, common_steps);
+      read = rw c.in_ok-push.ensures.items (areas_more c.loop-index.areas.items c.args.shown.now c.loop-index.index c.in-Some.numbered.0 c.in-Some.numbered.1 c.index-shown-index.result
+          c.loop-index.invariant.count c.loop-index.invariant.read c.loop-index-test.true c.index-shown-index.is c.in-Some.ensures place);
+    }

@@ -1,0 +1,19 @@
+-- What was shown is what was asked for. (Written by tools/tables.py.)
+use Rattle.room_schema.specs.Schema.{room_schema}
+use Rattle.room_tables.proofs.CallsTable.{call_at_is, call_at_means}
+use Rattle.room_tables.specs.declared.calls.TheConstants.{CALL_AT}
+use Rattle.sqlite.specs.Held.{state}
+use Rattle.sqlite.specs.State.{HasCleanDisk}
+use Rattle.std.proofs.Common.{arith}
+use Rattle.std.proofs.lemmas.Result.{IfOk-weaker}
+use Rattle.table_laws.proofs.Refusals.{plain_here}
+use Rattle.room_tables.proofs.calls.call_at.Goals as goal
+
+pub find-requires : goal.find-requires
+find-requires g c clean = plain_here room_schema _ CALL_AT.now (c.requires clean) call_at_means.plain
+
+pub returns-clause-row : goal.returns-clause-row
+returns-clause-row g c clean =
+    let old = state g.S.Store c.args.conn.now in
+    let early : HasCleanDisk old = omega (arith, c.find.ensures.survives.clean) in
+    IfOk-weaker c.find.result _ _ (λ found shown. call_at_is c.args.position c.args.serial old (state g.S.Store c.find.new.conn) found (c.requires early) (rw (c.store.ensures, c.store-2.ensures) at shown)) (c.find.ensures.shown clean)

@@ -1,0 +1,19 @@
+-- What was shown is what was asked for. (Written by tools/tables.py.)
+use Rattle.room_schema.specs.Schema.{room_schema}
+use Rattle.room_tables.proofs.CallsTable.{calls_of_are, calls_of_means}
+use Rattle.room_tables.specs.declared.calls.TheConstants.{CALLS_OF}
+use Rattle.sqlite.specs.Held.{state}
+use Rattle.sqlite.specs.State.{HasCleanDisk}
+use Rattle.std.proofs.Common.{arith}
+use Rattle.std.proofs.lemmas.Result.{IfOk-weaker}
+use Rattle.table_laws.proofs.Refusals.{plain_here}
+use Rattle.room_tables.proofs.calls.calls_of.Goals as goal
+
+pub load-requires : goal.load-requires
+load-requires g c clean = plain_here room_schema _ CALLS_OF.now (c.requires clean) calls_of_means.plain
+
+pub returns-clause-rows : goal.returns-clause-rows
+returns-clause-rows g c clean =
+    let old = state g.S.Store c.args.conn.now in
+    let early : HasCleanDisk old = omega (arith, c.load.ensures.survives.clean) in
+    IfOk-weaker c.load.result _ _ (λ found shown. calls_of_are c.args.division c.args.incident old (state g.S.Store c.load.new.conn) found (c.requires early) (rw (c.store.ensures, c.store-2.ensures) at shown)) (c.load.ensures.shown clean)

@@ -1,0 +1,21 @@
+-- What was shown is what was asked for. (Written by tools/tables.py.)
+use Rattle.room_schema.specs.Schema.{room_schema}
+use Rattle.room_tables.proofs.IncidentsTable.{incidents_opened_are, incidents_opened_means}
+use Rattle.room_tables.specs.declared.incidents.TheConstants.{INCIDENTS_OPENED}
+use Rattle.sqlite.specs.Held.{state}
+use Rattle.sqlite.specs.State.{HasCleanDisk}
+use Rattle.std.proofs.Common.{arith}
+use Rattle.std.proofs.lemmas.Int.{to_z-of_z}
+use Rattle.std.proofs.lemmas.Result.{IfOk-weaker}
+use Rattle.std.specs.Int.{w64}
+use Rattle.table_laws.proofs.Refusals.{plain_here}
+use Rattle.room_tables.proofs.incidents.incidents_opened.Goals as goal
+
+pub load-requires : goal.load-requires
+load-requires g c clean = plain_here room_schema _ INCIDENTS_OPENED.now (c.requires clean) incidents_opened_means.plain
+
+pub returns-clause-rows : goal.returns-clause-rows
+returns-clause-rows g c clean =
+    let old = state g.S.Store c.args.conn.now in
+    let early : HasCleanDisk old = omega (arith, c.load.ensures.survives.clean) in
+    IfOk-weaker c.load.result _ _ (λ found shown. incidents_opened_are c.args.from c.args.to c.args.division old (state g.S.Store c.load.new.conn) found (c.requires early) (rw (c.second.ensures, to_z-of_z w64 c.args.from c.ranges.from, c.second-2.ensures, to_z-of_z w64 c.args.to c.ranges.to, c.store.ensures) at shown)) (c.load.ensures.shown clean)

@@ -1,0 +1,11 @@
+-- What ran is the change. (Written by tools/tables.py.)
+use Rattle.room_tables.proofs.ReportsTable.{put_report_makes}
+use Rattle.sqlite.specs.Held.{state}
+use Rattle.sqlite.specs.State.{HasCleanDisk}
+use Rattle.std.proofs.Common.{arith}
+use Rattle.room_tables.proofs.reports.put_report.Goals as goal
+
+pub returns-clause-ok : goal.returns-clause-ok
+returns-clause-ok g c clean =
+    let early : HasCleanDisk (state g.S.Store c.args.tx.now.conn.now) = omega (arith, c.write.ensures.survives.clean) in
+    put_report_makes c.args.report.now _ _ _ (c.requires.schema early) (c.in_ok-write.ensures.ok clean) (rw c.report_columns.ensures at (c.in_ok-write.ensures.ran clean))

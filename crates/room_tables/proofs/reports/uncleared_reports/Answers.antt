@@ -1,0 +1,19 @@
+-- What was shown is what was asked for. (Written by tools/tables.py.)
+use Rattle.room_schema.specs.Schema.{room_schema}
+use Rattle.room_tables.proofs.ReportsTable.{uncleared_reports_are, uncleared_reports_means}
+use Rattle.room_tables.specs.declared.reports.TheConstants.{UNCLEARED_REPORTS}
+use Rattle.sqlite.specs.Held.{state}
+use Rattle.sqlite.specs.State.{HasCleanDisk}
+use Rattle.std.proofs.Common.{arith}
+use Rattle.std.proofs.lemmas.Result.{IfOk-weaker}
+use Rattle.table_laws.proofs.Refusals.{plain_here}
+use Rattle.room_tables.proofs.reports.uncleared_reports.Goals as goal
+
+pub load-requires : goal.load-requires
+load-requires g c clean = plain_here room_schema _ UNCLEARED_REPORTS.now (c.requires clean) uncleared_reports_means.plain
+
+pub returns-clause-rows : goal.returns-clause-rows
+returns-clause-rows g c clean =
+    let old = state g.S.Store c.args.conn.now in
+    let early : HasCleanDisk old = omega (arith, c.load.ensures.survives.clean) in
+    IfOk-weaker c.load.result _ _ (λ found shown. uncleared_reports_are c.args.outcome c.args.division old (state g.S.Store c.load.new.conn) found (c.requires early) (rw (c.store.ensures, c.store-2.ensures, c.store-3.ensures) at shown)) (c.load.ensures.shown clean)

@@ -1,0 +1,23 @@
+//! The room in its tables: loads, puts and drops of rows, and the room that the tables stand for.
+//!
+//! A load gives the rows that the tables stand for, a put or a drop makes one change of them. Loads
+//! run on a connection, also outside a transaction; puts and drops inside one.
+#![tactic(auto)]
+
+pub mod areas;
+pub mod assignments;
+pub mod calls;
+pub mod divisions;
+#[cfg(test)]
+mod in_memory;
+pub mod incidents;
+pub mod laws;
+pub mod loans;
+pub mod meta;
+pub mod offers;
+pub mod points;
+mod reading;
+pub mod reports;
+pub mod terminals;
+pub mod turns;
+pub mod vehicles;

@@ -1,0 +1,69 @@
+//! The version and the zone of the room in their table.
+
+ghost use Rattle.std.specs.Prelude.{◌≡◌, false, [], ◌∷◌, string_bytes, IsTrue, IfOk, OnOk, OnErr};
+ghost use Rattle.sqlite.specs.Held.{state};
+ghost use Rattle.sqlite.specs.State.{HasCleanDisk, IsUnchanged, Survives};
+ghost use Rattle.table_laws.specs.Outcomes.{Keeps};
+ghost use Rattle.table_laws.specs.Tables.{AreNumbered};
+ghost use Rattle.room_model.specs.Room.{Room};
+ghost use Rattle.room_columns.specs.Rows.{meta_row};
+ghost use Rattle.room_schema.specs.Definitions.{IsBlank};
+ghost use Rattle.room_schema.specs.Schema.{room_schema, meta_table};
+ghost use Rattle.room_tables.specs.Stands.{House, Stands, StandsFor, empty_room};
+ghost use Rattle.room_tables.specs.Writes.{Changes};
+
+use room_columns::meta::{meta_columns, zone_of};
+use room_schema::faults::Fault;
+use sqlite::{Alter, Connection, Row, Transaction};
+use std::alloc::Global;
+use table_laws::reading::select;
+use table_laws::writing::write;
+
+const ALL_META: &str = "SELECT id, version, zone FROM meta ORDER BY id";
+
+const PUT_META: &str = "INSERT INTO meta VALUES (?1, ?2, ?3) ON CONFLICT (id) \
+    DO UPDATE SET id = excluded.id, version = excluded.version, zone = excluded.zone";
+
+/// The zone in which the days of the room begin. Anything but one row of this version is `Storage`.
+pub fn zone<S: Alter>(alloc: Global, conn: &mut Connection<S>) -> Result<String, Fault>
+    requires { HasCleanDisk (state S.Store conn.old) → (state S.Store conn.old).now.schema ≡ room_schema }
+    ensures zone { HasCleanDisk (state S.Store conn.new) → IfOk result (λ zone. (house : House) (room : Room) → Stands (state S.Store conn.old).now.trees house room → string_bytes zone ≡ house.zone) }
+    ensures found { HasCleanDisk (state S.Store conn.new) → IfOk result (λ zone. AreNumbered ((state S.Store conn.old).now.trees meta_table.tree) → StandsFor (state S.Store conn.old).now.trees meta_table meta_row (string_bytes zone ∷ [])) }
+    ensures ok { HasCleanDisk (state S.Store conn.new) → OnOk result (IsUnchanged (state S.Store conn.old) (state S.Store conn.new)) }
+    ensures err { HasCleanDisk (state S.Store conn.new) → OnErr result (Keeps (state S.Store conn.old) (state S.Store conn.new)) }
+    ensures mode { conn.old.in_transaction ≡ false → conn.new.in_transaction ≡ false }
+    ensures survives { Survives (state S.Store conn.old) (state S.Store conn.new) (λ _. ⊥) }
+{
+    let shown = select(conn, ALL_META, &[])?;
+    zone_in(alloc, shown.as_slice())
+}
+
+// The zone of the one row.
+fn zone_in(alloc: Global, shown: &[Row]) -> Result<String, Fault>
+    ensures { IfOk result (λ zone. meta_row (string_bytes zone) ∷ [] ≡ shown.now) }
+{
+    match shown {
+        [row] => match zone_of(row) {
+            Some(zone) => Ok(String::from_str(alloc, zone)?),
+            None => Err(Fault::Storage),
+        },
+        _ => Err(Fault::Storage),
+    }
+}
+
+/// Puts the version of these tables and a zone. In tables without rows this makes a room without
+/// rows.
+pub fn put_meta<S: Alter>(tx: &mut Transaction<'_, S>, zone: &str) -> Result<(), Fault>
+    requires schema { HasCleanDisk (state S.Store tx.old.conn.now) → (state S.Store tx.old.conn.now).now.schema ≡ room_schema }
+    requires inside { HasCleanDisk (state S.Store tx.old.conn.now) → IsTrue (state S.Store tx.old.conn.now).in_transaction }
+    ensures ok { HasCleanDisk (state S.Store tx.new.conn.now) → OnOk result (Changes (state S.Store tx.old.conn.now) (state S.Store tx.new.conn.now)
+        (λ house. record house { zone = zone.now }) (λ room. room)) }
+    ensures begun { HasCleanDisk (state S.Store tx.new.conn.now) → OnOk result (IsBlank (state S.Store tx.old.conn.now).now.trees
+        → Stands (state S.Store tx.new.conn.now).now.trees (record { zone = zone.now; terminals = [] }) empty_room) }
+    ensures err { HasCleanDisk (state S.Store tx.new.conn.now) → OnErr result (Keeps (state S.Store tx.old.conn.now) (state S.Store tx.new.conn.now)) }
+    ensures survives { Survives (state S.Store tx.old.conn.now) (state S.Store tx.new.conn.now) (λ _. ⊥) }
+    ensures same_reference { tx.new.conn.ghost_name ≡ tx.old.conn.ghost_name }
+{
+    write(tx, PUT_META, &meta_columns(zone))?;
+    Ok(())
+}

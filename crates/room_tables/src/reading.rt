@@ -1,0 +1,132 @@
+//! Selections, read as rows of the room.
+
+ghost use Rattle.std.specs.Prelude.{◌≡◌, ◌++◌, [], ◌∷◌, false, map, IsTrue, IfOk, OnOk, OnErr};
+ghost use Rattle.sqlite.specs.Given.{IsPlain};
+ghost use Rattle.sqlite.specs.Held.{state};
+ghost use Rattle.sqlite.specs.Listing.{understood};
+ghost use Rattle.sqlite.specs.State.{HasCleanDisk, IsUnchanged, Shown, Survives};
+ghost use Rattle.sqlite.specs.Values.{bound};
+ghost use Rattle.room_types.specs.Keyed.{IsKeyed, put_row};
+ghost use Rattle.table_laws.specs.Outcomes.{Keeps};
+ghost use Rattle.room_tables.specs.Finds.{listed};
+
+use room_columns::columns::Stored;
+use room_schema::faults::Fault;
+use room_types::rows::{Row, Rows};
+use sqlite::{Alter, Connection};
+use sqlite_value::value::ValueRef;
+use std::alloc::Global;
+use table_laws::reading::select;
+
+/// The rows that a selection shows. A row that is none of its table is `Storage`, and so are rows
+/// whose keys don't rise.
+pub(crate) fn load<X: Stored + Row, S: Alter>(
+    alloc: Global,
+    conn: &mut Connection<S>,
+    text: &str,
+    params: &[ValueRef<'_>],
+) -> Result<Rows<X>, Fault>
+    requires { HasCleanDisk (state S.Store conn.old) → IsPlain (understood (state S.Store conn.old).now.schema text.now) }
+    ensures shown { HasCleanDisk (state S.Store conn.new) → IfOk result (λ rows. Shown text.now (bound params.now) (state S.Store conn.old) (state S.Store conn.new) (map X.cells rows)) }
+    ensures keyed { IfOk result (IsKeyed X.Key.cmp X.key_of) }
+    ensures ok { HasCleanDisk (state S.Store conn.new) → OnOk result (IsUnchanged (state S.Store conn.old) (state S.Store conn.new)) }
+    ensures err { HasCleanDisk (state S.Store conn.new) → OnErr result (Keeps (state S.Store conn.old) (state S.Store conn.new)) }
+    ensures mode { conn.old.in_transaction ≡ false → conn.new.in_transaction ≡ false }
+    ensures survives { Survives (state S.Store conn.old) (state S.Store conn.new) (λ _. ⊥) }
+{
+    let shown = select(conn, text, params)?;
+    rows_of(alloc, shown.as_slice())
+}
+
+/// The values that a selection shows, in its order. A row that is none of its table is `Storage`.
+pub(crate) fn list<X: Stored, S: Alter>(
+    alloc: Global,
+    conn: &mut Connection<S>,
+    text: &str,
+    params: &[ValueRef<'_>],
+) -> Result<Vec<X>, Fault>
+    requires { HasCleanDisk (state S.Store conn.old) → IsPlain (understood (state S.Store conn.old).now.schema text.now) }
+    ensures shown { HasCleanDisk (state S.Store conn.new) → IfOk result (λ found. Shown text.now (bound params.now) (state S.Store conn.old) (state S.Store conn.new) (map X.cells found.items)) }
+    ensures ok { HasCleanDisk (state S.Store conn.new) → OnOk result (IsUnchanged (state S.Store conn.old) (state S.Store conn.new)) }
+    ensures err { HasCleanDisk (state S.Store conn.new) → OnErr result (Keeps (state S.Store conn.old) (state S.Store conn.new)) }
+    ensures mode { conn.old.in_transaction ≡ false → conn.new.in_transaction ≡ false }
+    ensures survives { Survives (state S.Store conn.old) (state S.Store conn.new) (λ _. ⊥) }
+{
+    let shown = select(conn, text, params)?;
+    list_of(alloc, shown.as_slice())
+}
+
+/// The row that a selection by a key shows; none where it shows none.
+pub(crate) fn find<X: Stored, S: Alter>(
+    conn: &mut Connection<S>,
+    text: &str,
+    params: &[ValueRef<'_>],
+) -> Result<Option<X>, Fault>
+    requires { HasCleanDisk (state S.Store conn.old) → IsPlain (understood (state S.Store conn.old).now.schema text.now) }
+    ensures shown { HasCleanDisk (state S.Store conn.new) → IfOk result (λ row. Shown text.now (bound params.now) (state S.Store conn.old) (state S.Store conn.new) (map X.cells (listed row))) }
+    ensures ok { HasCleanDisk (state S.Store conn.new) → OnOk result (IsUnchanged (state S.Store conn.old) (state S.Store conn.new)) }
+    ensures err { HasCleanDisk (state S.Store conn.new) → OnErr result (Keeps (state S.Store conn.old) (state S.Store conn.new)) }
+    ensures mode { conn.old.in_transaction ≡ false → conn.new.in_transaction ≡ false }
+    ensures survives { Survives (state S.Store conn.old) (state S.Store conn.new) (λ _. ⊥) }
+{
+    let shown = select(conn, text, params)?;
+    row_of(shown.as_slice())
+}
+
+// The rows that stand in columns, in the order of their keys.
+fn rows_of<X: Stored + Row>(alloc: Global, shown: &[sqlite::Row]) -> Result<Rows<X>, Fault>
+    ensures shown { IfOk result (λ rows. map X.cells rows ≡ shown.now) }
+    ensures keyed { IfOk result (IsKeyed X.Key.cmp X.key_of) }
+{
+    let mut rows = Rows::new(alloc);
+    for columns in shown {
+        let Some(row) = X::read(columns) else {
+            return Err(Fault::Storage);
+        };
+        if !is_next(&rows, &row) {
+            return Err(Fault::Storage);
+        }
+        let Ok(_) = rows.put(row) else {
+            return Err(Fault::Memory);
+        };
+    }
+    Ok(rows)
+}
+
+// The values that stand in columns, in their order.
+fn list_of<X: Stored>(alloc: Global, shown: &[sqlite::Row]) -> Result<Vec<X>, Fault>
+    ensures { IfOk result (λ found. map X.cells found.items ≡ shown.now) }
+{
+    let mut found = Vec::new(alloc);
+    for columns in shown {
+        let Some(value) = X::read(columns) else {
+            return Err(Fault::Storage);
+        };
+        found.push(value)?;
+    }
+    Ok(found)
+}
+
+// Whether the key of a row is above those of these.
+fn is_next<X: Row>(rows: &Rows<X>, row: &X) -> bool
+    ensures { IsTrue result → put_row X.Key.cmp X.key_of rows.now row.now ≡ rows.now ++ row.now ∷ [] }
+{
+    match rows.as_slice().last() {
+        Some(last) => last.key().cmp(&row.key()).is_lt(),
+        None => true,
+    }
+}
+
+// The one row that stands in columns, or none.
+fn row_of<X: Stored>(shown: &[sqlite::Row]) -> Result<Option<X>, Fault>
+    ensures { IfOk result (λ row. map X.cells (listed row) ≡ shown.now) }
+{
+    match shown {
+        [] => Ok(None),
+        [columns] => match X::read(columns) {
+            Some(row) => Ok(Some(row)),
+            None => Err(Fault::Storage),
+        },
+        _ => Err(Fault::Storage),
+    }
+}

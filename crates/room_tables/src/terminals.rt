@@ -1,0 +1,116 @@
+//! Terminals in their table.
+
+ghost use Rattle.std.specs.Prelude.{◌≡◌, false, filter, map, IsTrue, IfOk, OnOk, OnErr};
+ghost use Rattle.sqlite.specs.Held.{state};
+ghost use Rattle.sqlite.specs.State.{HasCleanDisk, IsUnchanged, Survives};
+ghost use Rattle.table_laws.specs.Outcomes.{Keeps};
+ghost use Rattle.table_laws.specs.Tables.{AreNumbered};
+ghost use Rattle.room_types.specs.Keyed.{IsKeyed, put_row};
+ghost use Rattle.room_model.specs.Enrol.{is_crew, terminal_at as found_terminal, terminal_key, token_cmp};
+ghost use Rattle.room_model.specs.Room.{Room};
+ghost use Rattle.room_columns.specs.Rows.{terminal_row};
+ghost use Rattle.room_schema.specs.Schema.{room_schema, terminals_table};
+ghost use Rattle.room_tables.specs.Stands.{House, Stands, StandsFor};
+ghost use Rattle.room_tables.specs.Writes.{Changes};
+
+use crate::reading::{find, list};
+use room_columns::columns::Field;
+use room_columns::terminals::terminal_columns;
+use room_schema::faults::Fault;
+use room_types::callsign::Callsign;
+use room_types::fleet::Terminal;
+use room_types::token::Token;
+use sqlite::{Alter, Connection, Transaction};
+use std::alloc::Global;
+use table_laws::writing::write;
+
+const ALL_TERMINALS: &str = "SELECT token, role, number, callsign FROM terminals ORDER BY token";
+
+const TERMINAL_AT: &str =
+    "SELECT token, role, number, callsign FROM terminals WHERE token = ?1 ORDER BY token";
+
+const CREW_TERMINALS: &str =
+    "SELECT token, role, number, callsign FROM terminals WHERE callsign = ?1 ORDER BY token";
+
+const PUT_TERMINAL: &str = "INSERT INTO terminals VALUES (?1, ?2, ?3, ?4) ON CONFLICT (token) \
+    DO UPDATE SET token = excluded.token, role = excluded.role, number = excluded.number, \
+    callsign = excluded.callsign";
+
+/// All terminals, in the order of their tokens.
+pub fn all_terminals<S: Alter>(
+    alloc: Global,
+    conn: &mut Connection<S>,
+) -> Result<Vec<Terminal>, Fault>
+    requires { HasCleanDisk (state S.Store conn.old) → (state S.Store conn.old).now.schema ≡ room_schema }
+    ensures terminals { HasCleanDisk (state S.Store conn.new) → IfOk result (λ terminals. (house : House) (room : Room) → Stands (state S.Store conn.old).now.trees house room → terminals.items ≡ house.terminals) }
+    ensures found { HasCleanDisk (state S.Store conn.new) → IfOk result (λ terminals. AreNumbered ((state S.Store conn.old).now.trees terminals_table.tree) → StandsFor (state S.Store conn.old).now.trees terminals_table terminal_row terminals.items) }
+    ensures keyed { IfOk result (λ terminals. IsKeyed token_cmp terminal_key terminals.items) }
+    ensures ok { HasCleanDisk (state S.Store conn.new) → OnOk result (IsUnchanged (state S.Store conn.old) (state S.Store conn.new)) }
+    ensures err { HasCleanDisk (state S.Store conn.new) → OnErr result (Keeps (state S.Store conn.old) (state S.Store conn.new)) }
+    ensures mode { conn.old.in_transaction ≡ false → conn.new.in_transaction ≡ false }
+    ensures survives { Survives (state S.Store conn.old) (state S.Store conn.new) (λ _. ⊥) }
+{
+    let terminals = list(alloc, conn, ALL_TERMINALS, &[])?;
+    if are_in_order(terminals.as_slice()) {
+        Ok(terminals)
+    } else {
+        Err(Fault::Storage)
+    }
+}
+
+// Whether each token is below the next.
+fn are_in_order(terminals: &[Terminal]) -> bool
+    ensures { IsTrue result → IsKeyed token_cmp terminal_key terminals.now }
+{
+    for at in 1..terminals.len() {
+        if !terminals[at - 1].token.cmp(&terminals[at].token).is_lt() {
+            return false;
+        }
+    }
+    true
+}
+
+/// The terminal of a token.
+pub fn terminal_at<S: Alter>(
+    conn: &mut Connection<S>,
+    token: &Token,
+) -> Result<Option<Terminal>, Fault>
+    requires { HasCleanDisk (state S.Store conn.old) → (state S.Store conn.old).now.schema ≡ room_schema }
+    ensures row { HasCleanDisk (state S.Store conn.new) → IfOk result (λ row. (house : House) (room : Room) → Stands (state S.Store conn.old).now.trees house room → row ≡ found_terminal token.now house.terminals) }
+    ensures ok { HasCleanDisk (state S.Store conn.new) → OnOk result (IsUnchanged (state S.Store conn.old) (state S.Store conn.new)) }
+    ensures err { HasCleanDisk (state S.Store conn.new) → OnErr result (Keeps (state S.Store conn.old) (state S.Store conn.new)) }
+    ensures mode { conn.old.in_transaction ≡ false → conn.new.in_transaction ≡ false }
+    ensures survives { Survives (state S.Store conn.old) (state S.Store conn.new) (λ _. ⊥) }
+{
+    find(conn, TERMINAL_AT, &[token.store()])
+}
+
+/// The terminals of a vehicle's crew.
+pub fn crew_terminals<S: Alter>(
+    alloc: Global,
+    conn: &mut Connection<S>,
+    callsign: &Callsign,
+) -> Result<Vec<Terminal>, Fault>
+    requires { HasCleanDisk (state S.Store conn.old) → (state S.Store conn.old).now.schema ≡ room_schema }
+    ensures terminals { HasCleanDisk (state S.Store conn.new) → IfOk result (λ terminals. (house : House) (room : Room) → Stands (state S.Store conn.old).now.trees house room → terminals.items ≡ filter (λ t. is_crew callsign.now t.who) house.terminals) }
+    ensures ok { HasCleanDisk (state S.Store conn.new) → OnOk result (IsUnchanged (state S.Store conn.old) (state S.Store conn.new)) }
+    ensures err { HasCleanDisk (state S.Store conn.new) → OnErr result (Keeps (state S.Store conn.old) (state S.Store conn.new)) }
+    ensures mode { conn.old.in_transaction ≡ false → conn.new.in_transaction ≡ false }
+    ensures survives { Survives (state S.Store conn.old) (state S.Store conn.new) (λ _. ⊥) }
+{
+    list(alloc, conn, CREW_TERMINALS, &[callsign.store()])
+}
+
+/// Puts a terminal in its token's place.
+pub fn put_terminal<S: Alter>(tx: &mut Transaction<'_, S>, terminal: &Terminal) -> Result<(), Fault>
+    requires schema { HasCleanDisk (state S.Store tx.old.conn.now) → (state S.Store tx.old.conn.now).now.schema ≡ room_schema }
+    requires inside { HasCleanDisk (state S.Store tx.old.conn.now) → IsTrue (state S.Store tx.old.conn.now).in_transaction }
+    ensures ok { HasCleanDisk (state S.Store tx.new.conn.now) → OnOk result (Changes (state S.Store tx.old.conn.now) (state S.Store tx.new.conn.now)
+        (λ house. record house { terminals = put_row token_cmp terminal_key house.terminals terminal.now }) (λ room. room)) }
+    ensures err { HasCleanDisk (state S.Store tx.new.conn.now) → OnErr result (Keeps (state S.Store tx.old.conn.now) (state S.Store tx.new.conn.now)) }
+    ensures survives { Survives (state S.Store tx.old.conn.now) (state S.Store tx.new.conn.now) (λ _. ⊥) }
+    ensures same_reference { tx.new.conn.ghost_name ≡ tx.old.conn.ghost_name }
+{
+    write(tx, PUT_TERMINAL, &terminal_columns(terminal))?;
+    Ok(())
+}
