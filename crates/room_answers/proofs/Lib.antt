@@ -1,0 +1,3 @@
+pub mod NoFloats
+pub mod HeadLines
+pub mod Dates

@@ -1,0 +1,4 @@
+pub mod Asking
+pub mod Bodies
+pub mod Fields
+pub mod Roles

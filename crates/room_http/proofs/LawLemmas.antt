@@ -1,0 +1,74 @@
+-- Outcomes at their moments get one answer each.
+use Rattle.std.proofs.Common.{◌≡◌, ◌∙◌, sym, ap, subst, ℕ, ℤ, List, [], ◌∷◌, ◌++◌, Bool, true, false, Option, Some, None, Result, Ok, Err}
+use Rattle.std.specs.Prelude.{MatchBool, pos}
+use Rattle.jiff_core.specs.Calendar.{days_from_civil}
+use Rattle.room_types.specs.declared.asks.Ask.{Ask}
+use Rattle.room_types.specs.declared.asks.Ask.TheVariants as ask
+use Rattle.room_types.specs.declared.asks.Event.{Event}
+use Rattle.room_types.specs.declared.asks.Who.{Who}
+use Rattle.room_types.specs.declared.fleet.Terminal.{Terminal}
+use Rattle.room_types.specs.declared.refusals.Refusal.{Refusal}
+use Rattle.room_types.specs.declared.refusals.Refusal.TheVariants.{WrongRole}
+use Rattle.room_model.specs.Room.{Room}
+use Rattle.room_message.specs.Messages.{WholeMessage, terminal_of}
+use Rattle.room_routes.specs.Targets.{routed}
+use Rattle.room_routes.specs.declared.targets.Target.{Target}
+use Rattle.room_bodies.specs.Asking.{wanted_by}
+use Rattle.room_bodies.specs.Roles.{is_of, role_of}
+use Rattle.room_bodies.specs.declared.asking.Wanted.{Wanted}
+use Rattle.room_bodies.specs.declared.asking.Wanted.TheVariants as wanted
+use Rattle.room_answers.specs.Replies.{IsReply}
+use Rattle.room_answers.proofs.Dates.{one_reply_law}
+use Rattle.room_days.specs.Days.{zone_of}
+use Rattle.room_days.specs.declared.zones.Zone.{Zone}
+use Rattle.room_days.proofs.SpanLaws.{one_span_law}
+use Rattle.room_http.specs.Events.{AsksAs, AsksAt, AsksBy, IsAskFor, named}
+use Rattle.room_http.specs.Laws.{IsOneTalk}
+use Rattle.room_http.specs.Outcomes.{message, refused, is_head_only, is_closing}
+use Rattle.room_http.specs.Rooms.{Step}
+use Rattle.room_http.specs.Talk.{Timed, Finds, replied, IsReplyTo, IsTalk}
+
+one_ask : (zone : Zone) (given : Wanted) (a b : Ask) → IsAskFor zone given a → IsAskFor zone given b → a ≡ b
+one_ask zone (wanted.Ask x) a b is also = is ∙ sym also
+one_ask zone (wanted.Times day) a b is also =
+    is.2 ∙ ap (λ (span : ℤ × ℤ). ask.Times span.0 span.1) (one_span_law (zone_of zone) (days_from_civil (pos day.year) day.month day.day) is.0 also.0 is.1 also.1) ∙ sym also.2
+
+one_by : (zone : Zone) (at : ℕ) (who : Who) (given : Option Wanted) (f g : Result Event Refusal) → AsksBy zone at who given f → AsksBy zone at who given g → f ≡ g
+one_by zone at who None f g is also = is ∙ sym also
+one_by zone at who (Some w) f g is also =
+    is.2 ∙ ap (λ (a : Ask). Ok (record { who = who; ask = a; at = at })) (one_ask zone w is.0 also.0 is.1 also.1) ∙ sym also.2
+
+one_role : (may : Bool) (zone : Zone) (at : ℕ) (who : Who) (given : Option Wanted) (f g : Result Event Refusal)
+    → MatchBool may (AsksBy zone at who given f) (f ≡ Err WrongRole) → MatchBool may (AsksBy zone at who given g) (g ≡ Err WrongRole) → f ≡ g
+one_role true zone at who given f g is also = one_by zone at who given f g is also
+one_role false zone at who given f g is also = is ∙ sym also
+
+one_as : (zone : Zone) (t : Target) (body : List ℕ) (at : ℕ) (who : Option Who) (f g : Result Event Refusal) → AsksAs zone t body at who f → AsksAs zone t body at who g → f ≡ g
+one_as zone t body at None f g is also = is ∙ sym also
+one_as zone t body at (Some who) f g is also = one_role (is_of (role_of t) who) zone at who (wanted_by t body) f g is also
+
+one_at : (zone : Zone) (terminals : List Terminal) (m : WholeMessage) (at : ℕ) (r : Result Target Refusal) (f g : Result Event Refusal)
+    → AsksAt zone terminals m at r f → AsksAt zone terminals m at r g → f ≡ g
+one_at zone terminals m at (Ok t) f g is also = one_as zone t m.body at (named terminals (terminal_of m.head)) f g is also
+one_at zone terminals m at (Err r) f g is also = is ∙ sym also
+
+one_find : (zone : Zone) (terminals : List Terminal) (x : Timed) (f g : Result Event Refusal) → Finds zone terminals x f → Finds zone terminals x g → f ≡ g
+one_find zone terminals (message m, at) f g is also = one_at zone terminals m at (routed m.head.method m.head.target) f g is also
+one_find zone terminals (refused r head_only, at) f g is also = is ∙ sym also
+
+one_reply_to : (step : Step) (zone : Zone) (terminals : List Terminal) (room : Room) (x : Timed) (after other : Room) (bytes others : List ℕ)
+    → IsReplyTo step zone terminals room x after bytes → IsReplyTo step zone terminals room x other others → (after ≡ other) × (bytes ≡ others)
+one_reply_to step zone terminals room x after other bytes others is also =
+    let same = one_find zone terminals x is.0 also.0 is.1 also.1 in
+    let again = subst (λ (f : Result Event Refusal). IsReply (replied step f room).1 x.1 (is_head_only x.0) (is_closing x.0) bytes) same is.3 in (
+      is.2 ∙ ap (λ (f : Result Event Refusal). (replied step f room).0) same ∙ sym also.2,
+      one_reply_law (replied step also.0 room).1 x.1 (is_head_only x.0) (is_closing x.0) bytes others again also.3,
+    )
+
+pub one_talk_law : IsOneTalk
+one_talk_law step zone terminals room [] after other bytes others is also = (is.0 ∙ sym also.0, is.1 ∙ sym also.1)
+one_talk_law step zone terminals room (x ∷ more) after other bytes others is also =
+    let first = one_reply_to step zone terminals room x is.0 also.0 is.1 also.1 is.4 also.4 in
+    let again = subst (λ (r : Room). IsTalk step zone terminals r more after is.2) first.0 is.5 in
+    let rest = one_talk_law step zone terminals also.0 more after other is.2 also.2 again also.5 in
+    (rest.0, is.3 ∙ ap (λ t. t ++ is.2) first.1 ∙ ap (λ t. also.1 ++ t) rest.1 ∙ sym also.3)

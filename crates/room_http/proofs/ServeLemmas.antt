@@ -1,0 +1,186 @@
+-- Lemmas on a connection that is served.
+use Rattle.std.proofs.Common.{◌≡◌, ◌≤◌, subst, refl, ℕ, List, [], ◌∷◌, ◌++◌, map, append-nil, inl, inr, Bool, true, false, Option, Some, None, Ok, Err, All}
+use Rattle.std.proofs.lemmas.List.{map-append}
+use Rattle.std.proofs.lemmas.List.Elements.{All-nil, All-push}
+use Rattle.std.specs.Io.KnownBytes.{Keeps, Appends}
+use Rattle.room_types.specs.declared.fleet.Terminal.{Terminal}
+use Rattle.room_types.specs.declared.refusals.Refusal.{Refusal}
+use Rattle.room_model.specs.Room.{Room}
+use Rattle.room_message.proofs.StreamLemmas.{Appends-more, Appends-none}
+use Rattle.room_http.specs.declared.moments.TheConstants.{LAST_MOMENT}
+use Rattle.room_http.specs.declared.serving.ServeEnd.{ServeEnd}
+use Rattle.room_http.specs.declared.serving.ServeEnd.TheVariants.{Closed, Cut, ReadFault, WriteFault, ClockFault, Turns, Memory}
+use Rattle.room_answers.specs.Replies.{fixed_bytes}
+use Rattle.room_http.specs.Answering.{Answers}
+use Rattle.room_http.specs.Moments.{HasNoMoment}
+use Rattle.room_http.specs.Outcomes.{Outcome, is_closing, is_head_only, Begins, HasNext}
+use Rattle.room_days.specs.declared.zones.Zone.{Zone}
+use Rattle.room_http.specs.Rooms.{Step, IsWant}
+use Rattle.room_http.specs.Serving.{Sides, Finish, Answered, Wanted, Broken, ServeIs}
+use Rattle.room_http.specs.Talk.{Timed, IsFront, BreaksOff, Talks}
+use Rattle.room_http.proofs.StreamLemmas.{Passes, Begins-push}
+use Rattle.room_http.proofs.TalkLemmas.{Talks-none, Talks-append}
+
+-- the outcomes were answered, all of them stay open, and these bytes are left
+pub record Going (step : Step) (zone : Zone) (old : Sides) (left held given : Option (List ℕ)) (trusted : Type 0) (stood stands : List Terminal → Room → Type 0) (outs : List Timed) : Type 0 where
+  pub begins : (stream : List ℕ) → old.left ≡ Some stream → (rest : List ℕ) × (left ≡ Some rest) × Begins stream (map (λ x. x.0) outs) rest
+  pub stay : All (λ x. is_closing x.0 ≡ false) outs
+  pub timed : All (λ x. x.1 ≤ LAST_MOMENT) outs
+  pub moments : Appends old.given given (map (λ x. x.1) outs)
+  pub talk : Talks step zone trusted stood old.held held outs (λ terminals after tail. stands terminals after × (tail ≡ []))
+
+-- the clock gave no moment, some moments later
+no_moment_later : (a b c : Option (List ℕ)) (was_none : Bool) (moments : List ℕ) → Appends a b moments → HasNoMoment b c was_none [] → HasNoMoment a c was_none moments
+no_moment_later a b c was_none moments first (inl none) = inl (none.0, rw append-nil at (Appends-more a b c moments [] first none.1))
+no_moment_later a b c was_none moments first (inr late) = inr (late.0, late.1, Appends-more a b c moments (late.0 ∷ []) first late.2)
+
+-- the stream that is left goes on
+still_begins : (stream : List ℕ) (outs : List Timed) (left after : Option (List ℕ)) → ((rest : List ℕ) × (left ≡ Some rest) × Begins stream (map (λ x. x.0) outs) rest)
+    → Keeps left after → (rest : List ℕ) × (after ≡ Some rest) × Begins stream (map (λ x. x.0) outs) rest
+still_begins stream outs None after begins same = absurd (cc)
+still_begins stream outs (Some rest) None begins same = absurd same
+still_begins stream outs (Some rest) (Some next) begins same =
+    let is : begins.0 ≡ next = cc in
+    (next, refl, subst (λ (t : List ℕ). Begins stream (map (λ x. x.0) outs) t) is begins.2)
+
+module _ (step : Step) (zone : Zone) (old : Sides) where
+  pub Going-none : (trusted : Type 0) (stood : List Terminal → Room → Type 0) → Going step zone old old.left old.held old.given trusted stood stood []
+  Going-none trusted stood = record {
+    begins = λ stream known. (stream, known, refl);
+    stay = All-nil (λ (x : Timed). is_closing x.0 ≡ false);
+    timed = All-nil (λ (x : Timed). x.1 ≤ LAST_MOMENT);
+    moments = Appends-none old.given;
+    talk = Talks-none step zone trusted stood old.held;
+  }
+
+  module _ (early : Type 0) (stood stays : List Terminal → Room → Type 0) (left held given : Option (List ℕ)) (outs : List Timed) where
+    -- the bytes that are left come from the reader to the inbox
+    pub Going-kept : (after : Option (List ℕ)) → Going step zone old left held given early stood stays outs → Keeps left after
+        → Going step zone old after held given early stood stays outs
+    Going-kept after before same = record {
+      begins = λ stream known. still_begins stream outs left after (before.begins stream known) same;
+      stay = before.stay;
+      timed = before.timed;
+      moments = before.moments;
+      talk = before.talk;
+    }
+
+    -- serving ended between outcomes
+    pub Going-ends : (reads : Option ℕ) (read_failed read_ended write_failed was_none : Bool) (follows : List ℕ → Type 0) → Going step zone old left held given early stood stays outs
+        → ((rest : List ℕ) → left ≡ Some rest → follows rest)
+        → Answered step zone old (record { reads = reads; held = held; given = given; read_failed = read_failed; read_ended = read_ended; write_failed = write_failed; was_none = was_none }) early stood stays outs follows
+    Going-ends reads read_failed read_ended write_failed was_none follows before then = record {
+      begins = λ stream known. let begins = before.begins stream known in (begins.0, begins.2, then begins.0 begins.1);
+      timed = (before.timed, before.moments);
+      talk = before.talk;
+    }
+
+    module _ (before : Going step zone old left held given early stood stays outs) (new : Finish) (late : Type 0) (stands : List Terminal → Room → Type 0) (earlier : late → early)
+        (after : Option (List ℕ)) (o : Outcome) (pass : Passes left after o) where
+      begins_more : (at : ℕ) (stream : List ℕ) → old.left ≡ Some stream → (next : List ℕ) × (after ≡ Some next) × Begins stream (map (λ x. x.0) (outs ++ (o, at) ∷ [])) next
+      begins_more at stream known =
+          let begins = before.begins stream known in
+          let passes = pass.passes begins.0 begins.1 in
+          (passes.0, passes.2, Begins-push stream outs begins.0 (o, at) passes.0 begins.2 before.stay passes.1)
+
+      has_next : (stream : List ℕ) → old.left ≡ Some stream → (rest : List ℕ) × Begins stream (map (λ x. x.0) outs) rest × HasNext o rest
+      has_next stream known =
+          let begins = before.begins stream known in
+          let passes = pass.passes begins.0 begins.1 in
+          (begins.0, begins.2, (passes.0, passes.1))
+
+      moments_more : (at : ℕ) → Appends given new.given (at ∷ []) → Appends old.given new.given (map (λ x. x.1) (outs ++ (o, at) ∷ []))
+      moments_more at moment =
+          rw (map-append (λ (x : Timed). x.1) outs ((o, at) ∷ [])) (Appends-more old.given given new.given (map (λ x. x.1) outs) (at ∷ []) before.moments moment)
+
+      timed_more : (at : ℕ) → at ≤ LAST_MOMENT → All (λ x. x.1 ≤ LAST_MOMENT) (outs ++ (o, at) ∷ [])
+      timed_more at within = All-push (λ (x : Timed). x.1 ≤ LAST_MOMENT) outs (o, at) before.timed within
+
+      -- what is said goes on from here
+      talk_more : (more : List Timed) (says : List Terminal → Room → List ℕ → Type 0) → Talks step zone late stays held new.held more says
+          → Talks step zone late stood old.held new.held (outs ++ more) says
+      talk_more more says talk = Talks-append step zone early late stood stays old.held held new.held outs more says earlier before.talk talk
+
+      talk_kept : (says : List Terminal → Room → List ℕ → Type 0) → Talks step zone late stays held new.held [] says
+          → Talks step zone late stood old.held new.held outs says
+      talk_kept says talk = rw append-nil at (talk_more [] says talk)
+
+      -- one more was answered, and stays open
+      pub Going-more : Answers step zone held new.held given new.given new.write_failed new.was_none late stays stands o (Ok tt) → is_closing o ≡ false
+          → (more : List Timed) × Going step zone old after new.held new.given late stood stands more
+      Going-more answers open_ =
+          let at = answers.0 in (
+            outs ++ (o, at) ∷ [],
+            record {
+              begins = begins_more at;
+              stay = All-push (λ (x : Timed). is_closing x.0 ≡ false) outs (o, at) before.stay open_;
+              timed = timed_more at answers.1.0;
+              moments = moments_more at answers.1.1;
+              talk = talk_more ((o, at) ∷ []) (λ terminals room tail. stands terminals room × (tail ≡ [])) answers.3;
+            },
+          )
+
+      -- one more was answered, and closes
+      pub closes : (turns : ℕ) → Answers step zone held new.held given new.given new.write_failed new.was_none late stays stands o (Ok tt) → is_closing o ≡ true
+          → ServeIs step zone old new late stood stands turns Closed
+      closes turns answers closing =
+          let at = answers.0 in
+          inr (inl (
+            outs ++ (o, at) ∷ [],
+            record {
+              begins = λ stream known. let begins = begins_more at stream known in (begins.0, begins.2, tt);
+              timed = (timed_more at answers.1.0, moments_more at answers.1.1);
+              talk = talk_more ((o, at) ∷ []) (λ terminals room tail. stands terminals room × (tail ≡ [])) answers.3;
+            },
+            (outs, (o, at), refl, closing),
+          ))
+
+      wanted : (at : ℕ) (r : Refusal) (more : List ℕ → List ℕ → Type 0) → at ≤ LAST_MOMENT → Appends given new.given (at ∷ []) → IsWant r
+          → Talks step zone late stays held new.held [] (λ terminals room tail. stands terminals room × more tail (fixed_bytes r (is_head_only o)))
+          → Wanted step zone old new late stood stands outs (o, at) more
+      wanted at r more within moment want talk = record {
+        begins = has_next;
+        timed = (timed_more at within, moments_more at moment);
+        refusal = r;
+        want = want;
+        talk = talk_kept (λ terminals room tail. stands terminals room × more tail (fixed_bytes r (is_head_only o))) talk;
+      }
+
+      broken : (at : ℕ) → at ≤ LAST_MOMENT → Appends given new.given (at ∷ [])
+          → Talks step zone late stays held new.held [] (λ terminals room tail. BreaksOff step zone terminals stands room (o, at) tail)
+          → Broken step zone old new late stood stands outs (o, at)
+      broken at within moment talk = record {
+        begins = λ stream known. let begins = begins_more at stream known in (begins.0, begins.2, tt);
+        timed = (timed_more at within, moments_more at moment);
+        talk = talk_kept (λ terminals room tail. BreaksOff step zone terminals stands room (o, at) tail) talk;
+      }
+
+      -- serving ended with one more
+      pub ends : (turns : ℕ) (e : ServeEnd) → Answers step zone held new.held given new.given new.write_failed new.was_none late stays stands o (Err e)
+          → ServeIs step zone old new late stood stands turns e
+      ends turns Closed answers = inr (inr (outs, (o, answers.0), wanted answers.0 answers.2.0 (λ tail fixed. tail ≡ fixed) answers.1.0 answers.1.1 answers.2.1 answers.2.2))
+      ends turns WriteFault answers = (
+        (
+          outs,
+          (o, answers.0),
+          elim answers.3 [
+            | inl talk ↦ inl (broken answers.0 answers.1.0 answers.1.1 talk)
+            | inr want ↦ inr (wanted answers.0 want.0 IsFront answers.1.0 answers.1.1 want.1 want.2)
+          ],
+        ),
+        answers.2,
+      )
+      ends turns ClockFault answers = (
+        outs,
+        o,
+        record {
+          begins = has_next;
+          timed = before.timed;
+          clock = no_moment_later old.given given new.given new.was_none (map (λ x. x.1) outs) before.moments answers.0;
+          talk = talk_kept (λ terminals room tail. stands terminals room × (tail ≡ [])) answers.1;
+        },
+      )
+      ends turns Cut answers = absurd answers
+      ends turns ReadFault answers = absurd answers
+      ends turns Turns answers = absurd answers
+      ends turns Memory answers = absurd answers

@@ -1,0 +1,87 @@
+-- Lemmas on what is read of a stream.
+use Rattle.std.proofs.Common.{◌≡◌, ◌∙◌, ap, sym, subst, refl, arith, ℕ, ◌+◌, ◌-◌, ◌≤◌, List, [], ◌∷◌, ◌++◌, drop, map, append-nil, append_assoc, Bool, false, Option, Some, None, All}
+use Rattle.std.proofs.lemmas.List.Elements.{All-head, All-tail}
+use Rattle.std.specs.Io.KnownBytes.{prepend_known, Keeps, IsAtEnd}
+use Rattle.httparse.specs.Grammar.{print_request}
+use Rattle.room_types.specs.declared.refusals.Refusal.{Refusal}
+use Rattle.room_message.specs.Messages.{WholeMessage, HasMessage, IsRefused}
+use Rattle.room_message.specs.Streams.{CountsBy}
+use Rattle.room_http.specs.Outcomes.{Outcome, message, refused, is_closing, BeginsWith, Begins}
+
+pub CountsBy-none : (known : Option ℕ) → CountsBy 0 known known
+CountsBy-none None = refl
+CountsBy-none (Some n) = omega arith
+
+pub CountsBy-trans : (j k m : ℕ) (a b c : Option ℕ) → CountsBy j a b → CountsBy k b c → m ≡ j + k → CountsBy m a c
+CountsBy-trans j k m None None c first second is = second
+CountsBy-trans j k m None (Some n) c first second is = absurd (cc)
+CountsBy-trans j k m (Some n) None None first second is = tt
+CountsBy-trans j k m (Some n) None (Some x) first second is = absurd (cc)
+CountsBy-trans j k m (Some n) (Some x) None first second is = tt
+CountsBy-trans j k m (Some n) (Some x) (Some y) first second is = omega arith
+
+-- bytes that follow leave a message at the front
+message-append : (bytes more : List ℕ) (m : WholeMessage) (rest : List ℕ) → HasMessage bytes m rest → HasMessage (bytes ++ more) m (rest ++ more)
+message-append bytes more m rest x = record {
+  begins = record {
+    reads = (
+      x.begins.reads.0,
+      ap (λ t. t ++ more) x.begins.reads.1 ∙ append_assoc (print_request m.head) (m.body ++ rest) more
+          ∙ ap (λ t. print_request m.head ++ t) (append_assoc m.body rest more),
+    );
+    few = x.begins.few;
+    fits = x.begins.fits;
+  };
+  sound = x.sound;
+  size = x.size;
+}
+
+-- what is left after an outcome was taken, and before
+pub record Passes (before after : Option (List ℕ)) (o : Outcome) : Type 0 where
+  pub passes : (rest : List ℕ) → before ≡ Some rest → (next : List ℕ) × BeginsWith rest o next × (after ≡ Some next)
+
+-- the message at the front of the inbox is the next of the stream
+pub message_passes : (kept after : List ℕ) (left : Option (List ℕ)) (m : WholeMessage) (n : ℕ) → HasMessage kept m (drop n kept) → after ≡ drop n kept
+    → Passes (prepend_known kept left) (prepend_known after left) (message m)
+message_passes kept after None m n has is = record { passes = λ rest known. absurd (cc) }
+message_passes kept after (Some left) m n has is = record {
+  passes = λ rest known.
+      let same : kept ++ left ≡ rest = cc in
+      (drop n kept ++ left, subst (λ (s : List ℕ). HasMessage s m (drop n kept ++ left)) same (message-append kept left m (drop n kept) has), rw is refl);
+}
+
+-- what is refused at the front of the inbox is refused in the stream
+pub refusal_passes : (kept : List ℕ) (left : Option (List ℕ)) (r : Refusal) (head_only : Bool) → ((more : List ℕ) → IsRefused (kept ++ more) r head_only)
+    → Passes (prepend_known kept left) (prepend_known kept left) (refused r head_only)
+refusal_passes kept None r head_only is = record { passes = λ rest known. absurd (cc) }
+refusal_passes kept (Some left) r head_only is = record {
+  passes = λ rest known.
+      let same : kept ++ left ≡ rest = cc in
+      (rest, (subst (λ (s : List ℕ). IsRefused s r head_only) same (is left), refl), ap Some same);
+}
+
+-- the stream that is left, at its end
+pub nothing_left : (kept : List ℕ) (left : Option (List ℕ)) (rest : List ℕ) → IsAtEnd left → prepend_known kept left ≡ Some rest → rest ≡ kept
+nothing_left kept None rest end known = absurd (cc)
+nothing_left kept (Some left) rest end known =
+    let same : kept ++ left ≡ rest = cc in
+    sym same ∙ ap (λ t. kept ++ t) end ∙ append-nil kept
+
+-- one outcome more, after those that stay open
+pub Begins-push : (stream : List ℕ) (outs : List (Outcome × ℕ)) (rest : List ℕ) (x : Outcome × ℕ) (next : List ℕ)
+    → Begins stream (map (λ y. y.0) outs) rest → All (λ y. is_closing y.0 ≡ false) outs → BeginsWith rest x.0 next
+    → Begins stream (map (λ y. y.0) (outs ++ x ∷ [])) next
+Begins-push stream [] rest x next begins stay has = (next, rw begins has, λ _. refl, refl)
+Begins-push stream (y ∷ more) rest x next begins stay has =
+    let open_ = All-head (λ (z : Outcome × ℕ). is_closing z.0 ≡ false) y more stay in
+    (begins.0, begins.1, λ ends. absurd (cc), Begins-push begins.0 more rest x next begins.3 (All-tail (λ (z : Outcome × ℕ). is_closing z.0 ≡ false) y more stay) has)
+
+-- the bytes to come, with none in the inbox
+pub Keeps-prepend : (bytes : List ℕ) (left : Option (List ℕ)) → bytes ≡ [] → Keeps left (prepend_known bytes left)
+Keeps-prepend bytes None none = tt
+Keeps-prepend bytes (Some left) none = rw none refl
+
+-- the reads so far, with those of one call more
+pub reads_by : (turns before after : ℕ) (a b c : Option ℕ) → before ≤ turns → after ≤ before → CountsBy (turns - before) a b → CountsBy (before - after) b c
+    → CountsBy (turns - after) a c
+reads_by turns before after a b c within fewer first second = CountsBy-trans (turns - before) (before - after) (turns - after) a b c first second (omega arith)

@@ -1,0 +1,54 @@
+-- Lemmas on talks, one after another.
+use Rattle.std.proofs.Common.{◌≡◌, ◌∙◌, ap, sym, refl, ℕ, List, [], ◌∷◌, ◌++◌, append-nil, append_assoc, Option}
+use Rattle.std.specs.Io.KnownBytes.{Appends}
+use Rattle.room_types.specs.declared.fleet.Terminal.{Terminal}
+use Rattle.room_model.specs.Room.{Room}
+use Rattle.room_message.proofs.StreamLemmas.{Appends-more, Appends-none}
+use Rattle.room_days.specs.declared.zones.Zone.{Zone}
+use Rattle.room_http.specs.Rooms.{Step}
+use Rattle.room_http.specs.Talk.{Timed, IsReplyTo, IsTalk, Talks}
+
+module _ (step : Step) (zone : Zone) (terminals : List Terminal) where
+  pub IsTalk-append : (room mid after : Room) (xs ys : List Timed) (bytes more : List ℕ)
+      → IsTalk step zone terminals room xs mid bytes → IsTalk step zone terminals mid ys after more → IsTalk step zone terminals room (xs ++ ys) after (bytes ++ more)
+  IsTalk-append room mid after [] ys bytes more first second = rw (← first.0, first.1) second
+  IsTalk-append room mid after (x ∷ xs) ys bytes more first second = (
+    first.0,
+    first.1,
+    first.2 ++ more,
+    ap (λ t. t ++ more) first.3 ∙ append_assoc first.1 first.2 more,
+    first.4,
+    IsTalk-append first.0 mid after xs ys first.2 more first.5 second,
+  )
+
+  pub IsTalk-one : (room after : Room) (x : Timed) (bytes : List ℕ) → IsReplyTo step zone terminals room x after bytes → IsTalk step zone terminals room (x ∷ []) after bytes
+  IsTalk-one room after x bytes is = (after, bytes, [], sym (append-nil bytes), is, (refl, refl))
+
+-- what was written, and then more
+joined : (a b c : Option (List ℕ)) (first none second tail : List ℕ) → none ≡ [] → Appends a b (first ++ none) → Appends b c (second ++ tail)
+    → Appends a c (first ++ second ++ tail)
+joined a b c first none second tail is one two =
+    let whole : Appends a b first = rw (is, append-nil) at one in
+    rw append_assoc (Appends-more a b c first (second ++ tail) whole two)
+
+module _ (step : Step) (zone : Zone) where
+  pub Talks-none : (trusted : Type 0) (stood : List Terminal → Room → Type 0) (held : Option (List ℕ))
+      → Talks step zone trusted stood held held [] (λ terminals after tail. stood terminals after × (tail ≡ []))
+  Talks-none trusted stood held = λ _ terminals room stands. (room, [], [], (refl, refl), (stands, refl), Appends-none held)
+
+  -- a talk goes on where another one ended
+  pub Talks-append : (early late : Type 0) (stood stays : List Terminal → Room → Type 0) (a b c : Option (List ℕ)) (outs more : List Timed)
+      (says : List Terminal → Room → List ℕ → Type 0) → (late → early)
+      → Talks step zone early stood a b outs (λ terminals after tail. stays terminals after × (tail ≡ []))
+      → Talks step zone late stays b c more says
+      → Talks step zone late stood a c (outs ++ more) says
+  Talks-append early late stood stays a b c outs more says earlier first second trust terminals room stood_for =
+      let one = first (earlier trust) terminals room stood_for in
+      let two = second trust terminals one.0 one.4.0 in (
+        two.0,
+        one.1 ++ two.1,
+        two.2,
+        IsTalk-append step zone terminals room one.0 two.0 outs more one.1 two.1 one.3 two.3,
+        two.4,
+        joined a b c one.1 one.2 two.1 two.2 one.4.1 one.5 two.5,
+      )

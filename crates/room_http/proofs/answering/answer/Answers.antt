@@ -1,0 +1,40 @@
+use Rattle.std.proofs.Common.{◌∙◌, sym, ap, refl, [], inl, inr, append-nil}
+use Rattle.room_answers.specs.Replies.{fixed_bytes}
+use Rattle.room_http.proofs.TalkLemmas.{IsTalk-one}
+use Rattle.room_http.proofs.answering.answer.Goals as goal
+
+pub returns-in-Ok-write_all-clause-answers : goal.returns-in-Ok-write_all-clause-answers
+returns-in-Ok-write_all-clause-answers g c o shown =
+    let wrote = c.in-Ok-write_all.ensures.all in (
+      c.in-Some.at,
+      c.in-Some.ensures,
+      wrote.1,
+      λ trust terminals room stood.
+          let says = c.in-Ok.ensures.reply.says trust terminals room stood o shown in
+          (says.0, c.in-Ok.bytes.items, [], IsTalk-one _ _ _ _ _ _ _ says.1, (says.2, refl), rw (append-nil, ← c.as_slice.ensures.value) wrote.0),
+    )
+
+pub returns-in-Ok-clause-answers : goal.returns-in-Ok-clause-answers
+returns-in-Ok-clause-answers g c o shown =
+    let cut = c.in-Err-write_all.ensures.part in (
+      c.in-Some.at,
+      c.in-Some.ensures,
+      cut.4,
+      inl (λ trust terminals room stood.
+          let says = c.in-Ok.ensures.reply.says trust terminals room stood o shown in
+          (room, [], cut.0, (refl, refl), (says.0, c.in-Ok.bytes.items, says.1, says.2, (cut.1, sym c.as_slice.ensures.value ∙ cut.2)), cut.3)),
+    )
+
+pub returns-clause-answers : goal.returns-clause-answers
+returns-clause-answers g c o shown =
+    let cut = c.in-Err-write_all-2.ensures.part in (
+      c.in-Some.at,
+      c.in-Some.ensures,
+      cut.4,
+      inr (
+        c.in-Err.refusal,
+        c.in-Err.ensures.reply.wants,
+        λ trust terminals room stood.
+            (room, [], cut.0, (refl, refl), (c.in-Err.ensures.reply.says trust terminals room stood, (cut.1, ap (fixed_bytes c.in-Err.refusal) (sym (c.head_only.ensures o shown)) ∙ sym c.fixed.ensures ∙ cut.2)), cut.3),
+      ),
+    )

@@ -1,0 +1,140 @@
+use Rattle.std.proofs.Common.{◌≡◌, ◌∙◌, refl, arith, sym, drop, ◌-◌, [], inl, None, false}
+use Rattle.std.specs.Io.KnownBytes.{prepend_known}
+use Rattle.room_http.specs.Outcomes.{message, refused}
+use Rattle.room_http.specs.Serving.{Finish}
+use Rattle.room_http.proofs.ServeLemmas.{Going-none, Going-kept, Going-more, Going-ends, closes, ends}
+use Rattle.room_http.proofs.StreamLemmas.{CountsBy-none, Keeps-prepend, reads_by, message_passes, refusal_passes, nothing_left}
+use Rattle.room_http.proofs.serving.serve.Goals as goal
+use Rattle.room_http.proofs.serving.serve.Goals.{in-Ok-answer, in-Err-answer}
+
+pub messages-init : goal.messages-init
+messages-init g c =
+    let none : c.args.turns - c.args.turns ≡ 0 = omega arith in
+    record {
+      going = ([], Going-kept _ _ _ _ _ _ _ _ _ _ _ (Going-none g.M.Room.step c.args.zone.now _ _ _) (Keeps-prepend _ _ c.in-Ok-new.ensures));
+      trusted = λ trust. trust;
+      spent = omega arith;
+      reads = rw none (CountsBy-none _);
+      reader = c.requires.reader;
+      writer = c.requires.writer;
+      ready = c.requires.ready;
+    }
+
+pub returns-in-Err-clause-reads : goal.returns-in-Err-clause-reads
+returns-in-Err-clause-reads g c = (_, omega arith, reads_by _ _ _ _ _ _ c.messages.invariant.spent c.read_message.ensures.read.spent c.messages.invariant.reads c.read_message.ensures.read.count)
+
+pub returns-in-Err-clause-talk : goal.returns-in-Err-clause-talk
+returns-in-Err-clause-talk g c =
+    let whole = c.in-Ok-read_message.ensures.says.0 in
+    let end = c.in-Ok-read_message.layout.body.end in
+    let bytes = c.read_message.new.inbox in
+    let left = g.R.Source.left c.read_message.new.reader in
+    let going = c.messages.invariant.going in
+    let kept = Going-kept _ _ _ _ _ _ _ _ _ _ _ going.1 c.read_message.ensures.read.same in
+    ends _ _ _ _ _ _ _ _ _ going.0 kept _ _ _ c.in-Err.ensures.trusted (prepend_known (drop end bytes) left) (message whole.0)
+    (message_passes bytes (drop end bytes) left whole.0 end whole.1 refl) _ _ (c.in-Err.ensures.answers (message whole.0) (c.message.ensures whole.0 whole.2))
+
+pub returns-then-layout-clause-reads : goal.returns-then-layout-clause-reads
+returns-then-layout-clause-reads g c = (_, omega arith, reads_by _ _ _ _ _ _ c.messages.invariant.spent c.read_message.ensures.read.spent c.messages.invariant.reads c.read_message.ensures.read.count)
+
+pub returns-then-layout-clause-talk : goal.returns-then-layout-clause-talk
+returns-then-layout-clause-talk g c =
+    let whole = c.in-Ok-read_message.ensures.says.0 in
+    let end = c.in-Ok-read_message.layout.body.end in
+    let bytes = c.read_message.new.inbox in
+    let left = g.R.Source.left c.read_message.new.reader in
+    let going = c.messages.invariant.going in
+    let kept = Going-kept _ _ _ _ _ _ _ _ _ _ _ going.1 c.read_message.ensures.read.same in
+    closes _ _ _ _ _ _ _ _ _ going.0 kept _ _ _ c.in_default-answer.ensures.trusted (prepend_known (drop end bytes) left) (message whole.0)
+    (message_passes bytes (drop end bytes) left whole.0 end whole.1 refl) c.args.turns (c.in_default-answer.ensures.answers (message whole.0) (c.message.ensures whole.0 whole.2))
+    (sym whole.2.closing ∙ c.if-layout.true)
+
+pub messages-preserved : goal.messages-preserved
+messages-preserved g c =
+    let whole = c.in-Ok-read_message.ensures.says.0 in
+    let end = c.in-Ok-read_message.layout.body.end in
+    let bytes = c.read_message.new.inbox in
+    let left = g.R.Source.left c.read_message.new.reader in
+    let going = c.messages.invariant.going in
+    let kept = Going-kept _ _ _ _ _ _ _ _ _ _ _ going.1 c.read_message.ensures.read.same in
+    let answers = c.in_default-answer.ensures.answers (message whole.0) (c.message.ensures whole.0 whole.2) in
+    let new : Finish = record {
+      reads = None;
+      held = g.W.Sink.held c.answer.new.writer;
+      given = g.C.Clock.given c.answer.new.clock;
+      read_failed = false;
+      read_ended = false;
+      write_failed = g.W.Sink.has_failed c.answer.new.writer;
+      was_none = g.C.Clock.was_none c.answer.new.clock;
+    } in
+    record {
+      going = Going-more _ _ _ _ _ _ _ _ _ going.0 kept new _ _ c.in_default-answer.ensures.trusted (prepend_known c.remove.new.self left) (message whole.0)
+          (message_passes bytes c.remove.new.self left whole.0 end whole.1 c.remove.ensures) answers (sym whole.2.closing ∙ c.if-layout.false);
+      trusted = λ trust. c.messages.invariant.trusted (c.in_default-answer.ensures.trusted trust);
+      spent = omega (arith, c.messages.invariant.spent, c.read_message.ensures.read.spent);
+      reads = reads_by _ _ _ _ _ _ c.messages.invariant.spent c.read_message.ensures.read.spent c.messages.invariant.reads c.read_message.ensures.read.count;
+      reader = c.in-Ok-read_message.ensures.says.1;
+      writer = answers.2;
+      ready = c.in_default-answer.ensures.ready;
+    }
+
+pub returns-in-Err-Refused-clause-reads : goal.returns-in-Err-Refused-clause-reads
+returns-in-Err-Refused-clause-reads g c = (_, omega arith, reads_by _ _ _ _ _ _ c.messages.invariant.spent c.read_message.ensures.read.spent c.messages.invariant.reads c.read_message.ensures.read.count)
+
+pub returns-in-Err-Refused-clause-talk : goal.returns-in-Err-Refused-clause-talk
+returns-in-Err-Refused-clause-talk g c =
+    let r = c.in-Err-Refused.refusal in
+    let head_only = c.in-Err-Refused.head_only in
+    let bytes = c.read_message.new.inbox in
+    let left = g.R.Source.left c.read_message.new.reader in
+    let going = c.messages.invariant.going in
+    let kept = Going-kept _ _ _ _ _ _ _ _ _ _ _ going.1 c.read_message.ensures.read.same in
+    let says = (rw c.in-Err-Refused.field-0-is at c.in-Err-Refused.ensures.says) in
+    elim c.match-answer-2.branch [
+      | in-Ok-answer w ↦ rw w.result-is (closes _ _ _ _ _ _ _ _ _ going.0 kept _ _ _ w.in-Ok-answer.ensures.trusted (prepend_known bytes left) (refused r head_only)
+          (refusal_passes bytes left r head_only says.0) c.args.turns (w.in-Ok-answer.ensures.answers (refused r head_only) ((cc), (cc))) refl)
+      | in-Err-answer w ↦ rw w.result-is (ends _ _ _ _ _ _ _ _ _ going.0 kept _ _ _ w.in-Err-answer.ensures.trusted (prepend_known bytes left) (refused r head_only)
+          (refusal_passes bytes left r head_only says.0) _ _ (w.in-Err-answer.ensures.answers (refused r head_only) ((cc), (cc))))
+    ]
+
+pub returns-in-Err-End-clause-reads : goal.returns-in-Err-End-clause-reads
+returns-in-Err-End-clause-reads g c = (_, omega arith, reads_by _ _ _ _ _ _ c.messages.invariant.spent c.read_message.ensures.read.spent c.messages.invariant.reads c.read_message.ensures.read.count)
+
+pub returns-in-Err-End-clause-talk : goal.returns-in-Err-End-clause-talk
+returns-in-Err-End-clause-talk g c =
+    let going = c.messages.invariant.going in
+    let kept = Going-kept _ _ _ _ _ _ _ _ _ _ _ going.1 c.read_message.ensures.read.same in
+    let says = (rw c.in-Err-End.field-0-is at c.in-Err-End.ensures.says) in
+    inl (going.0, Going-ends _ _ _ _ _ _ _ _ _ _ _ _ _ _ _ _ kept (λ rest known. nothing_left _ _ rest says.2 known ∙ says.0), says.1)
+
+pub returns-in-Err-Cut-clause-reads : goal.returns-in-Err-Cut-clause-reads
+returns-in-Err-Cut-clause-reads g c = (_, omega arith, reads_by _ _ _ _ _ _ c.messages.invariant.spent c.read_message.ensures.read.spent c.messages.invariant.reads c.read_message.ensures.read.count)
+
+pub returns-in-Err-Cut-clause-talk : goal.returns-in-Err-Cut-clause-talk
+returns-in-Err-Cut-clause-talk g c =
+    let going = c.messages.invariant.going in
+    let kept = Going-kept _ _ _ _ _ _ _ _ _ _ _ going.1 c.read_message.ensures.read.same in
+    let says = (rw c.in-Err-Cut.field-0-is at c.in-Err-Cut.ensures.says) in
+    (going.0, Going-ends _ _ _ _ _ _ _ _ _ _ _ _ _ _ _ _ kept (λ rest known. rw (nothing_left _ _ rest says.2 known) says.0), says.1)
+
+pub returns-in-Err-ReadFault-clause-reads : goal.returns-in-Err-ReadFault-clause-reads
+returns-in-Err-ReadFault-clause-reads g c = (_, omega arith, reads_by _ _ _ _ _ _ c.messages.invariant.spent c.read_message.ensures.read.spent c.messages.invariant.reads c.read_message.ensures.read.count)
+
+pub returns-in-Err-ReadFault-clause-talk : goal.returns-in-Err-ReadFault-clause-talk
+returns-in-Err-ReadFault-clause-talk g c =
+    let going = c.messages.invariant.going in
+    let kept = Going-kept _ _ _ _ _ _ _ _ _ _ _ going.1 c.read_message.ensures.read.same in
+    let says = (rw c.in-Err-ReadFault.field-0-is at c.in-Err-ReadFault.ensures.says) in
+    (going.0, Going-ends _ _ _ _ _ _ _ _ _ _ _ _ _ _ _ _ kept (λ rest known. tt), says)
+
+pub returns-in-Err-Turns-clause-reads : goal.returns-in-Err-Turns-clause-reads
+returns-in-Err-Turns-clause-reads g c = (_, omega arith, reads_by _ _ _ _ _ _ c.messages.invariant.spent c.read_message.ensures.read.spent c.messages.invariant.reads c.read_message.ensures.read.count)
+
+pub returns-in-Err-Turns-clause-talk : goal.returns-in-Err-Turns-clause-talk
+returns-in-Err-Turns-clause-talk g c =
+    let going = c.messages.invariant.going in
+    let kept = Going-kept _ _ _ _ _ _ _ _ _ _ _ going.1 c.read_message.ensures.read.same in
+    let says = (rw c.in-Err-Turns.field-0-is at c.in-Err-Turns.ensures.says) in
+    let whole : c.args.turns - c.read_message.new.turns ≡ c.args.turns = omega (arith, says.0) in
+    let all = reads_by _ _ _ _ _ _ c.messages.invariant.spent c.read_message.ensures.read.spent c.messages.invariant.reads c.read_message.ensures.read.count in
+    (going.0, Going-ends _ _ _ _ _ _ _ _ _ _ _ _ _ _ _ _ kept (λ rest known. tt), rw whole at all)

@@ -1,0 +1,24 @@
+use Rattle.std.proofs.Common.{◌≡◌, ◌≤◌, false, ◌+◌, ◌-◌, ◌*◌, length, List}
+use Rattle.std.specs.Io.KnownBytes.{prepend_known}
+use Rattle.room_message.specs.declared.limits.TheConstants.{INBOX_ROOM}
+use Rattle.room_message.specs.Streams.{CountsBy}
+use Rattle.room_http.specs.Talk.{Timed}
+use Rattle.room_http.proofs.ServeLemmas.{Going}
+use Rattle.room_http.proofs.serving.serve.Given as goal
+
+abbrev pub invariant-messages : goal.invariant-messages
+invariant-messages g l = record {
+  going : (outs : List Timed) × Going g.M.Room.step l.zone
+      (record { left = g.R.Source.left l.initial.reader; reads = g.R.Source.reads l.initial.reader; held = g.W.Sink.held l.initial.writer; given = g.C.Clock.given l.initial.clock })
+      (prepend_known l.inbox (g.R.Source.left l.reader)) (g.W.Sink.held l.writer) (g.C.Clock.given l.clock)
+      (g.M.Room.is_trusted l.room) (g.M.Room.stands l.initial.room) (g.M.Room.stands l.room) outs;
+  trusted : g.M.Room.is_trusted l.room → g.M.Room.is_trusted l.initial.room;
+  spent : l.left ≤ l.turns;
+  reads : CountsBy (l.turns - l.left) (g.R.Source.reads l.initial.reader) (g.R.Source.reads l.reader);
+  reader : g.R.Source.has_failed l.reader ≡ false;
+  writer : g.W.Sink.has_failed l.writer ≡ false;
+  ready : g.M.Room.is_ready l.room;
+}
+
+abbrev pub decreases-messages : goal.decreases-messages
+decreases-messages g l = length l.inbox + INBOX_ROOM * l.left

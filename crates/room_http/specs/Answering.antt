@@ -1,0 +1,36 @@
+-- What is done with one request.
+use Rattle.std.specs.Prelude.{◌≡◌, ◌⊎◌, ◌≤◌, ℕ, List, [], ◌∷◌, Bool, true, false, Option, Result, Ok, Err}
+use Rattle.std.specs.Io.KnownBytes.{Appends}
+use Rattle.room_types.specs.declared.fleet.Terminal.{Terminal}
+use Rattle.room_types.specs.declared.refusals.Refusal.{Refusal}
+use Rattle.room_model.specs.Room.{Room}
+use Rattle.room_http.specs.declared.moments.TheConstants.{LAST_MOMENT}
+use Rattle.room_http.specs.declared.serving.ServeEnd.{ServeEnd}
+use Rattle.room_http.specs.declared.serving.ServeEnd.TheVariants.{Closed, Cut, ReadFault, WriteFault, ClockFault, Turns, Memory}
+use Rattle.room_http.specs.Rooms.{Step, IsWant}
+use Rattle.room_http.specs.Outcomes.{Outcome, is_head_only}
+use Rattle.room_http.specs.Moments.{HasNoMoment}
+use Rattle.room_answers.specs.Replies.{fixed_bytes}
+use Rattle.room_days.specs.declared.zones.Zone.{Zone}
+use Rattle.room_http.specs.Talk.{Talks, IsFront, BreaksOff}
+
+module _ (step : Step) (zone : Zone) (held holds given gives : Option (List ℕ)) (write_failed was_none : Bool)
+    (trusted : Type 0) (stood stands : List Terminal → Room → Type 0) (o : Outcome) where
+  -- the outcome had a moment
+  abbrev pub IsAt : ℕ → Type 0
+  IsAt at = (at ≤ LAST_MOMENT) × Appends given gives (at ∷ [])
+
+  -- it was answered, or serving ends with it
+  abbrev pub Answers : Result (Unit {0}) ServeEnd → Type 0
+  Answers (Ok done) = (at : ℕ) × IsAt at × (write_failed ≡ false)
+      × Talks step zone trusted stood held holds ((o, at) ∷ []) (λ terminals after tail. stands terminals after × (tail ≡ []))
+  Answers (Err Closed) = (at : ℕ) × IsAt at × ((r : Refusal) × IsWant r
+      × Talks step zone trusted stood held holds [] (λ terminals after tail. stands terminals after × (tail ≡ fixed_bytes r (is_head_only o))))
+  Answers (Err WriteFault) = (at : ℕ) × IsAt at × (write_failed ≡ true)
+      × (Talks step zone trusted stood held holds [] (λ terminals after tail. BreaksOff step zone terminals stands after (o, at) tail)
+      ⊎ ((r : Refusal) × IsWant r × Talks step zone trusted stood held holds [] (λ terminals after tail. stands terminals after × IsFront tail (fixed_bytes r (is_head_only o)))))
+  Answers (Err ClockFault) = HasNoMoment given gives was_none [] × Talks step zone trusted stood held holds [] (λ terminals after tail. stands terminals after × (tail ≡ []))
+  Answers (Err Cut) = ⊥
+  Answers (Err ReadFault) = ⊥
+  Answers (Err Turns) = ⊥
+  Answers (Err Memory) = ⊥

@@ -1,0 +1,54 @@
+-- The event that a message asks for, or the first refusal on the way to it.
+use Rattle.std.specs.Prelude.{◌≡◌, ℕ, List, Option, Some, None, Result, Ok, Err, option_and_then, if◌then◌else◌, MatchBool, ℤ, pos}
+use Rattle.jiff_core.specs.Calendar.{days_from_civil}
+use Rattle.room_types.specs.Texts.{is_token, Token}
+use Rattle.room_types.specs.declared.asks.Ask.{Ask}
+use Rattle.room_types.specs.declared.asks.Ask.TheVariants as ask
+use Rattle.room_types.specs.declared.asks.Event.{Event}
+use Rattle.room_types.specs.declared.asks.Who.{Who}
+use Rattle.room_types.specs.declared.fleet.Terminal.{Terminal}
+use Rattle.room_types.specs.declared.refusals.Refusal.{Refusal}
+use Rattle.room_types.specs.declared.refusals.Refusal.TheVariants.{BadBody, NoTerminal, WrongRole}
+use Rattle.room_message.specs.Messages.{WholeMessage, terminal_of}
+use Rattle.room_routes.specs.Targets.{routed}
+use Rattle.room_routes.specs.declared.targets.Target.{Target}
+use Rattle.room_bodies.specs.Asking.{wanted_by}
+use Rattle.room_bodies.specs.Roles.{is_of, role_of}
+use Rattle.room_bodies.specs.declared.asking.Wanted.{Wanted}
+use Rattle.room_bodies.specs.declared.asking.Wanted.TheVariants as wanted
+use Rattle.room_days.specs.Days.{IsSpan, zone_of}
+use Rattle.room_days.specs.declared.zones.Zone.{Zone}
+use Rattle.room_http.specs.Rooms.{who_at}
+
+-- the token that a field has for its value
+abbrev pub token_of : Option (List ℕ) → Option Token
+token_of field = option_and_then (λ text. if is_token text then Some text else None) field
+
+-- the terminal that a field names by its token
+abbrev pub named : List Terminal → Option (List ℕ) → Option Who
+named terminals field = option_and_then (who_at terminals) (token_of field)
+
+-- what is wanted, asked of the room: the times of a day are those of its seconds in the zone
+abbrev pub IsAskFor : Zone → Wanted → Ask → Type 0
+IsAskFor zone (wanted.Ask a) asks = asks ≡ a
+IsAskFor zone (wanted.Times day) asks =
+    (span : ℤ × ℤ) × IsSpan (zone_of zone) (days_from_civil (pos day.year) day.month day.day) span × (asks ≡ ask.Times span.0 span.1)
+
+-- what a terminal asks for, if its body wants anything
+abbrev pub AsksBy : Zone → ℕ → Who → Option Wanted → Result Event Refusal → Type 0
+AsksBy zone at who None found = found ≡ Err BadBody
+AsksBy zone at who (Some given) found = (asks : Ask) × IsAskFor zone given asks × (found ≡ Ok (record { who = who; ask = asks; at = at }))
+
+-- what a terminal asks for, if there is one: its role is looked at, and then the body
+abbrev pub AsksAs : Zone → Target → List ℕ → ℕ → Option Who → Result Event Refusal → Type 0
+AsksAs zone target body at None found = found ≡ Err NoTerminal
+AsksAs zone target body at (Some who) found = MatchBool (is_of (role_of target) who) (AsksBy zone at who (wanted_by target body) found) (found ≡ Err WrongRole)
+
+-- what is asked of a target, if there is one: the terminal is looked at next
+abbrev pub AsksAt : Zone → List Terminal → WholeMessage → ℕ → Result Target Refusal → Result Event Refusal → Type 0
+AsksAt zone terminals m at (Ok target) found = AsksAs zone target m.body at (named terminals (terminal_of m.head)) found
+AsksAt zone terminals m at (Err r) found = found ≡ Err r
+
+-- what a message asks for: its path is looked at first, and then its method
+abbrev pub AsksFor : Zone → List Terminal → WholeMessage → ℕ → Result Event Refusal → Type 0
+AsksFor zone terminals m at found = AsksAt zone terminals m at (routed m.head.method m.head.target) found

@@ -1,0 +1,10 @@
+pub mod Rooms
+pub mod Outcomes
+pub mod Events
+pub mod Talk
+pub mod Moments
+pub mod Findings
+pub mod Replies
+pub mod Laws
+pub mod Answering
+pub mod Serving

@@ -1,0 +1,97 @@
+-- How a connection is served, and how that ends.
+use Rattle.std.specs.Prelude.{◌≡◌, ◌⊎◌, ◌≤◌, ℕ, List, [], ◌∷◌, ◌++◌, map, All, Bool, true, ⊤, Option, Some}
+use Rattle.std.specs.Io.KnownBytes.{Appends}
+use Rattle.room_types.specs.declared.fleet.Terminal.{Terminal}
+use Rattle.room_types.specs.declared.refusals.Refusal.{Refusal}
+use Rattle.room_model.specs.Room.{Room}
+use Rattle.room_answers.specs.Replies.{fixed_bytes}
+use Rattle.room_message.specs.Messages.{IsCut}
+use Rattle.room_message.specs.Streams.{CountsBy}
+use Rattle.room_http.specs.declared.serving.ServeEnd.{ServeEnd}
+use Rattle.room_http.specs.declared.serving.ServeEnd.TheVariants.{Closed, Cut, ReadFault, WriteFault, ClockFault, Turns, Memory}
+use Rattle.room_http.specs.declared.moments.TheConstants.{LAST_MOMENT}
+use Rattle.room_http.specs.Rooms.{Step, IsWant}
+use Rattle.room_http.specs.Outcomes.{Outcome, is_head_only, is_closing, Begins, HasNext}
+use Rattle.room_days.specs.declared.zones.Zone.{Zone}
+use Rattle.room_http.specs.Moments.{HasNoMoment}
+use Rattle.room_http.specs.Talk.{Timed, IsFront, BreaksOff, Talks}
+
+-- what is known of a connection: the bytes to come, the reads made, the bytes written, and the moments given
+pub record Sides : Type 0 where
+  pub left : Option (List ℕ)
+  pub reads : Option ℕ
+  pub held : Option (List ℕ)
+  pub given : Option (List ℕ)
+
+-- the same at its end, but for the bytes to come, and how the reader, the writer and the clock were left
+pub record Finish : Type 0 where
+  pub reads : Option ℕ
+  pub held : Option (List ℕ)
+  pub given : Option (List ℕ)
+  pub read_failed : Bool
+  pub read_ended : Bool
+  pub write_failed : Bool
+  pub was_none : Bool
+
+-- so many reads were made, or fewer
+abbrev pub ReadsAtMost : ℕ → Option ℕ → Option ℕ → Type 0
+ReadsAtMost turns old new = (n : ℕ) × (n ≤ turns) × CountsBy n old new
+
+-- the last outcome closes
+abbrev pub EndsClosing : List Timed → Type 0
+EndsClosing outs = (before : List Timed) × (x : Timed) × (outs ≡ before ++ x ∷ []) × (is_closing x.0 ≡ true)
+
+module _ (step : Step) (zone : Zone) (old : Sides) (new : Finish) (trusted : Type 0) (stood stands : List Terminal → Room → Type 0) where
+  -- the stream begins with the outcomes, and something is said of what follows them
+  abbrev pub Reaches : List Timed → (List ℕ → Type 0) → Type 0
+  Reaches outs follows = (stream : List ℕ) → old.left ≡ Some stream → (rest : List ℕ) × Begins stream (map (λ x. x.0) outs) rest × follows rest
+
+  -- each outcome had a moment, which the clock gave for it alone
+  abbrev pub AreTimed : List Timed → Type 0
+  AreTimed outs = All (λ x. x.1 ≤ LAST_MOMENT) outs × Appends old.given new.given (map (λ x. x.1) outs)
+
+  -- what was written, and the room after it
+  abbrev pub Spoke : List Timed → (List Terminal → Room → List ℕ → Type 0) → Type 0
+  Spoke = Talks step zone trusted stood old.held new.held
+
+  -- the first outcomes of the stream were answered, and no more was done
+  pub record Answered (outs : List Timed) (follows : List ℕ → Type 0) : Type 0 where
+    pub begins : Reaches outs follows
+    pub timed : AreTimed outs
+    pub talk : Spoke outs (λ terminals after tail. stands terminals after × (tail ≡ []))
+
+  -- The outcomes were answered. For the next one memory or storage was wanting: the room stayed as
+  -- it was, and of the fixed answer so much was written.
+  pub record Wanted (outs : List Timed) (x : Timed) (so_much : List ℕ → List ℕ → Type 0) : Type 0 where
+    pub begins : Reaches outs (HasNext x.0)
+    pub timed : AreTimed (outs ++ x ∷ [])
+    pub refusal : Refusal
+    pub want : IsWant refusal
+    pub talk : Spoke outs (λ terminals after tail. stands terminals after × so_much tail (fixed_bytes refusal (is_head_only x.0)))
+
+  -- The outcomes were answered. The next one was acted on, and its answer was not written, or not wholly.
+  pub record Broken (outs : List Timed) (x : Timed) : Type 0 where
+    pub begins : Reaches (outs ++ x ∷ []) (λ rest. ⊤)
+    pub timed : AreTimed (outs ++ x ∷ [])
+    pub talk : Spoke outs (λ terminals after tail. BreaksOff step zone terminals stands after x tail)
+
+  -- The outcomes were answered. The next one had no moment, and nothing was done.
+  pub record Untimed (outs : List Timed) (o : Outcome) : Type 0 where
+    pub begins : Reaches outs (HasNext o)
+    pub timed : All (λ x. x.1 ≤ LAST_MOMENT) outs
+    pub clock : HasNoMoment old.given new.given new.was_none (map (λ x. x.1) outs)
+    pub talk : Spoke outs (λ terminals after tail. stands terminals after × (tail ≡ []))
+
+  -- How serving ended, which was granted so many reads. Closed: the stream ended between messages,
+  -- an answer closed, or memory or storage was wanting and its fixed answer closed.
+  abbrev pub ServeIs : ℕ → ServeEnd → Type 0
+  ServeIs turns Closed =
+      ((outs : List Timed) × Answered outs (λ rest. rest ≡ []) × (new.read_ended ≡ true))
+      ⊎ ((outs : List Timed) × Answered outs (λ rest. ⊤) × EndsClosing outs)
+      ⊎ ((outs : List Timed) × (x : Timed) × Wanted outs x (λ tail fixed. tail ≡ fixed))
+  ServeIs turns Cut = (outs : List Timed) × Answered outs IsCut × (new.read_ended ≡ true)
+  ServeIs turns ReadFault = (outs : List Timed) × Answered outs (λ rest. ⊤) × (new.read_failed ≡ true)
+  ServeIs turns WriteFault = ((outs : List Timed) × (x : Timed) × (Broken outs x ⊎ Wanted outs x IsFront)) × (new.write_failed ≡ true)
+  ServeIs turns ClockFault = (outs : List Timed) × (o : Outcome) × Untimed outs o
+  ServeIs turns Turns = (outs : List Timed) × Answered outs (λ rest. ⊤) × CountsBy turns old.reads new.reads
+  ServeIs turns Memory = Answered [] (λ rest. ⊤) × CountsBy 0 old.reads new.reads

@@ -1,0 +1,49 @@
+//! One request, answered.
+ghost use Rattle.std.specs.Prelude.{◌≡◌, false};
+ghost use Rattle.room_http.specs.Outcomes.{Outcome, IsShown};
+ghost use Rattle.room_http.specs.Answering.{Answers};
+
+use crate::moments::moment;
+use crate::replies::reply;
+use crate::requests::Request;
+use crate::rooms::Room;
+use crate::serving::ServeEnd;
+use room_answers::fixed::fixed;
+use room_days::zones::Zone;
+use room_message::clocks::Clock;
+use room_message::sinks::{Sink, write_all};
+use room_routes::routes::Routes;
+use std::alloc::Global;
+
+/// Answers a request at the moment of the clock, or says why serving ends with it.
+pub fn answer<W: Sink, M: Room, C: Clock>(
+    alloc: Global,
+    routes: &Routes,
+    zone: &Zone,
+    request: &Request,
+    writer: &mut W,
+    room: &mut M,
+    clock: &mut C,
+) -> Result<(), ServeEnd>
+    requires ready { M.is_ready room.old }
+    requires sound { W.has_failed writer.old ≡ false }
+    ensures ready { M.is_ready room.new }
+    ensures trusted { M.is_trusted room.new → M.is_trusted room.old }
+    ensures answers { (o : Outcome) → IsShown request.now o → Answers M.step zone.now
+        (W.held writer.old) (W.held writer.new) (C.given clock.old) (C.given clock.new) (W.has_failed writer.new) (C.was_none clock.new)
+        (M.is_trusted room.new) (M.stands room.old) (M.stands room.new) o result }
+{
+    let Some(at) = moment(clock) else {
+        return Err(ServeEnd::ClockFault);
+    };
+    match reply(alloc, routes, zone, room, request, at) {
+        Ok(bytes) => match write_all(writer, bytes.as_slice()) {
+            Ok(()) => Ok(()),
+            Err(_) => Err(ServeEnd::WriteFault),
+        },
+        Err(refusal) => match write_all(writer, fixed(refusal, request.head_only())) {
+            Ok(()) => Err(ServeEnd::Closed),
+            Err(_) => Err(ServeEnd::WriteFault),
+        },
+    }
+}

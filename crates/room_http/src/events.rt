@@ -1,0 +1,127 @@
+//! The event that a request asks for, or the first refusal on the way to it.
+ghost use Rattle.std.specs.Prelude.{◌≡◌, List, Some};
+ghost use Rattle.std.specs.Option.{option_map, option_copied};
+ghost use Rattle.room_bodies.specs.Asking.{wanted_by};
+ghost use Rattle.room_bodies.specs.declared.asking.Wanted.TheVariants as wanted;
+ghost use Rattle.room_http.specs.Events.{IsAskFor, token_of};
+ghost use Rattle.room_http.specs.Findings.{FindsAsk, FindsEvent, FindsMessage, FindsTerminal};
+
+use crate::requests::Request;
+use crate::rooms::Room;
+use room_bodies::asking::{Wanted, ask_of};
+use room_bodies::roles::Role;
+use room_days::zones::Zone;
+use room_message::messages::Message;
+use room_routes::days::Day;
+use room_routes::routes::Routes;
+use room_routes::targets::Target;
+use room_types::asks::{Ask, Event, Who};
+use room_types::numbers::Moment;
+use room_types::refusals::Refusal;
+use room_types::token::Token;
+use std::alloc::Global;
+
+/// The token that a field has for its value: none where it is no token.
+fn token(field: Option<&[u8]>) -> Option<Token>
+    ensures { result ≡ token_of (option_map (λ text. text.now) field.entry) }
+{
+    match str::from_utf8(field?) {
+        Ok(text) => Token::parse(text),
+        Err(_) => None,
+    }
+}
+
+/// The terminal that a message names. It names none where it shows no token, or one that the room
+/// doesn't know.
+fn terminal<M: Room>(alloc: Global, room: &mut M, message: &Message) -> Result<Who, Refusal>
+    requires { M.is_ready room.old }
+    ensures ready { M.is_ready room.new }
+    ensures terminal { FindsTerminal M.is_trusted M.stands room.old room.new (option_map (λ text. text.now) message.now.terminal) result }
+{
+    let Some(token) = token(message.terminal) else {
+        return Err(Refusal::NoTerminal);
+    };
+    match room.who(alloc, &token) {
+        Ok(Some(who)) => Ok(who),
+        Ok(None) => Err(Refusal::NoTerminal),
+        Err(refusal) => Err(refusal),
+    }
+}
+
+/// The times of a day in a zone.
+fn times(zone: &Zone, day: Day) -> Ask
+    ensures { IsAskFor zone.now (wanted.Times day) result }
+{
+    let (from, to) = zone.day(day.year(), day.month(), day.day()).unwrap();
+    Ask::Times(from, to)
+}
+
+/// What is wanted, asked of the room.
+fn ask_for(zone: &Zone, wanted: &Wanted) -> Ask
+    ensures { IsAskFor zone.now wanted.now result }
+{
+    match wanted {
+        Wanted::Ask(ask) => *ask,
+        Wanted::Times(day) => times(zone, *day),
+    }
+}
+
+/// What a target and a body ask for.
+fn ask(alloc: Global, zone: &Zone, target: &Target, body: &[u8]) -> Result<Ask, Refusal>
+    ensures { FindsAsk zone.now (wanted_by target.now body.now) result }
+{
+    match ask_of(alloc, target, body) {
+        Ok(wanted) => Ok(ask_for(zone, &wanted)),
+        Err(refusal) => Err(refusal),
+    }
+}
+
+/// The event that a message asks for. The path is looked at first, then the method, the terminal,
+/// its role and the body.
+fn asked<M: Room>(
+    alloc: Global,
+    routes: &Routes,
+    zone: &Zone,
+    room: &mut M,
+    message: &Message,
+    at: Moment,
+) -> Result<Event, Refusal>
+    requires { M.is_ready room.old }
+    ensures ready { M.is_ready room.new }
+    ensures event { FindsMessage M.is_trusted M.stands room.old room.new zone.now message.now at result }
+{
+    let target = match routes.route(message.method, message.target) {
+        Ok(target) => target,
+        Err(refusal) => return Err(refusal),
+    };
+    let who = match terminal(alloc, room, message) {
+        Ok(who) => who,
+        Err(refusal) => return Err(refusal),
+    };
+    if !Role::of(&target).is_of(&who) {
+        return Err(Refusal::WrongRole);
+    }
+    match ask(alloc, zone, &target, message.body) {
+        Ok(ask) => Ok(Event { who, ask, at }),
+        Err(refusal) => Err(refusal),
+    }
+}
+
+/// The event that a request asks for.
+pub fn event_of<M: Room>(
+    alloc: Global,
+    routes: &Routes,
+    zone: &Zone,
+    room: &mut M,
+    request: &Request,
+    at: Moment,
+) -> Result<Event, Refusal>
+    requires { M.is_ready room.old }
+    ensures ready { M.is_ready room.new }
+    ensures event { FindsEvent M.is_trusted M.stands room.old room.new zone.now request.now at result }
+{
+    match request {
+        Request::Whole(message) => asked(alloc, routes, zone, room, message, at),
+        Request::Refused { refusal, .. } => Err(*refusal),
+    }
+}

@@ -1,0 +1,13 @@
+//! The engine of the room: it serves a connection, from the bytes read to the bytes written.
+#![tactic(auto)]
+
+pub mod answering;
+pub mod events;
+pub mod laws;
+pub mod moments;
+pub mod replies;
+pub mod requests;
+pub mod rooms;
+pub mod serving;
+#[cfg(test)]
+mod tests;

@@ -1,0 +1,68 @@
+//! What a connection is served with: a room that events act on, and who its terminals are.
+ghost use Rattle.std.specs.Prelude.{◌≡◌, List, Result, Ok, IfOk, IfErr, OnOk, OnErr};
+ghost use Rattle.std.specs.Fn.{FnOnceReturnsAt};
+ghost use Rattle.room_types.specs.declared.answers.Answer.{Answer as Told};
+ghost use Rattle.room_types.specs.declared.fleet.Terminal.{Terminal};
+ghost use Rattle.room_types.specs.declared.refusals.Refusal.{Refusal as Why};
+ghost use Rattle.room_types.specs.declared.refusals.Refusal.TheVariants.{Memory};
+ghost use Rattle.room_model.specs.Room.{Room as Held};
+ghost use Rattle.room_model.specs.Step.{IsAddressed};
+ghost use Rattle.room_model.specs.Enrol.{AreTerminals};
+ghost use Rattle.room_http.specs.Rooms.{Step, who_at, IsWant};
+
+use room_types::answers::Answer;
+use room_types::asks::{Event, Who};
+use room_types::refusals::Refusal;
+use room_types::token::Token;
+use std::alloc::Global;
+
+/// A room that events act on, as a store that keeps it in tables.
+pub trait Room {
+    // It may be called: what holds of it between calls.
+    ghost is_ready: { Self → Type 0 };
+
+    // Up to here it was given back what it wrote.
+    ghost is_trusted: { Self → Type 0 };
+
+    // It stands for this room, with these terminals.
+    ghost stands: { Self → List Terminal → Held → Type 0 };
+
+    // What it does with an event of a known terminal.
+    ghost step: { Step };
+
+    /// Who shows a token: none where no terminal has it. A refusal is want of memory or of storage.
+    fn who(&mut self, alloc: Global, token: &Token) -> Result<Option<Who>, Refusal>
+        requires { is_ready self.old }
+        ensures ready { is_ready self.new }
+        ensures trusted { is_trusted self.new → is_trusted self.old }
+        ensures known { is_trusted self.new → IfOk result (λ who. (terminals : List Terminal) (room : Held)
+            → stands self.old terminals room → who ≡ who_at terminals token.now) }
+        ensures same { is_trusted self.new → (terminals : List Terminal) (room : Held)
+            → stands self.old terminals room → stands self.new terminals room }
+        ensures wants { IfErr result IsWant };
+
+    /// Acts on an event of a known terminal. Gives what `render` makes of the answer, and `render`
+    /// is called before anything is kept. A refusal is want of memory or of storage; it changes nothing.
+    fn act<F: FnOnce(&Result<Answer, Refusal>) -> Result<Vec<u8>, Refusal>>(
+        &mut self,
+        alloc: Global,
+        event: &Event,
+        render: F,
+    ) -> Result<Vec<u8>, Refusal>
+        requires ready { is_ready self.old }
+        requires callable { F.IsAlwaysCallable render }
+        requires memory { (answer : Result Told Why) (r : _) → FnOnceReturnsAt F.FnOnce render answer r → IfErr r (λ e. e ≡ Memory) }
+        ensures ready { is_ready self.new }
+        ensures trusted { is_trusted self.new → is_trusted self.old }
+        ensures bytes { is_trusted self.new → IfOk result (λ bytes. (terminals : List Terminal) (room : Held)
+            → stands self.old terminals room → IsAddressed event.now room
+            → FnOnceReturnsAt F.FnOnce render (step event.now room).1 (Ok bytes)) }
+        ensures after { is_trusted self.new → OnOk result ((terminals : List Terminal) (room : Held)
+            → stands self.old terminals room → IsAddressed event.now room → stands self.new terminals (step event.now room).0) }
+        ensures same { is_trusted self.new → OnErr result ((terminals : List Terminal) (room : Held)
+            → stands self.old terminals room → stands self.new terminals room) }
+        ensures wants { IfErr result IsWant };
+
+    // The terminals fit the room that it stands for.
+    ghost fits: { (held : Self) (terminals : List Terminal) (room : Held) → stands held terminals room → AreTerminals room terminals };
+}

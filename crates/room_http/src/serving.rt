@@ -1,0 +1,92 @@
+//! A connection that is served.
+ghost use Rattle.std.specs.Prelude.{◌≡◌, false};
+ghost use Rattle.room_http.specs.Serving.{ReadsAtMost, ServeIs};
+
+use crate::answering::answer;
+use crate::requests::Request;
+use crate::rooms::Room;
+use room_days::zones::Zone;
+use room_message::clocks::Clock;
+use room_message::endings::Ending;
+use room_message::inbox::Inbox;
+use room_message::reading::read_message;
+use room_message::sinks::Sink;
+use room_message::sources::Source;
+use room_routes::routes::Routes;
+use std::alloc::Global;
+
+/// Why serving ended.
+#[derive(Clone, Copy, Debug, PartialEq, Eq)]
+pub enum ServeEnd {
+    /// An answer closed the connection, or the input ended between messages.
+    Closed,
+    /// The input ended within a message.
+    Cut,
+    /// A read failed.
+    ReadFault,
+    /// A write failed, or took nothing.
+    WriteFault,
+    /// The clock gave no moment, or a later one than the last of the room.
+    ClockFault,
+    /// The reads that were granted are used up.
+    Turns,
+    /// Memory was refused before anything was read.
+    Memory,
+}
+
+/// Answers the messages of a stream, until it ends or an answer closes the connection, or until
+/// something fails. It makes at most `turns` reads, and reads the clock once for each message, after
+/// the message is whole or refused.
+pub fn serve<R: Source, W: Sink, M: Room, C: Clock>(
+    alloc: Global,
+    reader: &mut R,
+    writer: &mut W,
+    room: &mut M,
+    zone: &Zone,
+    clock: &mut C,
+    turns: u32,
+) -> ServeEnd
+    requires reader { R.has_failed reader.old ≡ false }
+    requires writer { W.has_failed writer.old ≡ false }
+    requires ready { M.is_ready room.old }
+    ensures ready { M.is_ready room.new }
+    ensures reads { ReadsAtMost turns (R.reads reader.old) (R.reads reader.new) }
+    ensures trusted { M.is_trusted room.new → M.is_trusted room.old }
+    ensures talk { ServeIs M.step zone.now
+        (record { left = R.left reader.old; reads = R.reads reader.old; held = W.held writer.old; given = C.given clock.old })
+        (record { reads = R.reads reader.new; held = W.held writer.new; given = C.given clock.new; read_failed = R.has_failed reader.new; read_ended = R.has_ended reader.new; write_failed = W.has_failed writer.new; was_none = C.was_none clock.new })
+        (M.is_trusted room.new) (M.stands room.old) (M.stands room.new) turns result }
+{
+    let Ok(routes) = Routes::new(alloc) else {
+        return ServeEnd::Memory;
+    };
+    let Ok(mut inbox) = Inbox::new(alloc) else {
+        return ServeEnd::Memory;
+    };
+    let mut left = turns;
+    'messages: loop {
+        match read_message(&mut inbox, reader, &mut left) {
+            Ok(layout) => {
+                let request = Request::Whole(inbox.message(&layout));
+                if let Err(end) = answer(alloc, &routes, zone, &request, writer, room, clock) {
+                    return end;
+                }
+                if layout.closing {
+                    return ServeEnd::Closed;
+                }
+                inbox.remove(&layout);
+            }
+            Err(Ending::Refused { refusal, head_only }) => {
+                let request = Request::Refused { refusal, head_only };
+                return match answer(alloc, &routes, zone, &request, writer, room, clock) {
+                    Ok(()) => ServeEnd::Closed,
+                    Err(end) => end,
+                };
+            }
+            Err(Ending::End) => return ServeEnd::Closed,
+            Err(Ending::Cut) => return ServeEnd::Cut,
+            Err(Ending::ReadFault) => return ServeEnd::ReadFault,
+            Err(Ending::Turns) => return ServeEnd::Turns,
+        }
+    }
+}

@@ -1,0 +1,5 @@
+pub mod Days
+pub mod Parameters
+pub mod Paths
+pub mod Targets
+pub mod Examples
