@@ -1,0 +1,4 @@
+pub mod KeyedUnions
+pub mod RoomReads
+pub mod ReportTests
+pub mod ReadNumbers

@@ -1,0 +1,24 @@
+use Rattle.std.proofs.Common.{arith, false, sym, ◌∙◌}
+use Rattle.sqlite.specs.Held.{state}
+use Rattle.sqlite.specs.State.{HasCleanDisk}
+use Rattle.room_types.specs.Keys.{owns_division}
+use Rattle.room_store.proofs.RoomReads.{filter_as, filter_none, kept, turned_number}
+use Rattle.room_store.proofs.working.load_fleet.Goals as goal
+
+pub returns-clause-rows : goal.returns-clause-rows
+returns-clause-rows g c clean house room h in_order =
+    let first = state g.S.Store c.args.conn.now in
+    let second = state g.S.Store c.division_at.new.conn in
+    let third = state g.S.Store c.vehicles_held.new.conn in
+    let d = c.args.division in
+    let clean_third : HasCleanDisk third = omega (arith, c.assignments_of.ensures.survives.clean) in
+    let clean_second : HasCleanDisk second = omega (arith, c.assignments_of.ensures.survives.clean, c.vehicles_held.ensures.survives.clean) in
+    let in_second = kept first second (c.in_ok-row.ensures.ok clean_second) house room h in
+    let in_third = kept second third (c.in_ok-vehicles.ensures.ok clean_third) house room in_second in
+    let row = c.in_ok-row.ensures.row clean_second house room h in
+    record {
+      divisions = c.in_ok-add_found.ensures.either room.divisions (λ _. false) d in_order.divisions (c.new-divisions.ensures ∙ sym (filter_none room.divisions)) row
+          ∙ filter_as _ (owns_division d) room.divisions (λ x. turned_number d x.number);
+      vehicles = c.in_ok-vehicles.ensures.rows clean_third house room in_second;
+      assignments = c.in_ok-assignments.ensures.rows clean house room in_third;
+    }

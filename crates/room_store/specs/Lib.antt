@@ -1,0 +1,4 @@
+-- which incidents a request reads
+pub mod Reading
+-- what the parts of a division's working rows are of the room
+pub mod Parts

@@ -1,0 +1,6 @@
+//! The room in its tables: what a request reads of them.
+#![tactic(auto)]
+
+mod naming;
+mod unions;
+pub mod working;
