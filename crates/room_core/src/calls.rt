@@ -1,10 +1,13 @@
 //! A call, decided on the rows of the division that it is placed in.
-ghost use Rattle.std.specs.Prelude.{◌≡◌, None, Ok, Some};
+ghost use Rattle.std.specs.Prelude.{◌≡◌, None, Ok, Some, not};
 ghost use Rattle.room_place.specs.Plans.{division_of};
 ghost use Rattle.room_types.specs.declared.asks.Ask.TheVariants.{Call as CallAsk};
 ghost use Rattle.room_types.specs.declared.asks.CallForm.{CallForm};
+ghost use Rattle.room_types.specs.declared.answers.Answer.TheVariants.{Called};
+ghost use Rattle.room_types.specs.declared.refusals.Refusal.TheVariants.{SerialReused};
 ghost use Rattle.room_incident.specs.Taken.{decided_of_taken};
-ghost use Rattle.room_model.specs.Calls.{new_call, take_call};
+ghost use Rattle.room_model.specs.Calls.{new_call, same_call, take_call};
+ghost use Rattle.room_model.specs.Decisions.{refuse_if, show};
 ghost use Rattle.room_model.specs.Queries.{kept_call};
 ghost use Rattle.room_model.specs.Room.{Room};
 ghost use Rattle.room_model.specs.Slices.{room_of};
@@ -19,6 +22,7 @@ use room_types::asks::NewCall;
 use room_types::changes::Change;
 use room_types::refusals::Refusal;
 use room_types::slices::Slice;
+use room_types::tables::Call;
 use std::alloc::Global;
 
 /// A call that the room has not kept, placed in the slice's division (the caller sees to both). In
@@ -32,6 +36,23 @@ pub fn decide_call(alloc: Global, slice: &Slice, new: &NewCall) -> Result<Decisi
         Ok(taken) => put(alloc, &taken),
         Err(refusal) => Err(refusal),
     }
+}
+
+/// A call whose serial the room has kept. Of the same content it gets its kept answer, and changes
+/// nothing; of another it is refused as `SerialReused`.
+#[tactic(auto, unfolding(room_model::specs::Decisions::refuse_if))]
+pub fn decide_again(alloc: Global, kept: &Call, new: &NewCall) -> Result<Decision, Refusal>
+    ensures { result ≡ refuse_if (not (same_call kept.now new.now)) SerialReused (show (Called kept.now.division kept.now.given kept.now.linked)) }
+{
+    let is_same = kept.place == new.place
+        && kept.class == new.class
+        && kept.needs == new.needs
+        && kept.note == new.note;
+    if !is_same {
+        return Err(Refusal::SerialReused);
+    }
+    let answer = Answer::Called(kept.division, kept.given, kept.linked);
+    Ok(Decision::show(alloc, answer))
 }
 
 fn put(alloc: Global, taken: &Taken) -> Result<Decision, Refusal>

@@ -2,3 +2,4 @@ pub mod KeyedUnions
 pub mod RoomReads
 pub mod ReportTests
 pub mod ReadNumbers
+pub mod CrewReads
