@@ -101,43 +101,41 @@ impl<'a> Clock for ListClock<'a> {
     }
 }
 
-/// A clock that gives one moment each time, and none once its count is at its last value.
+/// A clock that gives `MOMENT` each time, and none once its count is at its last value.
 #[derive(Clone, Copy, Debug)]
-pub struct FixedClock {
-    moment: u64,
+pub struct FixedClock<const MOMENT: u64> {
     count: u64,
     was_none: bool,
 }
 
-impl FixedClock {
+impl<const MOMENT: u64> FixedClock<MOMENT> {
     /// A clock that has given nothing yet.
-    pub fn new(moment: u64) -> FixedClock
-        ensures { result ≡ record { moment = moment; count = 0; was_none = false } }
+    pub fn new() -> FixedClock<MOMENT>
+        ensures { result ≡ record { count = 0; was_none = false } }
     {
         FixedClock {
-            moment,
             count: 0,
             was_none: false,
         }
     }
 }
 
-impl Clock for FixedClock {
-    ghost given = { λ clock. Some (replicate clock.count clock.moment) };
+impl<const MOMENT: u64> Clock for FixedClock<MOMENT> {
+    ghost given = { λ clock. Some (replicate clock.count MOMENT) };
 
     ghost was_none = { λ clock. clock.was_none };
 
     fn now(&mut self) -> Option<u64>
-        ensures moments { let old = Some (replicate self.old.count self.old.moment) in let new = Some (replicate self.new.count self.new.moment) in
+        ensures moments { let old = Some (replicate self.old.count MOMENT) in let new = Some (replicate self.new.count MOMENT) in
             MatchOption result (Keeps old new) (λ at. Appends old new (at ∷ [])) }
         ensures none { MatchOption result (self.new.was_none ≡ true) (λ at. self.new.was_none ≡ false) }
-        ensures moment { self.old.count < u64.MAX → result ≡ Some self.old.moment }
+        ensures moment { self.old.count < u64.MAX → result ≡ Some MOMENT }
     {
         self.was_none = self.count == u64::MAX;
         if self.was_none {
             return None;
         }
         self.count += 1;
-        Some(self.moment)
+        Some(MOMENT)
     }
 }

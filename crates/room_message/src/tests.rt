@@ -460,7 +460,7 @@ fn clocks_give_their_moments(rt: HostRuntime) -> Result<(), Fail> {
         (list.now(), list.now(), list.now(), list.now()),
         (Some(1000), Some(999), None, None)
     );
-    let mut fixed = FixedClock::new(1000);
+    let mut fixed = FixedClock::<1000>::new();
     assert_eq!(rt; (fixed.now(), fixed.now()), (Some(1000), Some(1000)));
     let moment = MachineClock::new(&rt).now().ok_or("no clock")?;
     assert!(rt; moment > 1_700_000_000, "{moment}");
