@@ -23,9 +23,15 @@ pub mod OffersTable
 pub mod MetaTable
 pub mod AreasTable
 pub mod TerminalsTable
+-- a vehicle that gets another holder
+pub mod Settles
 -- areas with their places in the plan
 pub mod PlanLaws
 -- the puts that a room begins with
 pub mod Starts
+-- calls in a loop that change nothing
+pub mod Repeats
+-- the rowids of all tables
+pub mod Rowids
 -- one room alone
 pub mod OneRoom

@@ -1,5 +1,5 @@
-//! Each table in memory: its row is put, found again and dropped, and a row that is none of its
-//! table is told.
+//! Each table in memory: its row is put, found again and dropped, a vehicle is settled, rows are
+//! numbered, and a row that is none of its table is told.
 
 ghost use Rattle.std.specs.Prelude.{◌≡◌, false, IsTrue};
 ghost use Rattle.sqlite.specs.Held.{state};
@@ -17,12 +17,13 @@ use crate::incidents::{
 };
 use crate::loans::{all_loans, drop_loan, loan_at, loans_of, put_loan};
 use crate::meta::{put_meta, zone};
+use crate::numbering::are_numbered;
 use crate::offers::{all_offers, drop_offer, offer_at, offers_of, put_offer};
 use crate::points::{all_points, points_of, put_point};
 use crate::reports::{all_reports, put_report, report_at, uncleared_reports};
 use crate::terminals::{all_terminals, crew_terminals, put_terminal, terminal_at};
 use crate::turns::{all_turns, put_turn, turn_at, turns_of};
-use crate::vehicles::{all_vehicles, put_vehicle, vehicle_at, vehicles_held};
+use crate::vehicles::{all_vehicles, put_vehicle, settle, vehicle_at, vehicles_held};
 use room_place::places::Place;
 use room_place::plans::{Area, DivisionNumber, Rect};
 use room_schema::faults::Fault;
@@ -103,7 +104,7 @@ fn write<S: Alter>(tx: &mut Transaction<'_, S>, change: &Change) -> Result<(), F
         Change::DropAssignment(callsign) => drop_assignment(tx, callsign),
         Change::DropLoan(callsign) => drop_loan(tx, callsign),
         Change::DropOffer(callsign) => drop_offer(tx, callsign),
-        Change::Settle(_, _) => Ok(()),
+        Change::Settle(callsign, division) => settle(tx, callsign, *division),
     }
 }
 
@@ -207,6 +208,25 @@ fn selected<S: Alter>(
     })
 }
 
+// The vehicle that is found after it was settled.
+fn settled<S: Alter>(
+    rt: &impl Abort,
+    conn: &mut Connection<S>,
+    callsign: &Callsign,
+    holder: DivisionNumber,
+) -> Result<Option<Vehicle>, Fault> {
+    ready(rt, conn);
+    change(conn, &Change::Settle(*callsign, holder))?;
+    ready(rt, conn);
+    vehicle_at(conn, callsign)
+}
+
+// Whether each table numbers its rows.
+fn is_numbered<S: Alter>(rt: &impl Abort, conn: &mut Connection<S>) -> Result<bool, Fault> {
+    ready(rt, conn);
+    are_numbered(conn)
+}
+
 // What names the rows below: division 1, vehicle A1, number 1 of all that is counted.
 #[derive(Clone, Copy)]
 struct Keys {
@@ -227,6 +247,22 @@ fn of_a1() -> Option<Keys> {
     })
 }
 
+fn vehicle(keys: &Keys) -> Option<Vehicle> {
+    let last = LastNumber::new(1)?;
+    Some(Vehicle {
+        callsign: keys.callsign,
+        home: keys.division,
+        holder: keys.division,
+        kind: Kind::Support,
+        place: Place::new(530_000, 180_000)?,
+        status: Status::Mobilised,
+        shift_end: Moment::new(50_000)?,
+        post: PointNumber::new(7),
+        last_order: last,
+        last_report: last,
+    })
+}
+
 fn vehicle_rows(keys: &Keys) -> Option<[Change; 6]> {
     let place = Place::new(530_000, 180_000)?;
     let borrower = DivisionNumber::new(2)?;
@@ -235,18 +271,7 @@ fn vehicle_rows(keys: &Keys) -> Option<[Change; 6]> {
     let last = LastNumber::new(1)?;
     let (callsign, division, number) = (keys.callsign, keys.division, keys.number);
     Some([
-        Change::PutVehicle(Vehicle {
-            callsign,
-            home: division,
-            holder: division,
-            kind: Kind::Support,
-            place,
-            status: Status::Mobilised,
-            shift_end: until,
-            post: PointNumber::new(7),
-            last_order: last,
-            last_report: last,
-        }),
+        Change::PutVehicle(vehicle(keys)?),
         Change::PutTurn(Turn {
             callsign,
             order: number,
@@ -397,6 +422,51 @@ fn rows_are_put_found_and_dropped(rt: HostRuntime) -> Result<(), Fail> {
     for table in ["assignments", "loans", "offers"] {
         assert_eq!(rt; count(&rt, &mut conn, table)?, 0);
     }
+    Ok(())
+}
+
+#[test]
+fn a_vehicle_is_settled(rt: HostRuntime) -> Result<(), Fail> {
+    let keys = of_a1().ok_or("keys")?;
+    let mobilised = vehicle(&keys).ok_or("a vehicle")?;
+    let holder = DivisionNumber::new(2).ok_or("a holder")?;
+    let mut conn = made(&rt)?;
+    ready(&rt, &conn);
+    change(&mut conn, &Change::PutVehicle(mobilised))?;
+    let found = settled(&rt, &mut conn, &keys.callsign, holder)?.ok_or("none is found")?;
+    assert_eq!(rt; found.holder, holder);
+    assert_eq!(rt; found.status, Status::Available);
+    assert_eq!(rt; found.home, keys.division);
+    Ok(())
+}
+
+#[test]
+fn a_vehicle_that_is_not_there_is_not_settled(rt: HostRuntime) -> Result<(), Fail> {
+    let keys = of_a1().ok_or("keys")?;
+    let mut conn = made(&rt)?;
+    assert!(rt; settled(&rt, &mut conn, &keys.callsign, keys.division)?.is_none());
+    assert_eq!(rt; count(&rt, &mut conn, "vehicles")?, 0);
+    Ok(())
+}
+
+#[test]
+fn rows_are_numbered(rt: HostRuntime) -> Result<(), Fail> {
+    let keys = of_a1().ok_or("keys")?;
+    let mut conn = made(&rt)?;
+    assert!(rt; is_numbered(&rt, &mut conn)?);
+    for number in [3, 1, 2] {
+        let division = Division {
+            number: DivisionNumber::new(number).ok_or("a division")?,
+            last_incident: LastNumber::new(0).ok_or("a number")?,
+        };
+        ready(&rt, &conn);
+        change(&mut conn, &Change::PutDivision(division))?;
+    }
+    for row in &vehicle_rows(&keys).ok_or("rows")? {
+        ready(&rt, &conn);
+        change(&mut conn, row)?;
+    }
+    assert!(rt; is_numbered(&rt, &mut conn)?);
     Ok(())
 }
 

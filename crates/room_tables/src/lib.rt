@@ -1,7 +1,7 @@
 //! The room in its tables: loads, puts and drops of rows, and the room that the tables stand for.
 //!
-//! A load gives the rows that the tables stand for, a put or a drop makes one change of them. Loads
-//! run on a connection, also outside a transaction; puts and drops inside one.
+//! A load gives the rows that the tables stand for; a put, a drop or a settling makes one change of
+//! them. Loads run on a connection, also outside a transaction; changes inside one.
 #![tactic(auto)]
 
 pub mod areas;
@@ -14,6 +14,7 @@ pub mod incidents;
 pub mod laws;
 pub mod loans;
 pub mod meta;
+pub mod numbering;
 pub mod offers;
 pub mod points;
 mod reading;

@@ -13,10 +13,10 @@ ghost use Rattle.room_tables.specs.Finds.{listed};
 use room_columns::columns::Stored;
 use room_schema::faults::Fault;
 use room_types::rows::{Row, Rows};
-use sqlite::{Alter, Connection};
+use sqlite::{Alter, Connection, Transaction};
 use sqlite_value::value::ValueRef;
 use std::alloc::Global;
-use table_laws::reading::select;
+use table_laws::reading::{select, select_inside};
 
 /// The rows that a selection shows. A row that is none of its table is `Storage`, and so are rows
 /// whose keys don't rise.
@@ -70,6 +70,23 @@ pub(crate) fn find<X: Stored, S: Alter>(
     ensures survives { Survives (state S.Store conn.old) (state S.Store conn.new) (λ _. ⊥) }
 {
     let shown = select(conn, text, params)?;
+    row_of(shown.as_slice())
+}
+
+/// The row that a selection by a key shows inside a transaction; none where it shows none.
+pub(crate) fn find_inside<X: Stored, S: Alter>(
+    tx: &mut Transaction<'_, S>,
+    text: &str,
+    params: &[ValueRef<'_>],
+) -> Result<Option<X>, Fault>
+    requires { HasCleanDisk (state S.Store tx.old.conn.now) → IsPlain (understood (state S.Store tx.old.conn.now).now.schema text.now) }
+    ensures shown { HasCleanDisk (state S.Store tx.new.conn.now) → IfOk result (λ row. Shown text.now (bound params.now) (state S.Store tx.old.conn.now) (state S.Store tx.new.conn.now) (map X.cells (listed row))) }
+    ensures ok { HasCleanDisk (state S.Store tx.new.conn.now) → OnOk result (IsUnchanged (state S.Store tx.old.conn.now) (state S.Store tx.new.conn.now)) }
+    ensures err { HasCleanDisk (state S.Store tx.new.conn.now) → OnErr result (Keeps (state S.Store tx.old.conn.now) (state S.Store tx.new.conn.now)) }
+    ensures survives { Survives (state S.Store tx.old.conn.now) (state S.Store tx.new.conn.now) (λ _. ⊥) }
+    ensures same_reference { tx.new.conn.ghost_name ≡ tx.old.conn.ghost_name }
+{
+    let shown = select_inside(tx, text, params)?;
     row_of(shown.as_slice())
 }
 

@@ -14,12 +14,13 @@ ghost use Rattle.room_schema.specs.Schema.{room_schema, vehicles_table};
 ghost use Rattle.room_tables.specs.Stands.{House, Stands, StandsFor};
 ghost use Rattle.room_tables.specs.Writes.{Makes};
 
-use crate::reading::{find, load};
+use crate::reading::{find, find_inside, load};
 use room_columns::columns::Field;
 use room_columns::vehicles::vehicle_columns;
 use room_place::plans::DivisionNumber;
 use room_schema::faults::Fault;
 use room_types::callsign::Callsign;
+use room_types::codes::Status;
 use room_types::rows::Rows;
 use room_types::tables::Vehicle;
 use sqlite::{Alter, Connection, Transaction};
@@ -104,4 +105,45 @@ pub fn put_vehicle<S: Alter>(tx: &mut Transaction<'_, S>, vehicle: &Vehicle) -> 
 {
     write(tx, PUT_VEHICLE, &vehicle_columns(vehicle))?;
     Ok(())
+}
+
+/// Gives a vehicle, where it is there, this holder and makes it available.
+pub fn settle<S: Alter>(
+    tx: &mut Transaction<'_, S>,
+    callsign: &Callsign,
+    division: DivisionNumber,
+) -> Result<(), Fault>
+    requires schema { HasCleanDisk (state S.Store tx.old.conn.now) → (state S.Store tx.old.conn.now).now.schema ≡ room_schema }
+    requires inside { HasCleanDisk (state S.Store tx.old.conn.now) → IsTrue (state S.Store tx.old.conn.now).in_transaction }
+    ensures ok { HasCleanDisk (state S.Store tx.new.conn.now) → OnOk result (Makes (state S.Store tx.old.conn.now) (state S.Store tx.new.conn.now) (change.Settle callsign.now division)) }
+    ensures err { HasCleanDisk (state S.Store tx.new.conn.now) → OnErr result (Keeps (state S.Store tx.old.conn.now) (state S.Store tx.new.conn.now)) }
+    ensures survives { Survives (state S.Store tx.old.conn.now) (state S.Store tx.new.conn.now) (λ _. ⊥) }
+    ensures same_reference { tx.new.conn.ghost_name ≡ tx.old.conn.ghost_name }
+{
+    match vehicle_inside(tx, callsign)? {
+        Some(vehicle) => put_vehicle(
+            tx,
+            &Vehicle {
+                holder: division,
+                status: Status::Available,
+                ..vehicle
+            },
+        ),
+        None => Ok(()),
+    }
+}
+
+// The vehicle of a callsign, inside a transaction.
+fn vehicle_inside<S: Alter>(
+    tx: &mut Transaction<'_, S>,
+    callsign: &Callsign,
+) -> Result<Option<Vehicle>, Fault>
+    requires { HasCleanDisk (state S.Store tx.old.conn.now) → (state S.Store tx.old.conn.now).now.schema ≡ room_schema }
+    ensures row { HasCleanDisk (state S.Store tx.new.conn.now) → IfOk result (λ row. (house : House) (room : Room) → Stands (state S.Store tx.old.conn.now).now.trees house room → row ≡ row_at callsign_cmp vehicle_key room.vehicles callsign.now) }
+    ensures ok { HasCleanDisk (state S.Store tx.new.conn.now) → OnOk result (IsUnchanged (state S.Store tx.old.conn.now) (state S.Store tx.new.conn.now)) }
+    ensures err { HasCleanDisk (state S.Store tx.new.conn.now) → OnErr result (Keeps (state S.Store tx.old.conn.now) (state S.Store tx.new.conn.now)) }
+    ensures survives { Survives (state S.Store tx.old.conn.now) (state S.Store tx.new.conn.now) (λ _. ⊥) }
+    ensures same_reference { tx.new.conn.ghost_name ≡ tx.old.conn.ghost_name }
+{
+    find_inside(tx, VEHICLE_AT, &[callsign.store()])
 }

@@ -1,11 +1,11 @@
 -- What a query leaves, whether it shows its rows or fails: nothing is written, and nothing more is left to a stop.
-use Rattle.std.proofs.Common.{◌≡◌, inl, inr, ℕ, List, sym, subst, ◌∙◌, arith}
+use Rattle.std.proofs.Common.{◌≡◌, ◌⊎◌, inl, inr, ℕ, List, sym, subst, ◌∙◌, arith}
 use Rattle.sqlite_value.specs.Order.{Row}
 use Rattle.sqlite_schema.specs.declared.schema.Schema.{Schema}
 use Rattle.sqlite.specs.declared.error.Error.{Error}
 use Rattle.sqlite.specs.Clock.{timed}
 use Rattle.sqlite.specs.Listing.{understood}
-use Rattle.sqlite.specs.State.{State, HasCleanDisk, IsUnchanged, Survives, CommitsShowing, FailsToQuery, FailsToShow, IsNotRun, KeepsCommit, Shown, ShowsRows}
+use Rattle.sqlite.specs.State.{State, HasCleanDisk, IsUnchanged, Survives, CommitsShowing, FailsToQuery, FailsToShow, IsNotRun, IsTooLate, KeepsCommit, Shown, ShowsRows}
 use Rattle.sqlite.proofs.Callers.{IsPlain, never_commits, unchanged_then}
 use Rattle.sqlite.proofs.StateLemmas.{survives_weaker}
 use Rattle.table_laws.specs.Outcomes.{Keeps}
@@ -32,6 +32,13 @@ module _ (text : List ℕ) (params : Row) (old new : State) (plain : HasCleanDis
     query_failed e (inr shows) =
         let known = subst IsPlain shows.1.is (plain early) in
         inl (subst (FailsToShow old new text shows.0 (timed params shows.0.formats shows.1.now) e) known.0 shows.2).3
+
+    -- a plain query writes nothing, so it never comes too late
+    pub never_late : (e : Error) → FailsToQuery text params old new e ⊎ IsTooLate text params old new e → FailsToQuery text params old new e
+    never_late e (inl fails) = fails
+    never_late e (inr late) =
+        let known = subst IsPlain late.1.is (plain early) in
+        absurd (let none = rw known.0 at late.2 in cc)
 
     -- a query that shows its rows has written nothing
     pub query_unchanged : (rows : List Row) → Shown text params old new rows → IsUnchanged old new

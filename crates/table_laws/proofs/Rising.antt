@@ -18,7 +18,7 @@ use Rattle.table_laws.specs.Tables.{Rises, put_in, drop_from}
 pub has_permuted : {X : Type 0} (xs ys : List X) (x : X) → IsPermutation xs ys → Has ys x → Has xs x
 has_permuted xs ys x same = all_has (Has xs) ys x (all-permutation (Has xs) xs ys same (all_from (Has xs) xs (λ e h. h)))
 
-less : (o : Ordering) → is_gt o ≡ false → is_eq o ≡ false → o ≡ Less
+pub less : (o : Ordering) → is_gt o ≡ false → is_eq o ≡ false → o ≡ Less
 less Less h k = refl
 less Equal h k = absurd (true≢false k)
 less Greater h k = absurd (true≢false h)

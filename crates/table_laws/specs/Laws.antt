@@ -1,5 +1,5 @@
 -- What the statements on one table make of what it stands for: each law from the state before a call to the state after it.
-use Rattle.std.specs.Prelude.{◌≡◌, ℕ, List, [], ◌∷◌, ◌++◌, map, filter, Bool, true, Ok, IsPermutation, IsSorted}
+use Rattle.std.specs.Prelude.{◌≡◌, ◌↔◌, ℕ, List, [], ◌∷◌, ◌++◌, map, filter, Bool, true, Ok, IsPermutation, IsSorted}
 use Rattle.std.specs.declared.cmp.Ordering.{Ordering}
 use Rattle.std.specs.Ordering.{is_eq}
 use Rattle.sqlite_value.specs.Order.{Row, column}
@@ -11,7 +11,7 @@ use Rattle.sqlite_schema.specs.declared.schema.Index.{Index}
 use Rattle.sqlite_schema.specs.declared.schema.Schema.{Schema}
 use Rattle.sqlite.specs.State.{State, Shown, Executes}
 use Rattle.room_types.specs.Keyed.{IsKeyed, put_row, drop_row}
-use Rattle.table_laws.specs.Tables.{cells, keys, AreNumbered, Holds}
+use Rattle.table_laws.specs.Tables.{cells, keys, AreNumbered, RowidsRise, Holds}
 use Rattle.table_laws.specs.Outcomes.{Only, MakesTable, MakesIndex}
 use Rattle.table_laws.specs.Statements.{passes, Selects, StandsAlone, Deletes, Upserts, Stores, Creates, Indexes}
 use Rattle.table_laws.specs.Typed.{IsFaithful}
@@ -30,6 +30,11 @@ module _ (schema : Schema) (text : List ℕ) (old new : State) where
   ShowsAll =
       (tree : ℕ) (key more : List ℕ) (params : Row) (rows : List Row) → Selects schema text tree (key ++ more) key [] → old.now.schema ≡ schema → Shown text params old new rows
       → IsPermutation (map (cells (key ++ more)) (old.now.trees tree)) rows × IsSorted (key_cmp 0 (keys key)) rows
+
+  -- The rowids that a selection shows in their order rise where the tree is numbered, and there alone.
+  abbrev pub RowidsTell : Type 0
+  RowidsTell =
+      (tree : ℕ) (params : Row) (rows : List Row) → Selects schema text tree (0 ∷ []) (0 ∷ []) [] → old.now.schema ≡ schema → Shown text params old new rows → RowidsRise rows ↔ AreNumbered (old.now.trees tree)
 
   -- A table that was made is empty, and the others keep their rows.
   abbrev pub CreateMakes : Type 0

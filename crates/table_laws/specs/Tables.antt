@@ -9,7 +9,7 @@ use Rattle.sqlite_value.specs.declared.keys.Collation.TheVariants.{Binary}
 use Rattle.sqlite_value.specs.declared.keys.Key.{Key}
 use Rattle.sqlite_value.specs.Keys.{ascending}
 use Rattle.sqlite_value.specs.Order.{Row, column, value_cmp}
-use Rattle.sqlite_trees.specs.Tree.{rowid, IsAscending}
+use Rattle.sqlite_trees.specs.Tree.{rowid, IsAscending, IsTable}
 use Rattle.sqlite_trees.specs.View.{is_int}
 use Rattle.sqlite_sql.specs.Query.{key_cmp}
 
@@ -38,6 +38,10 @@ keys = map (λ _. ascending Binary)
 -- the rowids are integers, and no two are alike
 abbrev pub AreNumbered : List Row → Type 0
 AreNumbered tree = IsAscending (λ a b. is_eq (value_cmp (rowid a) (rowid b)) ≡ false) tree × AllByRecursion (λ r. is_int (rowid r) ≡ true) tree
+
+-- the rowids are integers, each below all later ones
+abbrev pub RowidsRise : List Row → Type 0
+RowidsRise rows = IsTable rows × AllByRecursion (λ r. is_int (rowid r) ≡ true) rows
 
 -- The tree stands for the rows: its rows have these at the places of the columns, and rise by the first columns, which are the key.
 pub record Holds (places key : List ℕ) (tree rows : List Row) : Type 0 where

@@ -9,6 +9,7 @@ ghost use Rattle.sqlite.specs.Tree.{Trees};
 ghost use Rattle.table_laws.specs.Laws.{
   ShowsPassing,
   ShowsAll,
+  RowidsTell,
   CreateMakes,
   IndexMakes,
   StandsForOne,
@@ -34,10 +35,12 @@ pub fn a_tree_stands_for_what_was_read<X, K>()
     ensures rowids { (order : K → K → Ordering) (key : X → K) (row : X → Row) → NumbersRead order key row }
 {}
 
-/// A selection shows the rows of any tree that pass, each once and in key order.
+/// A selection shows the rows of any tree that pass, each once and in key order. The rowids that
+/// it shows rise where the tree is numbered, and there alone.
 pub fn a_selection_shows_the_rows_that_pass<S: Alter>(before: &Connection<S>, after: &Connection<S>)
     ensures passing { (schema : Schema) (text : List ℕ) → ShowsPassing schema text (state S.Store before.now) (state S.Store after.now) }
     ensures all { (schema : Schema) (text : List ℕ) → ShowsAll schema text (state S.Store before.now) (state S.Store after.now) }
+    ensures rowids { (schema : Schema) (text : List ℕ) → RowidsTell schema text (state S.Store before.now) (state S.Store after.now) }
 {}
 
 /// A selection of a table that stands for a list is a selection of the list.

@@ -10,8 +10,9 @@
 //! 3. For each text it has a `Selects`, `Upserts`, `Deletes`, `Creates` or `Indexes`, whose facts are
 //!    `refl`; for each table a `StandsAlone`; for the rows of an upsert `stores_row` or `stores_rowid`.
 //! 4. `specs/Laws` says what such a statement makes of the list; the functions of `laws` promise it.
-//! 5. Loads run by `select`, whose clauses say that no outcome changes anything. Puts and drops run
-//!    inside a `Transaction`, whose own clauses say what an error and a stop leave.
+//! 5. Loads run by `select`, or by `select_inside` within a `Transaction`, whose clauses say that no
+//!    outcome changes anything. Puts and drops run by `write`, whose clauses say what an error and a stop
+//!    leave.
 //! 6. After an open, `stands_for_read` and `numbers_read` take what was read and tested to `Holds`.
 #![tactic(auto)]
 

@@ -1,4 +1,4 @@
-//! Queries that write nothing, whether they succeed or fail.
+//! Queries that write nothing, whether they succeed or fail, on a connection and inside a transaction.
 
 ghost use Rattle.std.specs.Prelude.{◌≡◌, false, IfOk, IfErr, OnOk, OnErr};
 ghost use Rattle.sqlite.specs.Given.{IsPlain};
@@ -8,7 +8,7 @@ ghost use Rattle.sqlite.specs.State.{FailsToQuery, HasCleanDisk, IsUnchanged, Sh
 ghost use Rattle.sqlite.specs.Values.{bound};
 ghost use Rattle.table_laws.specs.Outcomes.{Keeps};
 
-use sqlite::{Alter, Connection, Error, Row};
+use sqlite::{Alter, Connection, Error, Row, Transaction};
 use sqlite_value::value::ValueRef;
 
 /// The rows that a query shows. It changes nothing, also where memory or storage fails, but that a
@@ -27,4 +27,22 @@ pub fn select<S: Alter>(
     ensures survives { Survives (state S.Store conn.old) (state S.Store conn.new) (λ _. ⊥) }
 {
     conn.query_all(text, params)
+}
+
+/// The rows that a query shows inside a transaction. It changes nothing, also where memory or storage
+/// fails, but that a failed store undoes the transaction, and it leaves nothing more to a stop.
+pub fn select_inside<S: Alter>(
+    tx: &mut Transaction<'_, S>,
+    text: &str,
+    params: &[ValueRef<'_>],
+) -> Result<Vec<Row>, Error>
+    requires { HasCleanDisk (state S.Store tx.old.conn.now) → IsPlain (understood (state S.Store tx.old.conn.now).now.schema text.now) }
+    ensures shown { HasCleanDisk (state S.Store tx.new.conn.now) → IfOk result (λ rows. Shown text.now (bound params.now) (state S.Store tx.old.conn.now) (state S.Store tx.new.conn.now) rows.items) }
+    ensures ok { HasCleanDisk (state S.Store tx.new.conn.now) → OnOk result (IsUnchanged (state S.Store tx.old.conn.now) (state S.Store tx.new.conn.now)) }
+    ensures err { HasCleanDisk (state S.Store tx.new.conn.now) → OnErr result (Keeps (state S.Store tx.old.conn.now) (state S.Store tx.new.conn.now)) }
+    ensures why { HasCleanDisk (state S.Store tx.new.conn.now) → IfErr result (FailsToQuery text.now (bound params.now) (state S.Store tx.old.conn.now) (state S.Store tx.new.conn.now)) }
+    ensures survives { Survives (state S.Store tx.old.conn.now) (state S.Store tx.new.conn.now) (λ _. ⊥) }
+    ensures same_reference { tx.new.conn.ghost_name ≡ tx.old.conn.ghost_name }
+{
+    tx.query_all(text, params)
 }

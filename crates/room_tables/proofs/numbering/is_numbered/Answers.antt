@@ -1,0 +1,19 @@
+use Rattle.std.proofs.Common.{arith}
+use Rattle.sqlite.specs.Held.{state}
+use Rattle.sqlite.specs.State.{HasCleanDisk}
+use Rattle.table_laws.proofs.Refusals.{plain_here}
+use Rattle.table_laws.proofs.Openings.{rowids_tell}
+use Rattle.room_schema.specs.Schema.{room_schema}
+use Rattle.room_tables.proofs.numbering.is_numbered.Goals as goal
+
+pub select-requires : goal.select-requires
+select-requires g c clean = plain_here room_schema _ c.args.text.now (c.requires.schema clean) (c.requires.selects clean).1.plain
+
+pub returns-clause-numbered : goal.returns-clause-numbered
+returns-clause-numbered g c clean tree selects =
+    let old = state g.S.Store c.args.conn.now in
+    let new = state g.S.Store c.select.new.conn in
+    let early : HasCleanDisk old = omega (arith, c.select.ensures.survives.clean) in
+    let tells = rowids_tell room_schema c.args.text.now old new tree _ _ selects (c.requires.schema early) (c.in_ok-shown.ensures.shown clean) in
+    let rise = rw c.as_slice.ensures.value at c.rise.ensures in
+    (λ yes. tells.0 (rise.0 yes), λ numbered. rise.1 (tells.1 numbered))

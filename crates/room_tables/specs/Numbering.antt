@@ -1,0 +1,30 @@
+-- Whether the tables of a room number their rows.
+use Rattle.std.specs.Prelude.{ℕ, ℤ, List, [], ◌∷◌, Option, Some, None, ⊤}
+use Rattle.std.specs.List.{AllByRecursion}
+use Rattle.sqlite_value.specs.declared.value.Value.{Value}
+use Rattle.sqlite_value.specs.declared.value.Value.TheVariants.{Int}
+use Rattle.sqlite_schema.specs.declared.schema.Table.{Table}
+use Rattle.sqlite_trees.specs.Tree.{Trees}
+use Rattle.table_laws.specs.Statements.{Selects}
+use Rattle.table_laws.specs.Tables.{AreNumbered}
+use Rattle.room_schema.specs.Schema.{room_schema, room_tables}
+
+-- the integer that a value is
+abbrev pub integer_in : Value → Option ℤ
+integer_in (Int n) = Some n
+integer_in _ = None
+
+-- the text selects the rowids of a tree, in their order
+abbrev pub SelectsRowids : List ℕ → ℕ → Type 0
+SelectsRowids text tree = Selects room_schema text tree (0 ∷ []) (0 ∷ []) []
+
+-- the texts select the rowids of the tables, each those of its own
+abbrev pub SelectEach : List (List ℕ) → List Table → Type 0
+SelectEach [] [] = ⊤
+SelectEach [] (table ∷ tables) = ⊥
+SelectEach (text ∷ texts) [] = ⊥
+SelectEach (text ∷ texts) (table ∷ tables) = SelectsRowids text table.tree × SelectEach texts tables
+
+-- each table's rows have rowids, and no two rows of one table have the same
+abbrev pub AreAllNumbered : Trees → Type 0
+AreAllNumbered trees = AllByRecursion (λ table. AreNumbered (trees table.tree)) room_tables

@@ -1,0 +1,102 @@
+//! Whether the tables of a file number their rows. Tables that this program made do; of a file from
+//! elsewhere no clause says so, and it is tested.
+
+ghost use Rattle.std.specs.Prelude.{◌≡◌, ◌↔◌, ℕ, false, map, IsTrue, IfOk, OnOk, OnErr};
+ghost use Rattle.sqlite.specs.Held.{state};
+ghost use Rattle.sqlite.specs.State.{HasCleanDisk, IsUnchanged, Survives};
+ghost use Rattle.sqlite_trees.specs.Tree.{rowid};
+ghost use Rattle.table_laws.specs.Outcomes.{Keeps};
+ghost use Rattle.table_laws.specs.Tables.{AreNumbered, RowidsRise};
+ghost use Rattle.room_schema.specs.Schema.{room_schema, room_tables};
+ghost use Rattle.room_tables.specs.Numbering.{SelectsRowids, SelectEach, AreAllNumbered, integer_in};
+
+use room_schema::faults::Fault;
+use sqlite::{Alter, Connection, Row};
+use sqlite_value::value::ValueRef;
+use table_laws::reading::select;
+
+// The rowids of each table in their order, the tables in the order in which they are made.
+const ROWIDS: [&str; 13] = [
+    "SELECT rowid FROM meta ORDER BY rowid",
+    "SELECT rowid FROM areas ORDER BY rowid",
+    "SELECT rowid FROM terminals ORDER BY rowid",
+    "SELECT rowid FROM divisions ORDER BY rowid",
+    "SELECT rowid FROM incidents ORDER BY rowid",
+    "SELECT rowid FROM calls ORDER BY rowid",
+    "SELECT rowid FROM vehicles ORDER BY rowid",
+    "SELECT rowid FROM turns ORDER BY rowid",
+    "SELECT rowid FROM assignments ORDER BY rowid",
+    "SELECT rowid FROM points ORDER BY rowid",
+    "SELECT rowid FROM loans ORDER BY rowid",
+    "SELECT rowid FROM reports ORDER BY rowid",
+    "SELECT rowid FROM offers ORDER BY rowid",
+];
+
+/// Whether every table of a room numbers its rows, each number once.
+pub fn are_numbered<S: Alter>(conn: &mut Connection<S>) -> Result<bool, Fault>
+    requires { HasCleanDisk (state S.Store conn.old) → (state S.Store conn.old).now.schema ≡ room_schema }
+    ensures numbered { HasCleanDisk (state S.Store conn.new) → IfOk result (λ yes. IsTrue yes ↔ AreAllNumbered (state S.Store conn.old).now.trees) }
+    ensures ok { HasCleanDisk (state S.Store conn.new) → OnOk result (IsUnchanged (state S.Store conn.old) (state S.Store conn.new)) }
+    ensures err { HasCleanDisk (state S.Store conn.new) → OnErr result (Keeps (state S.Store conn.old) (state S.Store conn.new)) }
+    ensures mode { conn.old.in_transaction ≡ false → conn.new.in_transaction ≡ false }
+    ensures survives { Survives (state S.Store conn.old) (state S.Store conn.new) (λ _. ⊥) }
+{
+    are_all_numbered(conn, &ROWIDS)
+}
+
+// Whether every table numbers its rows, by the texts that select their rowids.
+fn are_all_numbered<S: Alter>(conn: &mut Connection<S>, texts: &[&str]) -> Result<bool, Fault>
+    requires schema { HasCleanDisk (state S.Store conn.old) → (state S.Store conn.old).now.schema ≡ room_schema }
+    requires texts { SelectEach (map (λ text. text.now) texts.now) room_tables }
+    ensures numbered { HasCleanDisk (state S.Store conn.new) → IfOk result (λ yes. IsTrue yes ↔ AreAllNumbered (state S.Store conn.old).now.trees) }
+    ensures ok { HasCleanDisk (state S.Store conn.new) → OnOk result (IsUnchanged (state S.Store conn.old) (state S.Store conn.new)) }
+    ensures err { HasCleanDisk (state S.Store conn.new) → OnErr result (Keeps (state S.Store conn.old) (state S.Store conn.new)) }
+    ensures mode { conn.old.in_transaction ≡ false → conn.new.in_transaction ≡ false }
+    ensures survives { Survives (state S.Store conn.old) (state S.Store conn.new) (λ _. ⊥) }
+{
+    for text in texts {
+        if !is_numbered(conn, text)? {
+            return Ok(false);
+        }
+    }
+    Ok(true)
+}
+
+// Whether a table numbers its rows, by the text that selects its rowids.
+fn is_numbered<S: Alter>(conn: &mut Connection<S>, text: &str) -> Result<bool, Fault>
+    requires schema { HasCleanDisk (state S.Store conn.old) → (state S.Store conn.old).now.schema ≡ room_schema }
+    requires selects { HasCleanDisk (state S.Store conn.old) → (tree : ℕ) × SelectsRowids text.now tree }
+    ensures numbered { HasCleanDisk (state S.Store conn.new) → IfOk result (λ yes. (tree : ℕ) → SelectsRowids text.now tree → (IsTrue yes ↔ AreNumbered ((state S.Store conn.old).now.trees tree))) }
+    ensures ok { HasCleanDisk (state S.Store conn.new) → OnOk result (IsUnchanged (state S.Store conn.old) (state S.Store conn.new)) }
+    ensures err { HasCleanDisk (state S.Store conn.new) → OnErr result (Keeps (state S.Store conn.old) (state S.Store conn.new)) }
+    ensures mode { conn.old.in_transaction ≡ false → conn.new.in_transaction ≡ false }
+    ensures survives { Survives (state S.Store conn.old) (state S.Store conn.new) (λ _. ⊥) }
+{
+    let shown = select(conn, text, &[])?;
+    Ok(rise(shown.as_slice()))
+}
+
+// Whether the rowids are integers, each above the one before it.
+fn rise(shown: &[Row]) -> bool
+    ensures { IsTrue result ↔ RowidsRise shown.now }
+{
+    let mut last = None;
+    for row in shown {
+        let id = rowid_of(row);
+        if id <= last {
+            return false;
+        }
+        last = id;
+    }
+    true
+}
+
+// The rowid, which is shown first; none where it is no integer.
+fn rowid_of(row: &Row) -> Option<i64>
+    ensures { result ≡ integer_in (rowid row.now) }
+{
+    match row.get_ref(0) {
+        Ok(ValueRef::Int(id)) => Some(id),
+        _ => None,
+    }
+}
