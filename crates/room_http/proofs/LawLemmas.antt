@@ -25,7 +25,7 @@ use Rattle.room_days.proofs.SpanLaws.{one_span_law}
 use Rattle.room_http.specs.Events.{AsksAs, AsksAt, AsksBy, IsAskFor, named}
 use Rattle.room_http.specs.Laws.{IsOneTalk}
 use Rattle.room_http.specs.Outcomes.{message, refused, is_head_only, is_closing}
-use Rattle.room_http.specs.Rooms.{Step}
+use Rattle.room_service.specs.Rooms.{Step}
 use Rattle.room_http.specs.Talk.{Timed, Finds, replied, IsReplyTo, IsTalk}
 
 one_ask : (zone : Zone) (given : Wanted) (a b : Ask) → IsAskFor zone given a → IsAskFor zone given b → a ≡ b

@@ -15,7 +15,7 @@ use Rattle.room_http.specs.Answering.{Answers}
 use Rattle.room_http.specs.Moments.{HasNoMoment}
 use Rattle.room_http.specs.Outcomes.{Outcome, is_closing, is_head_only, Begins, HasNext}
 use Rattle.room_days.specs.declared.zones.Zone.{Zone}
-use Rattle.room_http.specs.Rooms.{Step, IsWant}
+use Rattle.room_service.specs.Rooms.{Step, IsWant}
 use Rattle.room_http.specs.Serving.{Sides, Finish, Answered, Wanted, Broken, ServeIs}
 use Rattle.room_http.specs.Talk.{Timed, IsFront, BreaksOff, Talks}
 use Rattle.room_http.proofs.StreamLemmas.{Passes, Begins-push}

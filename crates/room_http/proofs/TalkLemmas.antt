@@ -5,7 +5,7 @@ use Rattle.room_types.specs.declared.fleet.Terminal.{Terminal}
 use Rattle.room_model.specs.Room.{Room}
 use Rattle.room_message.proofs.StreamLemmas.{Appends-more, Appends-none}
 use Rattle.room_days.specs.declared.zones.Zone.{Zone}
-use Rattle.room_http.specs.Rooms.{Step}
+use Rattle.room_service.specs.Rooms.{Step}
 use Rattle.room_http.specs.Talk.{Timed, IsReplyTo, IsTalk, Talks}
 
 module _ (step : Step) (zone : Zone) (terminals : List Terminal) where

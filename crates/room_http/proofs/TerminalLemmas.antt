@@ -17,7 +17,7 @@ use Rattle.room_model.specs.Queries.{vehicle_at}
 use Rattle.room_model.specs.Room.{Room}
 use Rattle.room_model.proofs.Tests.{row_key}
 use Rattle.room_http.specs.Events.{token_of}
-use Rattle.room_http.specs.Rooms.{who_at}
+use Rattle.room_service.specs.Rooms.{who_at}
 
 both : (a b : Bool) → (a && b) ≡ true → (a ≡ true) × (b ≡ true)
 both true true h = (refl, refl)

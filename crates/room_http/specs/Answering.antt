@@ -7,7 +7,7 @@ use Rattle.room_model.specs.Room.{Room}
 use Rattle.room_http.specs.declared.moments.TheConstants.{LAST_MOMENT}
 use Rattle.room_http.specs.declared.serving.ServeEnd.{ServeEnd}
 use Rattle.room_http.specs.declared.serving.ServeEnd.TheVariants.{Closed, Cut, ReadFault, WriteFault, ClockFault, Turns, Memory}
-use Rattle.room_http.specs.Rooms.{Step, IsWant}
+use Rattle.room_service.specs.Rooms.{Step, IsWant}
 use Rattle.room_http.specs.Outcomes.{Outcome, is_head_only}
 use Rattle.room_http.specs.Moments.{HasNoMoment}
 use Rattle.room_answers.specs.Replies.{fixed_bytes}

@@ -18,7 +18,7 @@ use Rattle.room_bodies.specs.declared.asking.Wanted.{Wanted}
 use Rattle.room_bodies.specs.declared.asking.Wanted.TheVariants as wanted
 use Rattle.room_days.specs.Days.{IsSpan, zone_of}
 use Rattle.room_days.specs.declared.zones.Zone.{Zone}
-use Rattle.room_http.specs.Rooms.{who_at}
+use Rattle.room_service.specs.Rooms.{who_at}
 
 -- the token that a field has for its value
 abbrev pub token_of : Option (List ℕ) → Option Token

@@ -17,7 +17,7 @@ use Rattle.room_http.specs.declared.requests.Request.{Request}
 use Rattle.room_http.specs.Events.{AsksFor, IsAskFor, named}
 use Rattle.room_http.specs.Outcomes.{Outcome, IsShown}
 use Rattle.room_days.specs.declared.zones.Zone.{Zone}
-use Rattle.room_http.specs.Rooms.{IsWant}
+use Rattle.room_service.specs.Rooms.{IsWant}
 use Rattle.room_http.specs.Talk.{Finds}
 
 -- what is wanted was found, or there was no memory to find it

@@ -1,4 +1,3 @@
-pub mod Rooms
 pub mod Outcomes
 pub mod Events
 pub mod Talk

@@ -6,7 +6,7 @@ use Rattle.room_model.specs.Room.{Room}
 use Rattle.room_http.specs.declared.requests.Request.{Request}
 use Rattle.room_http.specs.Outcomes.{Outcome, IsShown}
 use Rattle.room_days.specs.declared.zones.Zone.{Zone}
-use Rattle.room_http.specs.Rooms.{Step, IsWant}
+use Rattle.room_service.specs.Rooms.{Step, IsWant}
 use Rattle.room_http.specs.Talk.{IsReplyTo}
 
 -- the bytes are the answer, and the room is the one after it; or memory or storage is wanting, and the room is as it was

@@ -10,7 +10,7 @@ use Rattle.room_message.specs.Streams.{CountsBy}
 use Rattle.room_http.specs.declared.serving.ServeEnd.{ServeEnd}
 use Rattle.room_http.specs.declared.serving.ServeEnd.TheVariants.{Closed, Cut, ReadFault, WriteFault, ClockFault, Turns, Memory}
 use Rattle.room_http.specs.declared.moments.TheConstants.{LAST_MOMENT}
-use Rattle.room_http.specs.Rooms.{Step, IsWant}
+use Rattle.room_service.specs.Rooms.{Step, IsWant}
 use Rattle.room_http.specs.Outcomes.{Outcome, is_head_only, is_closing, Begins, HasNext}
 use Rattle.room_days.specs.declared.zones.Zone.{Zone}
 use Rattle.room_http.specs.Moments.{HasNoMoment}

@@ -10,7 +10,7 @@ use Rattle.room_answers.specs.Replies.{IsReply}
 use Rattle.room_http.specs.Events.{AsksFor}
 use Rattle.room_http.specs.Outcomes.{Outcome, message, refused, is_head_only, is_closing}
 use Rattle.room_days.specs.declared.zones.Zone.{Zone}
-use Rattle.room_http.specs.Rooms.{Step}
+use Rattle.room_service.specs.Rooms.{Step}
 
 -- an outcome, with the moment at which it is answered
 abbrev pub Timed : Type 0

@@ -6,13 +6,13 @@ ghost use Rattle.room_http.specs.Answering.{Answers};
 use crate::moments::moment;
 use crate::replies::reply;
 use crate::requests::Request;
-use crate::rooms::Room;
 use crate::serving::ServeEnd;
 use room_answers::fixed::fixed;
 use room_days::zones::Zone;
 use room_message::clocks::Clock;
 use room_message::sinks::{Sink, write_all};
 use room_routes::routes::Routes;
+use room_service::rooms::Room;
 use std::alloc::Global;
 
 /// Answers a request at the moment of the clock, or says why serving ends with it.

@@ -7,7 +7,6 @@ ghost use Rattle.room_http.specs.Events.{IsAskFor, token_of};
 ghost use Rattle.room_http.specs.Findings.{FindsAsk, FindsEvent, FindsMessage, FindsTerminal};
 
 use crate::requests::Request;
-use crate::rooms::Room;
 use room_bodies::asking::{Wanted, ask_of};
 use room_bodies::roles::Role;
 use room_days::zones::Zone;
@@ -15,6 +14,7 @@ use room_message::messages::Message;
 use room_routes::days::Day;
 use room_routes::routes::Routes;
 use room_routes::targets::Target;
+use room_service::rooms::Room;
 use room_types::asks::{Ask, Event, Who};
 use room_types::numbers::Moment;
 use room_types::refusals::Refusal;

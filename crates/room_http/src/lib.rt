@@ -7,7 +7,6 @@ pub mod laws;
 pub mod moments;
 pub mod replies;
 pub mod requests;
-pub mod rooms;
 pub mod serving;
 #[cfg(test)]
 mod tests;

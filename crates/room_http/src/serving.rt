@@ -4,7 +4,6 @@ ghost use Rattle.room_http.specs.Serving.{ReadsAtMost, ServeIs};
 
 use crate::answering::answer;
 use crate::requests::Request;
-use crate::rooms::Room;
 use room_days::zones::Zone;
 use room_message::clocks::Clock;
 use room_message::endings::Ending;
@@ -13,6 +12,7 @@ use room_message::reading::read_message;
 use room_message::sinks::Sink;
 use room_message::sources::Source;
 use room_routes::routes::Routes;
+use room_service::rooms::Room;
 use std::alloc::Global;
 
 /// Why serving ended.

@@ -3,11 +3,11 @@ ghost use Rattle.std.specs.Prelude.{◌≡◌, false};
 
 mod doubles;
 
-use crate::rooms::Room;
 use crate::serving::{ServeEnd, serve};
 use doubles::{Deaf, NEVER, Narrow, Pieces, Toy};
 use room_days::zones::Zone;
 use room_message::clocks::{Clock, FixedClock, ListClock};
+use room_service::rooms::Room;
 use std::alloc::Global;
 use std::test::Fail;
 
@@ -37,7 +37,7 @@ fn written(alloc: Global, stream: &[u8], size: usize) -> Result<(String, ServeEn
         &mut Pieces::new(stream, size, NEVER),
         &mut writer,
         &mut Toy::new(),
-        &mut FixedClock::new(1000),
+        &mut FixedClock::<1000>::new(),
     )?;
     Ok((writer.text()?, end))
 }
@@ -320,7 +320,7 @@ fn each_failing_read(rt: HostRuntime) -> Result<(), Fail> {
             &mut reader,
             &mut writer,
             &mut room,
-            &mut FixedClock::new(1000),
+            &mut FixedClock::<1000>::new(),
         )?;
         let (messages, bytes, _) = answered_by(place);
         assert_eq!(rt; end, ServeEnd::ReadFault, "at {place}");
@@ -342,7 +342,7 @@ fn each_failing_write(rt: HostRuntime) -> Result<(), Fail> {
             &mut reader,
             &mut writer,
             &mut room,
-            &mut FixedClock::new(1000),
+            &mut FixedClock::<1000>::new(),
         )?;
         let text = writer.text()?;
         assert!(rt; ANSWERS.starts_with(text.as_str()), "at {stops_at}");
@@ -365,7 +365,7 @@ fn each_number_of_turns(rt: HostRuntime) -> Result<(), Fail> {
     for granted in 0..40u32 {
         let mut writer = Narrow::new(rt.alloc(), NEVER, NEVER);
         let mut reader = Pieces::new(THREE, 5, NEVER);
-        let mut clock = FixedClock::new(1000);
+        let mut clock = FixedClock::<1000>::new();
         let end = serve(
             rt.alloc(),
             &mut reader,
@@ -445,7 +445,7 @@ fn want_is_told_and_closes(rt: HostRuntime) -> Result<(), Fail> {
                 &mut reader,
                 &mut writer,
                 &mut room,
-                &mut FixedClock::new(1000),
+                &mut FixedClock::<1000>::new(),
             )?;
             let text = writer.text()?;
             let before = [0usize, 150, 258][wanting];
@@ -475,7 +475,7 @@ fn a_room_without_terminals_knows_none(rt: HostRuntime) -> Result<(), Fail> {
         &mut reader,
         &mut writer,
         &mut room,
-        &mut FixedClock::new(1000),
+        &mut FixedClock::<1000>::new(),
     )?;
     let unknown = answer(
         rt.alloc(),

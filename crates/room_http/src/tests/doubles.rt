@@ -6,10 +6,10 @@ ghost use Rattle.room_types.specs.declared.fleet.Terminal.{Terminal};
 ghost use Rattle.room_types.specs.declared.refusals.Refusal.TheVariants.{NoTerminal};
 ghost use Rattle.room_model.specs.Enrol.{AreTerminals};
 
-use crate::rooms::Room;
 use room_message::sinks::{Sink, WriteFailed};
 use room_message::sources::{ReadFailed, Source};
 use room_place::plans::DivisionNumber;
+use room_service::rooms::Room;
 use room_types::answers::{Answer, Listed};
 use room_types::asks::{Ask, Event, Who};
 use room_types::callsign::Callsign;

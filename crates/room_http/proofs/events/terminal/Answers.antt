@@ -1,5 +1,5 @@
 use Rattle.std.proofs.Common.{◌∙◌, sym, ap, option_and_then}
-use Rattle.room_http.specs.Rooms.{who_at}
+use Rattle.room_service.specs.Rooms.{who_at}
 use Rattle.room_http.proofs.TerminalLemmas.{found_known}
 use Rattle.room_http.proofs.events.terminal.Goals as goal
 

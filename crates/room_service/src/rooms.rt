@@ -8,7 +8,7 @@ ghost use Rattle.room_types.specs.declared.refusals.Refusal.TheVariants.{Memory}
 ghost use Rattle.room_model.specs.Room.{Room as Held};
 ghost use Rattle.room_model.specs.Step.{IsAddressed};
 ghost use Rattle.room_model.specs.Enrol.{AreTerminals};
-ghost use Rattle.room_http.specs.Rooms.{Step, who_at, IsWant};
+ghost use Rattle.room_service.specs.Rooms.{Step, who_at, IsWant};
 
 use room_types::answers::Answer;
 use room_types::asks::{Event, Who};
