@@ -1,0 +1,9 @@
+mod Agreements
+mod AtEachKey
+mod CrewLaws
+mod OpeningLaws
+mod PassingRows
+mod RoomLaws
+mod RowLaws
+mod TerminalLaws
+mod TokenOrder
