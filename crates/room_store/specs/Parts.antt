@@ -1,5 +1,5 @@
 -- Parts of a division's working rows, as they stand in the room.
-use Rattle.std.specs.Prelude.{Bool, List, filter, not, ℕ, ◌≡◌, ◌&&◌, ◌==◌}
+use Rattle.std.specs.Prelude.{List, filter, ℕ, ◌≡◌, ◌&&◌, ◌==◌}
 use Rattle.room_types.specs.Keys.{owns_assignment, owns_division, owns_loan, owns_offer, owns_point, owns_vehicle}
 use Rattle.room_types.specs.declared.asks.Ask.{Ask}
 use Rattle.room_model.specs.Room.{Room}

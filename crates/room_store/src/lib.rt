@@ -1,8 +1,17 @@
-//! The room in its tables: what a request reads of them.
+//! The room in its tables.
 #![tactic(auto)]
 
-pub mod crews;
-pub mod deciding;
+mod acting;
+pub mod creating;
+mod crews;
+mod deciding;
+mod enrolling;
 mod naming;
+pub mod opening;
+mod running;
+mod serving;
+pub mod store;
 mod unions;
-pub mod working;
+mod whole;
+mod working;
+mod writing;

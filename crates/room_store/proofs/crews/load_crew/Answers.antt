@@ -1,10 +1,9 @@
-use Rattle.std.proofs.Common.{None, Some, ap, arith, subst, sym, ◌∙◌, ◌≡◌}
+use Rattle.std.proofs.Common.{arith, sym, ◌∙◌, ◌≡◌}
 use Rattle.sqlite.specs.Held.{state}
 use Rattle.sqlite.specs.State.{HasCleanDisk}
 use Rattle.room_types.specs.Keys.{callsign_cmp, vehicle_key}
 use Rattle.room_types.specs.Orders.{callsigns_total, exact_callsigns}
 use Rattle.room_model.proofs.Tests.{row_key}
-use Rattle.room_store.specs.CrewParts.{IsSent}
 use Rattle.room_store.proofs.RoomReads.{kept}
 use Rattle.room_store.proofs.crews.load_crew.Goals as goal
 

@@ -1,4 +1,4 @@
-use Rattle.std.proofs.Common.{None, ap, arith, rules, sym, ◌∙◌, ◌≡◌}
+use Rattle.std.proofs.Common.{arith, rules, sym, ◌∙◌, ◌≡◌}
 use Rattle.sqlite.specs.Held.{state}
 use Rattle.sqlite.specs.State.{HasCleanDisk}
 use Rattle.room_store.proofs.CrewReads.{no_turn, turn_of_order}

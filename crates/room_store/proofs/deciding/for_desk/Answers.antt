@@ -1,4 +1,3 @@
-use Rattle.std.proofs.Common.{ap, sym, ◌∙◌, ◌≡◌}
 use Rattle.room_model.specs.Step.{desk_asks}
 use Rattle.std.proofs.lemmas.Result.{IfOk-weaker}
 use Rattle.room_store.proofs.deciding.for_desk.Goals as goal

@@ -1,4 +1,4 @@
-use Rattle.std.proofs.Common.{arith, drop, length, sym, ◌∙◌, ◌≤◌}
+use Rattle.std.proofs.Common.{arith, length, ◌∙◌, ◌≤◌}
 use Rattle.std.proofs.lemmas.List.{drop_all}
 use Rattle.room_store.proofs.KeyedUnions.{union_is}
 use Rattle.room_store.proofs.unions.add_all.Goals as goal

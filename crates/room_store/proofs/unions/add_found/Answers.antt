@@ -1,5 +1,5 @@
 use Rattle.std.proofs.Common.{refl, ◌∙◌, None, Some}
-use Rattle.room_store.proofs.KeyedUnions.{found_too, listed, put_all}
+use Rattle.room_store.proofs.KeyedUnions.{found_too}
 use Rattle.room_store.proofs.unions.add_found.Goals as goal
 
 pub returns-in_ok-add-in-Some-clause-either : goal.returns-in_ok-add-in-Some-clause-either

@@ -1,6 +1,4 @@
-use Rattle.std.proofs.Common.{ap, ◌&&◌, ◌∙◌, ◌||◌}
-use Rattle.std.specs.Prelude.{◌==◌}
-use Rattle.room_store.specs.Reading.{is_number}
+use Rattle.std.proofs.Common.{ap, ◌∙◌, ◌||◌}
 use Rattle.room_store.proofs.RoomReads.{filter_as, pair_is}
 use Rattle.room_store.proofs.working.add_named.Goals as goal
 

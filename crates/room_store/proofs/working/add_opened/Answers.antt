@@ -1,4 +1,4 @@
-use Rattle.std.proofs.Common.{ap, arith, pos, rules, FitsSigned, w64, ◌&&◌, ◌∙◌, ◌||◌}
+use Rattle.std.proofs.Common.{ap, pos, rules, FitsSigned, w64, ◌&&◌, ◌∙◌, ◌||◌}
 use Rattle.std.proofs.lemmas.Int.{to_z-of_z}
 use Rattle.std.specs.Prelude.{int_le, int_lt, ◌==◌}
 use Rattle.room_store.proofs.RoomReads.{and_turned, filter_as}

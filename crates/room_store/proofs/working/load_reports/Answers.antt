@@ -1,9 +1,8 @@
 use Rattle.std.proofs.Common.{ap, arith, refl, sym, ◌&&◌, ◌∙◌, ◌||◌}
-use Rattle.std.specs.Prelude.{filter, not, ◌==◌}
+use Rattle.std.specs.Prelude.{filter, ◌==◌}
 use Rattle.sqlite.specs.Held.{state}
 use Rattle.sqlite.specs.State.{HasCleanDisk}
 use Rattle.room_types.proofs.KeyedLaws.{keyed_filter, row_filter}
-use Rattle.room_types.specs.Codes.{is_normal}
 use Rattle.room_types.specs.Keyed.{keep}
 use Rattle.room_types.specs.Keys.{numbered_cmp, owns_report, report_key}
 use Rattle.room_types.specs.Orders.{numbered_total}

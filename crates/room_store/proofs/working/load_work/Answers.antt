@@ -1,7 +1,7 @@
 use Rattle.std.proofs.Common.{ap, arith, ◌&&◌, ◌∙◌}
 use Rattle.std.specs.Prelude.{◌==◌}
 use Rattle.sqlite.specs.Held.{state}
-use Rattle.sqlite.specs.State.{HasCleanDisk, IsUnchanged}
+use Rattle.sqlite.specs.State.{HasCleanDisk}
 use Rattle.room_store.proofs.RoomReads.{filter_as, kept}
 use Rattle.room_store.proofs.working.load_work.Goals as goal
 

@@ -1,4 +1,4 @@
-use Rattle.std.proofs.Common.{ap, arith, is_some, length, map, sym, take_all, ◌&&◌, ◌∙◌, ◌≡◌, ◌≤◌, ◌||◌}
+use Rattle.std.proofs.Common.{ap, arith, is_some, length, map, sym, take_all, ◌∙◌, ◌≤◌, ◌||◌}
 use Rattle.room_types.specs.Keyed.{keep}
 use Rattle.room_model.specs.Queries.{incident_of}
 use Rattle.room_model.specs.Working.{reads_incident}

@@ -1,5 +1,3 @@
-use Rattle.std.proofs.Common.{ap, ◌∙◌}
-use Rattle.room_store.specs.Reading.{contains}
 use Rattle.room_store.proofs.ReadNumbers.{contains_last}
 use Rattle.room_store.proofs.working.push_named.Goals as goal
 

@@ -1,0 +1,19 @@
+use Rattle.std.proofs.Common.{[], arith, refl}
+use Rattle.sqlite.specs.Held.{state}
+use Rattle.sqlite.specs.State.{HasCleanDisk}
+use Rattle.room_tables.specs.Stands.{House, empty_room}
+use Rattle.room_model.specs.Room.{Room}
+use Rattle.room_store.proofs.creating.fill.Goals as goal
+
+pub returns-clause-stands : goal.returns-clause-stands
+returns-clause-stands g c clean =
+    let plan = c.args.plan.now in
+    let third : HasCleanDisk (state g.S.Store c.put_terminals.new.tx.conn.now) = omega (arith, c.put_divisions.ensures.survives.clean) in
+    let second : HasCleanDisk (state g.S.Store c.put_areas.new.tx.conn.now) = omega (arith, c.put_terminals.ensures.survives.clean) in
+    let first : HasCleanDisk (state g.S.Store c.put_meta.new.tx.conn.now) = omega (arith, c.put_areas.ensures.survives.clean) in
+    let early : HasCleanDisk (state g.S.Store c.args.tx.now.conn.now) = omega (arith, c.put_meta.ensures.survives.clean) in
+    let house : House = record { zone = plan.zone; terminals = [] } in
+    let room : Room = record empty_room { plan = plan.areas } in
+    let begun = rw c.zone.ensures at (c.in_ok-put_meta.ensures.begun first (c.requires.blank early)) in
+    let planned = rw c.areas.ensures at (c.in_ok-put_areas.ensures.stands second house empty_room begun refl) in
+    c.in_ok-put_divisions.ensures.stands clean _ room (c.in_ok-put_terminals.ensures.stands third house room planned) refl

@@ -1,0 +1,19 @@
+use Rattle.std.proofs.Common.{List, subst, sym, ℕ}
+use Rattle.sqlite.specs.Held.{state}
+use Rattle.room_tables.specs.Stands.{Stands}
+use Rattle.room_store.specs.Creating.{in_order, new_room}
+use Rattle.room_store.proofs.CreationLaws.{new_room_formed, new_terminals_fit}
+use Rattle.room_store.proofs.store.Store.create.Goals as goal
+
+pub returns-in-Ok-create_in-clause-room : goal.returns-in-Ok-create_in-clause-room
+returns-in-Ok-create_in-clause-room g c clean =
+    let plan = c.args.plan.now in
+    let terminals = in_order c.args.terminals.now in
+    let trees = (state g.S.Store c.create_in.new.conn).now.trees in
+    let begun = c.in-Ok-create_in.ensures.ok clean in
+    record {
+      formed = new_room_formed plan;
+      fits = new_terminals_fit plan c.args.terminals.now (c.are_new.ensures.0 c.if-not-are_new.false);
+      plan = sym c.in-Ok.ensures.0;
+      tables = λ is_open. subst (λ (zone : List ℕ). Stands trees (record { zone = zone; terminals = terminals }) (new_room plan)) (sym c.in-Ok.ensures.1) begun.stands;
+    }

@@ -1,0 +1,47 @@
+use Rattle.std.proofs.Common.{ap, arith, drop, length, subst, sym, ◌+◌, ◌∙◌, ◌∷◌, ◌≡◌, ◌≤◌}
+use Rattle.std.proofs.lemmas.List.{drop_all, drop_more}
+use Rattle.sqlite.specs.Held.{state}
+use Rattle.sqlite.specs.State.{HasCleanDisk}
+use Rattle.sqlite.proofs.StateLemmas.{survives_then}
+use Rattle.room_model.specs.Room.{apply, apply_one}
+use Rattle.room_tables.specs.Stands.{Stands}
+use Rattle.room_store.proofs.writing.put_each.Goals as goal
+
+pub loop-change-preserved : goal.loop-change-preserved
+loop-change-preserved g c =
+    let old = state g.S.Store c.args.tx.now.conn.now in
+    let mid = state g.S.Store c.loop-change.tx.conn.now in
+    let new = state g.S.Store c.put.new.tx.conn.now in
+    let before = c.loop-change.invariant in
+    let early = λ (clean : HasCleanDisk new). let e : HasCleanDisk mid = omega (arith, c.put.ensures.survives.clean) in e in
+    let changes = c.args.changes.now in
+    let at = c.loop-change.change-index in
+    let item = c.change-item.result in
+    let more : drop at changes ≡ item ∷ drop (at + 1) changes = rw c.change-item.is (drop_more changes at _ c.loop-change-test.true) in
+    let made = λ (clean : HasCleanDisk new). c.in_ok-put.ensures.ok clean in
+    record {
+      same = c.put.ensures.same_reference ∙ before.same;
+      survives = survives_then old mid new (λ _. ⊥) (λ _. ⊥) (λ _. ⊥) (λ _ db none. none) (λ _ db none. none) before.survives c.put.ensures.survives;
+      schema = λ clean. (made clean).schema;
+      inside = λ clean. (made clean).inside.mode;
+      kept = λ clean.
+          let now = (made clean).inside in
+          let past = before.kept (early clean) in
+          record { was_open = λ o. past.was_open now.was_open; committed = λ o. now.committed_is ∙ past.committed now.was_open };
+      stands = λ clean house room h.
+          let r = before.stands (early clean) house room h in
+          (apply_one r.0 item, (made clean).stands house r.0 r.1, sym (ap (apply r.0) more) ∙ r.2);
+    }
+
+pub returns-clause-ok : goal.returns-clause-ok
+returns-clause-ok g c clean =
+    let all = c.loop-change.invariant in
+    let past : length c.args.changes.now ≤ c.loop-change.change-index = omega (arith, c.loop-change-test.false) in
+    let none = drop_all c.loop-change.change-index c.args.changes.now past in
+    record {
+      inside = all.inside clean;
+      schema = all.schema clean;
+      stands = λ house room h.
+          let r = all.stands clean house room h in
+          subst (Stands (state g.S.Store c.loop-change.tx.conn.now).now.trees house) (sym (ap (apply r.0) none) ∙ r.2) r.1;
+    }

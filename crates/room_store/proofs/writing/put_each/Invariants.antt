@@ -1,0 +1,21 @@
+use Rattle.std.proofs.Common.{IsTrue, drop, ◌≡◌}
+use Rattle.sqlite.specs.Held.{state}
+use Rattle.sqlite.specs.State.{HasCleanDisk, KeepsCommit, Survives}
+use Rattle.room_model.specs.Room.{Room, apply}
+use Rattle.room_schema.specs.Schema.{room_schema}
+use Rattle.room_tables.specs.Stands.{House, Stands}
+use Rattle.room_store.proofs.writing.put_each.Given as goal
+
+abbrev pub invariant-loop-change : goal.invariant-loop-change
+invariant-loop-change g l =
+    let old = state g.S.Store l.fn.tx.conn.now in
+    let now = state g.S.Store l.tx.conn.now in
+    record {
+      same : l.tx.conn.ghost_name ≡ l.fn.tx.conn.ghost_name;
+      survives : Survives old now (λ _. ⊥);
+      schema : HasCleanDisk now → now.now.schema ≡ room_schema;
+      inside : HasCleanDisk now → IsTrue now.in_transaction;
+      kept : HasCleanDisk now → KeepsCommit old now;
+      stands : HasCleanDisk now → (house : House) (room : Room) → Stands old.now.trees house room
+          → (mid : Room) × Stands now.now.trees house mid × (apply mid (drop l.change-index l.changes) ≡ apply room l.changes);
+    }

@@ -1,0 +1,71 @@
+-- What the enrolment of fleet rows makes of the tables, and of a store.
+use Rattle.std.specs.Prelude.{IsTrue, List, [], length, take, ℕ, ◌++◌, ◌∷◌, ◌≡◌, ◌≤◌}
+use Rattle.sqlite.specs.Held.{state}
+use Rattle.sqlite.specs.State.{State}
+use Rattle.sqlite_trees.specs.Tree.{Trees}
+use Rattle.sqlite_trees.specs.declared.store.Store.{Ghosts}
+use Rattle.room_place.specs.Plans.{Layout}
+use Rattle.room_types.specs.declared.fleet.FleetRow.{FleetRow}
+use Rattle.room_types.specs.declared.fleet.RowFate.{RowFate}
+use Rattle.room_types.specs.declared.fleet.Terminal.{Terminal}
+use Rattle.room_model.specs.Enrol.{fate_of, room_by, room_enrolled, terminals_by, terminals_enrolled}
+use Rattle.room_model.specs.Room.{Room}
+use Rattle.room_schema.specs.Schema.{room_schema}
+use Rattle.room_tables.specs.Stands.{House, Stands}
+use Rattle.room_store.specs.Acting.{IsSettled}
+use Rattle.room_store.specs.Keeping.{IsRoom, house_of}
+use Rattle.room_store.specs.declared.store.Store.{Store}
+
+-- The tables stand for this house and for this room, which is of the plan.
+pub record StandsInPlan (trees : Trees) (layout : Layout) (house : House) (room : Room) : Type 0 where
+  pub stands : Stands trees house room
+  pub plan : room.plan ≡ layout.areas
+
+-- what becomes of a row in this house and room
+abbrev pub fate_in : FleetRow → House → Room → RowFate
+fate_in row house room = fate_of room house.terminals row
+
+-- the house after a row of this fate
+abbrev pub house_by : RowFate → FleetRow → House → House
+house_by fate row house = record house { terminals = terminals_by fate row house.terminals }
+
+-- The tables stand for the house and the room as they are after a row of this fate.
+abbrev pub StandsAfter : RowFate → FleetRow → House → Room → Trees → Type 0
+StandsAfter fate row house room trees = Stands trees (house_by fate row house) (room_by fate row room)
+
+-- From the tables of certain houses and rooms came those after the row's fate there, and this is committed.
+pub record Enrols (old new : State) (row : FleetRow) (IsOld : House → Room → Type 0) (fate_at : House → Room → RowFate) : Type 0 where
+  pub was_open : IsTrue old.is_open
+  pub settled : IsSettled new
+  pub schema : new.now.schema ≡ room_schema
+  pub stands : (house : House) (room : Room) → IsOld house room → StandsAfter (fate_at house room) row house room new.now.trees
+
+-- the room and its terminals after these rows, enrolled in order
+abbrev pub enrolled : List FleetRow → Room → List Terminal → Room × List Terminal
+enrolled [] room terminals = (room, terminals)
+enrolled (row ∷ rows) room terminals = enrolled rows (room_enrolled room terminals row) (terminals_enrolled room terminals row)
+
+-- what becomes of each of these rows, enrolled in order
+abbrev pub fates_of : List FleetRow → Room → List Terminal → List RowFate
+fates_of [] room terminals = []
+fates_of (row ∷ rows) room terminals = fate_of room terminals row ∷ fates_of rows (room_enrolled room terminals row) (terminals_enrolled room terminals row)
+
+-- the room after these rows
+abbrev pub room_after_rows : List FleetRow → Room → List Terminal → Room
+room_after_rows rows room terminals = (enrolled rows room terminals).0
+
+-- its terminals after these rows
+abbrev pub terminals_after_rows : List FleetRow → Room → List Terminal → List Terminal
+terminals_after_rows rows room terminals = (enrolled rows room terminals).1
+
+-- So many of the rows, the first ones, were enrolled: their fates were added, and the store stands for the room and the terminals after them.
+pub record HasEnrolled {S : Type 0} (g : Ghosts S) (new : Store S) (rows : List FleetRow) (was is : List RowFate) (terminals : List Terminal) (room : Room) : Type 0 where
+  pub count : ℕ
+  pub within : count ≤ length rows
+  pub told : is ≡ was ++ fates_of (take count rows) room terminals
+  pub stands : IsRoom g new (terminals_after_rows (take count rows) room terminals) (room_after_rows (take count rows) room terminals)
+
+-- What a stop may leave of an enrolment, beside what it could before: the room and the terminals after some of the rows, the first ones.
+abbrev pub MayBeEnrolled : {S : Type 0} → Ghosts S → Store S → List FleetRow → Trees → Type 0
+MayBeEnrolled g old rows trees = IsTrue (state g old.conn).is_open → (terminals : List Terminal) (room : Room) → IsRoom g old terminals room
+    → (count : ℕ) × Stands trees (house_of old.plan (terminals_after_rows (take count rows) room terminals)) (room_after_rows (take count rows) room terminals)

@@ -1,0 +1,208 @@
+//! A room opened from the tables of a file.
+ghost use Rattle.std.specs.Prelude.{◌≡◌, ◌↔◌, false, List, IsTrue, IfErr, IfOk, OnErr, OnOk};
+ghost use Rattle.sqlite.specs.Held.{state};
+ghost use Rattle.sqlite.specs.State.{HasCleanDisk, Survives};
+ghost use Rattle.room_types.specs.declared.fleet.Terminal.{Terminal};
+ghost use Rattle.room_model.specs.Enrol.{AreTerminals};
+ghost use Rattle.room_model.specs.Room.{Room};
+ghost use Rattle.room_model.specs.Slices.{room_of};
+ghost use Rattle.room_model.specs.WellFormed.{IsWellFormed};
+ghost use Rattle.room_schema.specs.Schema.{room_schema, tables_schema};
+ghost use Rattle.room_tables.specs.Stands.{Stands};
+ghost use Rattle.room_store.specs.Acting.{Commits, Leaves};
+ghost use Rattle.room_store.specs.Keeping.{IsReady, IsRoom, house_of};
+ghost use Rattle.room_store.specs.Opening.{HasTables, HoldsRoom, KeepsRoom, StandsAs};
+ghost use Rattle.room_store.specs.declared.opening.OpenFault.TheVariants.{Memory, NotARoom};
+
+use crate::store::Store;
+use crate::whole::{Whole, read_whole};
+use room_place::plans::Plan;
+use room_schema::faults::Fault;
+use room_schema::making::make_indexes;
+use room_schema::testing::{has_tables_alone, is_room};
+use room_sound::rooms::is_well_formed;
+use room_sound::terminals::do_terminals_fit;
+use sqlite::{Alter, Connection};
+use std::alloc::Global;
+use thiserror::Error;
+
+/// Why a file is not opened.
+#[derive(Clone, Copy, Debug, PartialEq, Eq, Error)]
+pub enum OpenFault {
+    /// A table is missing, or there is another, or the tables stand for no well-formed room.
+    #[error("the file is no room")]
+    NotARoom,
+    /// Memory was refused; the same call may succeed later.
+    #[error("out of memory")]
+    Memory,
+    /// The database failed for another cause, or a row is none of its table.
+    #[error("the database failed")]
+    Storage,
+}
+
+impl From<Fault> for OpenFault {
+    ghost use Rattle.room_store.specs.Opening.{open_fault};
+
+    ghost from_gives = { λ fault why. why ≡ open_fault fault };
+
+    fn from(fault: Fault) -> OpenFault {
+        match fault {
+            Fault::Memory => OpenFault::Memory,
+            Fault::Storage => OpenFault::Storage,
+        }
+    }
+}
+
+impl<S: Alter> Store<S> {
+    /// Opens the room that a file holds, and reads all its rows for that. Where the indexes of a room's tables are
+    /// missing, they are made. A fault leaves the rows as they were.
+    pub fn open(
+        alloc: Global,
+        mut conn: Connection<S>,
+    ) -> Result<Store<S>, (OpenFault, Connection<S>)>
+        requires outside { conn.in_transaction ≡ false }
+        ensures ready { IfOk result (IsReady S.Store) }
+        ensures room { IfOk result (λ store. HasCleanDisk (state S.Store store.conn) → (terminals : List Terminal) × (room : Room) × IsRoom S.Store store terminals room) }
+        ensures same { IfOk result (λ store. HasCleanDisk (state S.Store store.conn) → KeepsRoom (state S.Store conn) (state S.Store store.conn)) }
+        ensures no_room { IfErr result (λ e. HasCleanDisk (state S.Store e.1) → e.0 ≡ NotARoom → HasTables (state S.Store conn).now.schema → ¬ HoldsRoom (state S.Store conn).now.trees) }
+        ensures same_fault { IfErr result (λ e. HasCleanDisk (state S.Store e.1) → KeepsRoom (state S.Store conn) (state S.Store e.1)) }
+        ensures ended { IfErr result (λ e. e.1.in_transaction ≡ false) }
+        ensures survives { IfOk result (λ store. Survives (state S.Store conn) (state S.Store store.conn) (StandsAs (state S.Store conn))) }
+        ensures survives_fault { IfErr result (λ e. Survives (state S.Store conn) (state S.Store e.1) (StandsAs (state S.Store conn))) }
+    {
+        match open_in(alloc, &mut conn) {
+            Ok(plan) => Ok(Store {
+                conn,
+                plan,
+                is_sound: true,
+            }),
+            Err(fault) => Err((fault, conn)),
+        }
+    }
+}
+
+// The plan of the room that the file holds.
+fn open_in<S: Alter>(alloc: Global, conn: &mut Connection<S>) -> Result<Plan, OpenFault>
+    requires outside { conn.old.in_transaction ≡ false }
+    ensures room { HasCleanDisk (state S.Store conn.new) → IfOk result (λ plan. (terminals : List Terminal) × (room : Room) × IsWellFormed room × AreTerminals room terminals × (room.plan ≡ plan.areas) × Stands (state S.Store conn.new).now.trees (house_of plan terminals) room) }
+    ensures schema { HasCleanDisk (state S.Store conn.new) → OnOk result ((state S.Store conn.new).now.schema ≡ room_schema) }
+    ensures no_room { HasCleanDisk (state S.Store conn.new) → IfErr result (λ e. e ≡ NotARoom → HasTables (state S.Store conn.old).now.schema → ¬ HoldsRoom (state S.Store conn.old).now.trees) }
+    ensures kept { HasCleanDisk (state S.Store conn.new) → KeepsRoom (state S.Store conn.old) (state S.Store conn.new) }
+    ensures ended { conn.new.in_transaction ≡ false }
+    ensures survives { Survives (state S.Store conn.old) (state S.Store conn.new) (StandsAs (state S.Store conn.old)) }
+{
+    have_indexes(conn)?;
+    // Outside a transaction the tables are as they were committed.
+    let _ = conn.is_autocommit();
+    let whole = match read_whole(alloc, conn) {
+        Ok(whole) => whole,
+        Err(fault) => return Err(fault),
+    };
+    match is_sound(alloc, &whole) {
+        Ok(true) => Ok(whole.house.plan),
+        Ok(false) => Err(OpenFault::NotARoom),
+        Err(fault) => Err(fault),
+    }
+}
+
+// Whether the rows make a well-formed room that the terminals fit.
+fn is_sound(alloc: Global, whole: &Whole) -> Result<bool, OpenFault>
+    ensures test { IfOk result (λ yes. IsTrue yes ↔ (IsWellFormed (room_of whole.now.house.plan.areas whole.now.rows) × AreTerminals (room_of whole.now.house.plan.areas whole.now.rows) whole.now.house.terminals.items)) }
+    ensures memory { IfErr result (λ e. e ≡ Memory) }
+{
+    let plan = &whole.house.plan;
+    let Ok(formed) = is_well_formed(alloc, plan, &whole.rows) else {
+        return Err(OpenFault::Memory);
+    };
+    let Ok(fit) = do_terminals_fit(alloc, plan, &whole.rows, whole.house.terminals.as_slice())
+    else {
+        return Err(OpenFault::Memory);
+    };
+    Ok(formed && fit)
+}
+
+// Makes the indexes of a room's tables where there are none.
+fn have_indexes<S: Alter>(conn: &mut Connection<S>) -> Result<(), OpenFault>
+    requires outside { conn.old.in_transaction ≡ false }
+    ensures schema { HasCleanDisk (state S.Store conn.new) → OnOk result ((state S.Store conn.new).now.schema ≡ room_schema) }
+    ensures ok { HasCleanDisk (state S.Store conn.new) → OnOk result (StandsAs (state S.Store conn.old) (state S.Store conn.new).now.trees) }
+    ensures err { HasCleanDisk (state S.Store conn.new) → OnErr result (Leaves (state S.Store conn.old) (state S.Store conn.new)) }
+    ensures no_room { IfErr result (λ e. e ≡ NotARoom → ¬ HasTables (state S.Store conn.old).now.schema) }
+    ensures ended { conn.new.in_transaction ≡ false }
+    ensures survives { Survives (state S.Store conn.old) (state S.Store conn.new) (StandsAs (state S.Store conn.old)) }
+{
+    let _ = conn.is_autocommit();
+    if is_room(conn.schema()) {
+        return Ok(());
+    }
+    if !has_tables_alone(conn.schema()) {
+        return Err(OpenFault::NotARoom);
+    }
+    add_indexes(conn)?;
+    Ok(())
+}
+
+fn add_indexes<S: Alter>(conn: &mut Connection<S>) -> Result<(), Fault>
+    requires tables { (state S.Store conn.old).now.schema ≡ tables_schema }
+    requires outside { conn.old.in_transaction ≡ false }
+    requires committed { IsTrue (state S.Store conn.old).is_open → (state S.Store conn.old).now ≡ (state S.Store conn.old).committed }
+    ensures ok { HasCleanDisk (state S.Store conn.new) → OnOk result (Commits (state S.Store conn.old) (state S.Store conn.new) (Stands (state S.Store conn.old).now.trees) (λ room. room)) }
+    ensures err { HasCleanDisk (state S.Store conn.new) → OnErr result (Leaves (state S.Store conn.old) (state S.Store conn.new)) }
+    ensures ended { conn.new.in_transaction ≡ false }
+    ensures survives { Survives (state S.Store conn.old) (state S.Store conn.new) (StandsAs (state S.Store conn.old)) }
+{
+    let mut tx = conn.transaction();
+    make_indexes(&mut tx)?;
+    tx.commit()?;
+    Ok(())
+}
+
+#[cfg(test)]
+mod tests {
+    use super::*;
+    use crate::creating::tests::plan;
+    use sqlite::MemStore;
+    use std::process::Abort;
+    use std::test::Fail;
+
+    // Why the file is not opened, if it isn't, and the connection again.
+    fn fault_of(
+        rt: &(impl AllocGlobal + Abort),
+        conn: Connection<MemStore>,
+    ) -> (Option<OpenFault>, Connection<MemStore>) {
+        assert!(rt; conn.is_autocommit());
+        match Store::open(rt.alloc(), conn) {
+            Ok(store) => (None, store.close()),
+            Err((fault, conn)) => (Some(fault), conn),
+        }
+    }
+
+    // The connection of a room that was created and closed.
+    fn created(
+        rt: &(impl AllocGlobal + Abort),
+        conn: Connection<MemStore>,
+    ) -> Result<Connection<MemStore>, Fail> {
+        assert!(rt; conn.is_autocommit());
+        match Store::create(rt.alloc(), conn, &plan(rt.alloc())?, &[]) {
+            Ok(store) => Ok(store.close()),
+            Err((_, conn)) => Ok(conn),
+        }
+    }
+
+    #[test]
+    fn a_room_that_was_closed_is_opened_again(rt: HostRuntime) -> Result<(), Fail> {
+        let conn = Connection::open_in_memory(rt.alloc())?;
+        let (fault, conn) = fault_of(&rt, conn);
+        assert_eq!(rt; fault, Some(OpenFault::NotARoom));
+        let conn = created(&rt, conn)?;
+        let (fault, mut conn) = fault_of(&rt, conn);
+        assert_eq!(rt; fault, None);
+        conn.execute_batch("DELETE FROM divisions WHERE number = 2")?;
+        let (fault, mut conn) = fault_of(&rt, conn);
+        assert_eq!(rt; fault, Some(OpenFault::NotARoom));
+        conn.execute_batch("UPDATE meta SET version = 1")?;
+        let (fault, _) = fault_of(&rt, conn);
+        assert_eq!(rt; fault, Some(OpenFault::Storage));
+        Ok(())
+    }
+}

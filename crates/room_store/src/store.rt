@@ -1,0 +1,138 @@
+//! A room that is kept in the tables of a connection.
+ghost use Rattle.std.specs.Prelude.{◌≡◌, List, Result, Ok, IsTrue, IfOk, IfErr, OnOk, OnErr, option_map};
+ghost use Rattle.std.specs.Fn.{FnOnceReturnsAt};
+ghost use Rattle.sqlite.specs.Held.{state};
+ghost use Rattle.sqlite.specs.State.{HasCleanDisk, Survives};
+ghost use Rattle.sqlite_trees.specs.Tree.{Trees};
+ghost use Rattle.room_types.specs.declared.answers.Answer.{Answer as Told};
+ghost use Rattle.room_types.specs.declared.fleet.Terminal.{Terminal as Known};
+ghost use Rattle.room_types.specs.declared.refusals.Refusal.{Refusal as Why};
+ghost use Rattle.room_types.specs.declared.refusals.Refusal.TheVariants.{Memory};
+ghost use Rattle.room_model.specs.Room.{Room};
+ghost use Rattle.room_model.specs.Step.{IsAddressed, answer_to, room_after};
+ghost use Rattle.room_schema.specs.Schema.{room_schema};
+ghost use Rattle.room_service.specs.Rooms.{IsWant, who_at};
+ghost use Rattle.room_tables.specs.Stands.{Stands};
+ghost use Rattle.room_store.specs.Acting.{IsSettled, Leaves};
+ghost use Rattle.room_store.specs.Keeping.{IsReady, IsRoom, house_of};
+
+use crate::acting::{act_on, know_number};
+use room_place::plans::Plan;
+use room_schema::testing::is_room;
+use room_tables::terminals::terminal_at;
+use room_types::answers::Answer;
+use room_types::asks::{Event, Who};
+use room_types::fleet::Terminal;
+use room_types::refusals::Refusal;
+use room_types::token::Token;
+use sqlite::{Alter, Connection};
+use std::alloc::Global;
+
+/// A room in the tables of a connection.
+///
+/// A failed call may have shut the connection, which then tells nothing of the tables any more. So after
+/// each failed call the store tests whether it still sees a room, and where it doesn't, every later
+/// call is refused as `Storage`.
+pub struct Store<S: Alter> {
+    pub(crate) conn: Connection<S>,
+    pub(crate) plan: Plan,
+    pub(crate) is_sound: bool,
+}
+
+impl<S: Alter> Store<S> {
+    /// The plan of the room.
+    pub fn plan(&self) -> &Plan
+        ensures { result.now ≡ self.now.plan }
+    {
+        &self.plan
+    }
+
+    /// Gives the connection back, outside a transaction.
+    pub fn close(self) -> Connection<S>
+        ensures { result ≡ self.conn }
+    {
+        let Store {
+            conn,
+            plan: _,
+            is_sound: _,
+        } = self;
+        conn
+    }
+
+    /// Who shows a token: none where no terminal has it. A refusal is of memory or of storage.
+    pub fn who(&mut self, token: &Token) -> Result<Option<Who>, Refusal>
+        requires ready { IsReady S.Store self.old }
+        ensures ready { IsReady S.Store self.new }
+        ensures plan { self.new.plan ≡ self.old.plan }
+        ensures known { HasCleanDisk (state S.Store self.new.conn) → IfOk result (λ who. (terminals : List Known) (room : Room) → IsRoom S.Store self.old terminals room → who ≡ who_at terminals token.now) }
+        ensures leaves { HasCleanDisk (state S.Store self.new.conn) → Leaves (state S.Store self.old.conn) (state S.Store self.new.conn) }
+        ensures wants { IfErr result IsWant }
+        ensures survives { Survives (state S.Store self.old.conn) (state S.Store self.new.conn) (λ _. ⊥) }
+    {
+        if !self.is_sound {
+            return Err(Refusal::Storage);
+        }
+        let _ = self.conn.is_autocommit();
+        match terminal_at(&mut self.conn, token) {
+            Ok(terminal) => Ok(who_of(terminal)),
+            Err(fault) => {
+                self.test_file();
+                Err(Refusal::from(fault))
+            }
+        }
+    }
+
+    /// Acts on an addressed event: gives what `render` makes of the machine's answer, and the tables
+    /// stand for the room after the event. `render` is asked for the bytes before anything is written. A
+    /// refusal is of memory or of storage, and changes nothing.
+    pub fn act<F: FnOnce(&Result<Answer, Refusal>) -> Result<Vec<u8>, Refusal>>(
+        &mut self,
+        alloc: Global,
+        event: &Event,
+        render: F,
+    ) -> Result<Vec<u8>, Refusal>
+        requires ready { IsReady S.Store self.old }
+        requires callable { F.IsAlwaysCallable render }
+        requires memory { (answer : Result Told Why) (r : _) → FnOnceReturnsAt F.FnOnce render answer r → IfErr r (λ e. e ≡ Memory) }
+        ensures ready { IsReady S.Store self.new }
+        ensures plan { self.new.plan ≡ self.old.plan }
+        ensures bytes { HasCleanDisk (state S.Store self.new.conn) → IfOk result (λ bytes. (terminals : List Known) (room : Room) → IsRoom S.Store self.old terminals room → IsAddressed event.now room → FnOnceReturnsAt F.FnOnce render (answer_to event.now room) (Ok bytes)) }
+        ensures ok { HasCleanDisk (state S.Store self.new.conn) → OnOk result ((terminals : List Known) (room : Room) → IsRoom S.Store self.old terminals room → IsAddressed event.now room → IsRoom S.Store self.new terminals (room_after event.now room)) }
+        ensures settled { HasCleanDisk (state S.Store self.new.conn) → OnOk result (IsSettled (state S.Store self.new.conn)) }
+        ensures err { HasCleanDisk (state S.Store self.new.conn) → OnErr result (Leaves (state S.Store self.old.conn) (state S.Store self.new.conn)) }
+        ensures wants { IfErr result IsWant }
+        // What a stop leaves is what it left before, or the room after the event; after an Ok the room as it is now alone.
+        ensures survives { Survives (state S.Store self.old.conn) (state S.Store self.new.conn) (λ db. IsTrue (state S.Store self.old.conn).is_open → (terminals : List Known) (room : Room) → IsRoom S.Store self.old terminals room → IsAddressed event.now room → Stands db (house_of self.old.plan terminals) (room_after event.now room)) }
+        ensures alone { HasCleanDisk (state S.Store self.new.conn) → OnOk result ((db : Trees) → (state S.Store self.new.conn).may_leave db → db ≡ (state S.Store self.new.conn).now.trees) }
+    {
+        if !self.is_sound {
+            return Err(Refusal::Storage);
+        }
+        know_number(&event.ask);
+        match act_on(alloc, &mut self.conn, &self.plan, event, render) {
+            Ok(bytes) => Ok(bytes),
+            Err(refusal) => {
+                self.test_file();
+                Err(refusal)
+            }
+        }
+    }
+
+    // After a fault the connection may be shut, and then it shows another schema or none.
+    pub(crate) fn test_file(&mut self)
+        ensures sound { IsTrue self.new.is_sound → (state S.Store self.new.conn).now.schema ≡ room_schema }
+        ensures conn { self.new.conn ≡ self.old.conn }
+        ensures plan { self.new.plan ≡ self.old.plan }
+    {
+        self.is_sound = is_room(self.conn.schema());
+    }
+}
+
+fn who_of(terminal: Option<Terminal>) -> Option<Who>
+    ensures { result ≡ option_map (λ t. t.who) terminal }
+{
+    match terminal {
+        Some(terminal) => Some(terminal.who),
+        None => None,
+    }
+}

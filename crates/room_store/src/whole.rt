@@ -1,0 +1,208 @@
+//! All that the tables of a file hold, read.
+ghost use Rattle.std.specs.Prelude.{◌≡◌, false, IfErr, IfOk, OnErr, OnOk};
+ghost use Rattle.sqlite.specs.Held.{state};
+ghost use Rattle.sqlite.specs.State.{HasCleanDisk, IsUnchanged, Survives};
+ghost use Rattle.table_laws.specs.Outcomes.{Keeps};
+ghost use Rattle.room_place.specs.Plans.{Layout};
+ghost use Rattle.room_model.specs.Slices.{room_of};
+ghost use Rattle.room_schema.specs.Schema.{room_schema};
+ghost use Rattle.room_tables.specs.Numbering.{AreAllNumbered};
+ghost use Rattle.room_tables.specs.Stands.{Stands};
+ghost use Rattle.room_store.specs.Keeping.{house_of};
+ghost use Rattle.room_store.specs.Opening.{HasFleet, HasHouse, HasLending, HasRows, HasWork, HoldsRoom};
+ghost use Rattle.room_store.specs.declared.opening.OpenFault.TheVariants.{NotARoom};
+
+use crate::opening::OpenFault;
+use room_place::plans::{Area, Plan, PlanFault};
+use room_schema::faults::Fault;
+use room_tables::areas::all_areas;
+use room_tables::assignments::all_assignments;
+use room_tables::calls::all_calls;
+use room_tables::divisions::all_divisions;
+use room_tables::incidents::all_incidents;
+use room_tables::loans::all_loans;
+use room_tables::meta::zone;
+use room_tables::numbering::are_numbered;
+use room_tables::offers::all_offers;
+use room_tables::points::all_points;
+use room_tables::reports::all_reports;
+use room_tables::terminals::all_terminals;
+use room_tables::turns::all_turns;
+use room_tables::vehicles::all_vehicles;
+use room_types::fleet::Terminal;
+use room_types::rows::Rows;
+use room_types::slices::DivisionRows;
+use room_types::tables::{
+    Assignment, Call, Division, Incident, Loan, Offer, Point, Report, Turn, Vehicle,
+};
+use sqlite::{Alter, Connection};
+use std::alloc::Global;
+
+/// The plan, the terminals and the rows of a file.
+#[derive(Drop)]
+pub(crate) struct Whole {
+    pub(crate) house: House,
+    pub(crate) rows: DivisionRows,
+}
+
+/// Reads the whole file. It is no room where a table doesn't number its rows, or where its areas or its zone make
+/// no plan.
+pub(crate) fn read_whole<S: Alter>(
+    alloc: Global,
+    conn: &mut Connection<S>,
+) -> Result<Whole, OpenFault>
+    requires schema { HasCleanDisk (state S.Store conn.old) → (state S.Store conn.old).now.schema ≡ room_schema }
+    ensures stands { HasCleanDisk (state S.Store conn.new) → IfOk result (λ x. Stands (state S.Store conn.old).now.trees (house_of x.house.plan x.house.terminals.items) (room_of x.house.plan.areas x.rows)) }
+    ensures no_room { HasCleanDisk (state S.Store conn.new) → IfErr result (λ e. e ≡ NotARoom → ¬ HoldsRoom (state S.Store conn.old).now.trees) }
+    ensures ok { HasCleanDisk (state S.Store conn.new) → OnOk result (IsUnchanged (state S.Store conn.old) (state S.Store conn.new)) }
+    ensures err { HasCleanDisk (state S.Store conn.new) → OnErr result (Keeps (state S.Store conn.old) (state S.Store conn.new)) }
+    ensures mode { conn.old.in_transaction ≡ false → conn.new.in_transaction ≡ false }
+    ensures survives { Survives (state S.Store conn.old) (state S.Store conn.new) (λ _. ⊥) }
+{
+    if !are_numbered(conn)? {
+        return Err(OpenFault::NotARoom);
+    }
+    let house = read_house(alloc, conn)?;
+    let rows = read_rows(alloc, conn)?;
+    Ok(Whole { house, rows })
+}
+
+/// The plan and the terminals.
+#[derive(Drop)]
+pub(crate) struct House {
+    pub(crate) plan: Plan,
+    pub(crate) terminals: Vec<Terminal>,
+}
+
+fn read_house<S: Alter>(alloc: Global, conn: &mut Connection<S>) -> Result<House, OpenFault>
+    requires schema { HasCleanDisk (state S.Store conn.old) → (state S.Store conn.old).now.schema ≡ room_schema }
+    ensures found { HasCleanDisk (state S.Store conn.new) → IfOk result (λ x. AreAllNumbered (state S.Store conn.old).now.trees → HasHouse (state S.Store conn.old).now.trees x.plan.areas x.plan.zone x.terminals.items) }
+    ensures no_room { HasCleanDisk (state S.Store conn.new) → IfErr result (λ e. e ≡ NotARoom → ¬ HoldsRoom (state S.Store conn.old).now.trees) }
+    ensures ok { HasCleanDisk (state S.Store conn.new) → OnOk result (IsUnchanged (state S.Store conn.old) (state S.Store conn.new)) }
+    ensures err { HasCleanDisk (state S.Store conn.new) → OnErr result (Keeps (state S.Store conn.old) (state S.Store conn.new)) }
+    ensures mode { conn.old.in_transaction ≡ false → conn.new.in_transaction ≡ false }
+    ensures survives { Survives (state S.Store conn.old) (state S.Store conn.new) (λ _. ⊥) }
+{
+    let terminals = all_terminals(alloc, conn)?;
+    let zone = zone(alloc, conn)?;
+    let areas = all_areas(alloc, conn)?;
+    match plan_of(alloc, areas, zone.as_str()) {
+        Ok(plan) => Ok(House { plan, terminals }),
+        Err(fault) => Err(fault),
+    }
+}
+
+// The plan of these areas and this zone; a file is no room where they make none.
+fn plan_of(alloc: Global, areas: Vec<Area>, zone: &str) -> Result<Plan, OpenFault>
+    ensures plan { IfOk result (λ plan. (plan.areas ≡ areas.items) × (plan.zone ≡ zone.now)) }
+    ensures no_plan { IfErr result (λ e. e ≡ NotARoom → (layout : Layout) → layout.areas ≡ areas.items → layout.zone ≡ zone.now → ⊥) }
+{
+    match Plan::new(alloc, areas, zone) {
+        Ok(plan) => Ok(plan),
+        Err(PlanFault::Memory) => Err(OpenFault::Memory),
+        Err(_) => Err(OpenFault::NotARoom),
+    }
+}
+
+fn read_rows<S: Alter>(alloc: Global, conn: &mut Connection<S>) -> Result<DivisionRows, Fault>
+    requires schema { HasCleanDisk (state S.Store conn.old) → (state S.Store conn.old).now.schema ≡ room_schema }
+    ensures found { HasCleanDisk (state S.Store conn.new) → IfOk result (λ x. AreAllNumbered (state S.Store conn.old).now.trees → HasRows (state S.Store conn.old).now.trees x) }
+    ensures ok { HasCleanDisk (state S.Store conn.new) → OnOk result (IsUnchanged (state S.Store conn.old) (state S.Store conn.new)) }
+    ensures err { HasCleanDisk (state S.Store conn.new) → OnErr result (Keeps (state S.Store conn.old) (state S.Store conn.new)) }
+    ensures mode { conn.old.in_transaction ≡ false → conn.new.in_transaction ≡ false }
+    ensures survives { Survives (state S.Store conn.old) (state S.Store conn.new) (λ _. ⊥) }
+{
+    let fleet = read_fleet(alloc, conn)?;
+    let lending = read_lending(alloc, conn)?;
+    let work = read_work(alloc, conn)?;
+    Ok(DivisionRows {
+        divisions: fleet.divisions,
+        incidents: work.incidents,
+        calls: work.calls,
+        vehicles: fleet.vehicles,
+        turns: work.turns,
+        assignments: fleet.assignments,
+        points: lending.points,
+        loans: lending.loans,
+        offers: lending.offers,
+        reports: work.reports,
+    })
+}
+
+#[derive(Drop)]
+struct Fleet {
+    divisions: Rows<Division>,
+    vehicles: Rows<Vehicle>,
+    assignments: Rows<Assignment>,
+}
+
+fn read_fleet<S: Alter>(alloc: Global, conn: &mut Connection<S>) -> Result<Fleet, Fault>
+    requires schema { HasCleanDisk (state S.Store conn.old) → (state S.Store conn.old).now.schema ≡ room_schema }
+    ensures found { HasCleanDisk (state S.Store conn.new) → IfOk result (λ x. AreAllNumbered (state S.Store conn.old).now.trees → HasFleet (state S.Store conn.old).now.trees x) }
+    ensures ok { HasCleanDisk (state S.Store conn.new) → OnOk result (IsUnchanged (state S.Store conn.old) (state S.Store conn.new)) }
+    ensures err { HasCleanDisk (state S.Store conn.new) → OnErr result (Keeps (state S.Store conn.old) (state S.Store conn.new)) }
+    ensures mode { conn.old.in_transaction ≡ false → conn.new.in_transaction ≡ false }
+    ensures survives { Survives (state S.Store conn.old) (state S.Store conn.new) (λ _. ⊥) }
+{
+    let divisions = all_divisions(alloc, conn)?;
+    let vehicles = all_vehicles(alloc, conn)?;
+    let assignments = all_assignments(alloc, conn)?;
+    Ok(Fleet {
+        divisions,
+        vehicles,
+        assignments,
+    })
+}
+
+#[derive(Drop)]
+struct Lending {
+    points: Rows<Point>,
+    loans: Rows<Loan>,
+    offers: Rows<Offer>,
+}
+
+fn read_lending<S: Alter>(alloc: Global, conn: &mut Connection<S>) -> Result<Lending, Fault>
+    requires schema { HasCleanDisk (state S.Store conn.old) → (state S.Store conn.old).now.schema ≡ room_schema }
+    ensures found { HasCleanDisk (state S.Store conn.new) → IfOk result (λ x. AreAllNumbered (state S.Store conn.old).now.trees → HasLending (state S.Store conn.old).now.trees x) }
+    ensures ok { HasCleanDisk (state S.Store conn.new) → OnOk result (IsUnchanged (state S.Store conn.old) (state S.Store conn.new)) }
+    ensures err { HasCleanDisk (state S.Store conn.new) → OnErr result (Keeps (state S.Store conn.old) (state S.Store conn.new)) }
+    ensures mode { conn.old.in_transaction ≡ false → conn.new.in_transaction ≡ false }
+    ensures survives { Survives (state S.Store conn.old) (state S.Store conn.new) (λ _. ⊥) }
+{
+    let points = all_points(alloc, conn)?;
+    let loans = all_loans(alloc, conn)?;
+    let offers = all_offers(alloc, conn)?;
+    Ok(Lending {
+        points,
+        loans,
+        offers,
+    })
+}
+
+#[derive(Drop)]
+struct Work {
+    incidents: Rows<Incident>,
+    calls: Rows<Call>,
+    turns: Rows<Turn>,
+    reports: Rows<Report>,
+}
+
+fn read_work<S: Alter>(alloc: Global, conn: &mut Connection<S>) -> Result<Work, Fault>
+    requires schema { HasCleanDisk (state S.Store conn.old) → (state S.Store conn.old).now.schema ≡ room_schema }
+    ensures found { HasCleanDisk (state S.Store conn.new) → IfOk result (λ x. AreAllNumbered (state S.Store conn.old).now.trees → HasWork (state S.Store conn.old).now.trees x) }
+    ensures ok { HasCleanDisk (state S.Store conn.new) → OnOk result (IsUnchanged (state S.Store conn.old) (state S.Store conn.new)) }
+    ensures err { HasCleanDisk (state S.Store conn.new) → OnErr result (Keeps (state S.Store conn.old) (state S.Store conn.new)) }
+    ensures mode { conn.old.in_transaction ≡ false → conn.new.in_transaction ≡ false }
+    ensures survives { Survives (state S.Store conn.old) (state S.Store conn.new) (λ _. ⊥) }
+{
+    let incidents = all_incidents(alloc, conn)?;
+    let calls = all_calls(alloc, conn)?;
+    let turns = all_turns(alloc, conn)?;
+    let reports = all_reports(alloc, conn)?;
+    Ok(Work {
+        incidents,
+        calls,
+        turns,
+        reports,
+    })
+}

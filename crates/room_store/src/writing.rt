@@ -1,0 +1,97 @@
+//! Changes of a room, made in its tables: all of them in one transaction, or none.
+ghost use Rattle.std.specs.Prelude.{◌≡◌, false, IsTrue, OnOk, OnErr};
+ghost use Rattle.sqlite.specs.Held.{state};
+ghost use Rattle.sqlite.specs.State.{HasCleanDisk, KeepsCommit, Survives};
+ghost use Rattle.table_laws.specs.Outcomes.{Keeps};
+ghost use Rattle.room_model.specs.Room.{Room, apply};
+ghost use Rattle.room_schema.specs.Schema.{room_schema};
+ghost use Rattle.room_tables.specs.Stands.{House, Stands};
+ghost use Rattle.room_tables.specs.Writes.{Makes};
+ghost use Rattle.room_store.specs.Acting.{Commits, IsSettled, Leaves, MakesAll};
+
+use room_schema::faults::Fault;
+use room_tables::assignments::{drop_assignment, put_assignment};
+use room_tables::calls::put_call;
+use room_tables::divisions::put_division;
+use room_tables::incidents::put_incident;
+use room_tables::loans::{drop_loan, put_loan};
+use room_tables::offers::{drop_offer, put_offer};
+use room_tables::points::put_point;
+use room_tables::reports::put_report;
+use room_tables::turns::put_turn;
+use room_tables::vehicles::{put_vehicle, settle};
+use room_types::changes::Change;
+use sqlite::{Alter, Connection, Transaction};
+
+/// Makes all changes, or none; where there are none it writes nothing. What a stop may leave is
+/// what it could before, or the room after all of them.
+pub(crate) fn write<S: Alter>(conn: &mut Connection<S>, changes: &[Change]) -> Result<(), Fault>
+    requires schema { HasCleanDisk (state S.Store conn.old) → (state S.Store conn.old).now.schema ≡ room_schema }
+    requires outside { conn.old.in_transaction ≡ false }
+    requires settled { HasCleanDisk (state S.Store conn.old) → IsSettled (state S.Store conn.old) }
+    ensures ok { HasCleanDisk (state S.Store conn.new) → OnOk result (Commits (state S.Store conn.old) (state S.Store conn.new) (Stands (state S.Store conn.old).now.trees) (λ room. apply room changes.now)) }
+    ensures err { HasCleanDisk (state S.Store conn.new) → OnErr result (Leaves (state S.Store conn.old) (state S.Store conn.new)) }
+    ensures ended { conn.new.in_transaction ≡ false }
+    ensures survives { Survives (state S.Store conn.old) (state S.Store conn.new) (λ db. (house : House) (room : Room) → Stands (state S.Store conn.old).now.trees house room → Stands db house (apply room changes.now)) }
+{
+    if changes.is_empty() {
+        return Ok(());
+    }
+    write_all(conn, changes)
+}
+
+fn write_all<S: Alter>(conn: &mut Connection<S>, changes: &[Change]) -> Result<(), Fault>
+    requires schema { HasCleanDisk (state S.Store conn.old) → (state S.Store conn.old).now.schema ≡ room_schema }
+    requires outside { conn.old.in_transaction ≡ false }
+    requires settled { HasCleanDisk (state S.Store conn.old) → IsSettled (state S.Store conn.old) }
+    ensures ok { HasCleanDisk (state S.Store conn.new) → OnOk result (Commits (state S.Store conn.old) (state S.Store conn.new) (Stands (state S.Store conn.old).now.trees) (λ room. apply room changes.now)) }
+    ensures err { HasCleanDisk (state S.Store conn.new) → OnErr result (Leaves (state S.Store conn.old) (state S.Store conn.new)) }
+    ensures ended { conn.new.in_transaction ≡ false }
+    ensures survives { Survives (state S.Store conn.old) (state S.Store conn.new) (λ db. (house : House) (room : Room) → Stands (state S.Store conn.old).now.trees house room → Stands db house (apply room changes.now)) }
+{
+    let mut tx = conn.transaction();
+    put_each(&mut tx, changes)?;
+    tx.commit()?;
+    Ok(())
+}
+
+// Makes the changes, up to the first that fails.
+fn put_each<S: Alter>(tx: &mut Transaction<'_, S>, changes: &[Change]) -> Result<(), Fault>
+    requires schema { HasCleanDisk (state S.Store tx.old.conn.now) → (state S.Store tx.old.conn.now).now.schema ≡ room_schema }
+    requires inside { HasCleanDisk (state S.Store tx.old.conn.now) → IsTrue (state S.Store tx.old.conn.now).in_transaction }
+    ensures same_reference { tx.new.conn.ghost_name ≡ tx.old.conn.ghost_name }
+    ensures ok { HasCleanDisk (state S.Store tx.new.conn.now) → OnOk result (MakesAll (state S.Store tx.old.conn.now) (state S.Store tx.new.conn.now) changes.now) }
+    ensures kept { HasCleanDisk (state S.Store tx.new.conn.now) → KeepsCommit (state S.Store tx.old.conn.now) (state S.Store tx.new.conn.now) }
+    ensures survives { Survives (state S.Store tx.old.conn.now) (state S.Store tx.new.conn.now) (λ _. ⊥) }
+{
+    for change in changes {
+        put(tx, change)?;
+    }
+    Ok(())
+}
+
+fn put<S: Alter>(tx: &mut Transaction<'_, S>, change: &Change) -> Result<(), Fault>
+    requires schema { HasCleanDisk (state S.Store tx.old.conn.now) → (state S.Store tx.old.conn.now).now.schema ≡ room_schema }
+    requires inside { HasCleanDisk (state S.Store tx.old.conn.now) → IsTrue (state S.Store tx.old.conn.now).in_transaction }
+    ensures same_reference { tx.new.conn.ghost_name ≡ tx.old.conn.ghost_name }
+    ensures ok { HasCleanDisk (state S.Store tx.new.conn.now) → OnOk result (Makes (state S.Store tx.old.conn.now) (state S.Store tx.new.conn.now) change.now) }
+    ensures err { HasCleanDisk (state S.Store tx.new.conn.now) → OnErr result (Keeps (state S.Store tx.old.conn.now) (state S.Store tx.new.conn.now)) }
+    ensures survives { Survives (state S.Store tx.old.conn.now) (state S.Store tx.new.conn.now) (λ _. ⊥) }
+{
+    match change {
+        Change::PutDivision(division) => put_division(tx, division),
+        Change::PutIncident(incident) => put_incident(tx, incident),
+        Change::PutCall(call) => put_call(tx, call),
+        Change::PutVehicle(vehicle) => put_vehicle(tx, vehicle),
+        Change::PutTurn(turn) => put_turn(tx, turn),
+        Change::PutAssignment(assignment) => put_assignment(tx, assignment),
+        Change::PutPoint(point) => put_point(tx, point),
+        Change::PutLoan(loan) => put_loan(tx, loan),
+        Change::PutOffer(offer) => put_offer(tx, offer),
+        Change::PutReport(report) => put_report(tx, report),
+        Change::DropAssignment(callsign) => drop_assignment(tx, callsign),
+        Change::DropLoan(callsign) => drop_loan(tx, callsign),
+        Change::DropOffer(callsign) => drop_offer(tx, callsign),
+        Change::Settle(callsign, division) => settle(tx, callsign, *division),
+    }
+}
