@@ -1,0 +1,4 @@
+-- the example room
+pub mod Example
+-- how the program ends
+pub mod Endings
