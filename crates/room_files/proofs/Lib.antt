@@ -1,0 +1,4 @@
+mod FieldLemmas
+mod FleetLemmas
+mod PlanLemmas
+mod TableLemmas
