@@ -1,6 +1,6 @@
 //! The times of a day.
-ghost use Rattle.std.specs.List.{list_all};
-ghost use Rattle.std.specs.Prelude.{◌≡◌, ◌<◌, ◌^◌, ℕ, IfErr, IfOk, filter, is_some, length, map, true};
+ghost use Rattle.std.specs.List.{list_all, list_any};
+ghost use Rattle.std.specs.Prelude.{◌≡◌, ◌<◌, ◌^◌, ℕ, IfErr, IfOk, OnErr, filter, is_some, length, map, true};
 ghost use Rattle.std.specs.Ordering.{nat_cmp};
 ghost use Rattle.room_types.specs.Keyed.{IsKeyed};
 ghost use Rattle.room_types.specs.Keys.{owns_incident};
@@ -23,7 +23,7 @@ const PROMPT: u32 = 180;
 /// The times of the active and closed incidents that were opened from one second (of UTC since
 /// 1970) and before another, in number order.
 ///
-/// The incidents are one division's. The one refusal is `Memory`.
+/// The incidents are one division's. The one refusal is `Memory`, where there is such an incident.
 pub fn times(
     alloc: Global,
     incidents: &Rows<Incident>,
@@ -35,6 +35,7 @@ pub fn times(
     ensures times { IfOk result (λ times. (d : ℕ) (r : Room) → r.incidents ≡ incidents.now → list_all (owns_incident d) incidents.now ≡ true → show (answer.Times times) ≡ show_times d from to r) }
     ensures rising { IfOk result (λ times. IsKeyed nat_cmp line_number times.lines) }
     ensures memory { IfErr result (λ refusal. refusal ≡ Memory) }
+    ensures listing { OnErr result (list_any (is_opened_between from to) incidents.now ≡ true) }
 {
     let lines = lines_between(alloc, incidents, from, to)?;
     Ok(Times {
@@ -57,6 +58,7 @@ fn lines_between(
     ensures rising { IfOk result (λ lines. IsKeyed nat_cmp line_number lines) }
     ensures few { IfOk result (λ lines. length lines < 2 ^ 32) }
     ensures memory { IfErr result (λ refusal. refusal ≡ Memory) }
+    ensures listing { OnErr result (list_any (is_opened_between from to) incidents.now ≡ true) }
 {
     let mut lines = Listed::new(alloc);
     for incident in incidents.as_slice() {
