@@ -118,3 +118,6 @@ fn moved_calls(
     }
     Ok(moved)
 }
+
+#[cfg(test)]
+mod tests;

@@ -64,3 +64,6 @@ pub fn close(slice: &Slice, number: Number) -> Result<Incident, Refusal>
         ..*incident
     })
 }
+
+#[cfg(test)]
+mod tests;
