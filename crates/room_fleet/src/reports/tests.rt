@@ -193,10 +193,10 @@ fn an_offered_vehicle_stays_reserved(rt: HostRuntime) -> Result<(), Fail> {
     let rows = idle(Status::Offered).ok_or("in range")?;
     let position = sent(&rows, pressed(1, Button::Position, 0), 2000)?;
     assert_eq!(rt; told(&position), (Outcome::Normal, Status::Offered));
-    let home = sent(&rows, pressed(1, Button::Home, 0), 2000)?;
+    let home = sent(&rows_after(&position), pressed(2, Button::Home, 0), 2000)?;
     assert_eq!(rt; told(&home), (Outcome::Normal, Status::Offered));
     assert_eq!(rt; home.vehicle.status, Status::Offered);
-    let mobile = sent(&rows, pressed(1, Button::Mobile, 0), 2000)?;
+    let mobile = sent(&rows_after(&home), pressed(3, Button::Mobile, 0), 2000)?;
     assert_eq!(rt; told(&mobile), (Outcome::Wrong, Status::Offered));
     Ok(())
 }
