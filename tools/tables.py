@@ -48,6 +48,11 @@ def equal(at, param, why):
     return dict(term=lambda place, i: f"equals {place} {i}", at=at, param=param, test=lambda at: f"equal Binary (column r {at}) ({param})", why=why)
 
 
+# The same with a plus before the column; it stands last.
+def equal_by_value(at, param, why):
+    return dict(equal(at, param, why), term=lambda place, i: f"equals_by_value {place} {i}", tells=lambda place: f"equal-by_value (column r {place}) ({param})")
+
+
 def owned(name, text, row, at, field):
     return load(name, text, "(d : ℕ)", f"owns_{row} d", equal(at, "number d", f"equal-numbers x.{field} d"))
 
@@ -79,7 +84,7 @@ TABLES = [
              equal(10, "number (state_number Active)", "equal-active x.state"), equal(0, "number d", "equal-numbers x.division d")),
         load("incidents_opened", "INCIDENTS_OPENED", "(from to : ℤ) (d : ℕ)", "λ x. int_le from (pos x.opened) && (int_lt (pos x.opened) to && x.division == d)",
              compared("Ge", "at_least", 8, "Int from", "at_least-integers (pos x.opened) from"), compared("Lt", "below", 8, "Int to", "below-integers (pos x.opened) to"),
-             equal(0, "number d", "equal-numbers x.division d")),
+             equal_by_value(0, "number d", "equal-numbers x.division d")),
     ]),
     Table("calls", "call", "Call", PAIR, ["x.position", "x.serial"], "NNNNNNNNNNNNBN", 7, loads=[incident_rows("calls_of", "CALLS_OF", 3, 2)]),
     Table("vehicles", "vehicle", "Vehicle", TEXT, ["x.callsign"], "TNNNNNNNONN", 9, loads=[owned("vehicles_held", "VEHICLES_HELD", "vehicle", 2, "holder")]),
@@ -126,10 +131,10 @@ home("Rattle.sqlite.specs.Held", "state")
 home("Rattle.sqlite.specs.Listing", "understood")
 home("Rattle.sqlite.specs.State", "State Executes HasCleanDisk")
 home("Rattle.table_laws.specs.Outcomes", "Inside Only")
-home("Rattle.table_laws.specs.Statements", "Selects StandsAlone Upserts Deletes Stores equals at_least below either row_values row_update rowid_values rowid_update")
+home("Rattle.table_laws.specs.Statements", "Selects StandsAlone Upserts Deletes Stores equals equals_by_value at_least below either row_values row_update rowid_values rowid_update")
 home("Rattle.table_laws.specs.Typed", "number")
 home("Rattle.table_laws.proofs.ColumnValues", "cast-Int cast-Null cast-number_or_null")
-home("Rattle.table_laws.proofs.Comparisons", "and_then and_last is_true-Or or_else equal-numbers tie-numbers tie-texts conflict_of_one conflict_of_two is_eq-then compare_by")
+home("Rattle.table_laws.proofs.Comparisons", "and_then and_last is_true-Or or_else equal-by_value equal-numbers tie-numbers tie-texts conflict_of_one conflict_of_two is_eq-then compare_by")
 home("Rattle.table_laws.proofs.Refusals", "plain_here")
 home("Rattle.table_laws.proofs.Standing", "holds_still holds_none")
 home("Rattle.table_laws.proofs.StoredRows", "stores_row stores_rowid")
@@ -164,7 +169,7 @@ OPERATORS = {"≡": "◌≡◌", "∷": "◌∷◌", "++": "◌++◌", "||": "�
 def write(path, first, body, homes=()):
     """A file whose imports are the names that it uses."""
     homes = dict(HOMES, **dict(homes))
-    bare = re.sub(r"unfolding Rattle\S+|--.*", "", body)
+    bare = re.sub(r"unfolding Rattle\S+|--.*|\.[^\s(){}\[\].,;]+", "", body)  # a field's name is no import
     words = {OPERATORS.get(w, w) for w in re.findall(r"\[\]|[^\s(){}\[\].,;]+", bare)}
     local = {m for m in re.findall(r"^ *(?:pub |abbrev )*([^\s(:]+) :", body, re.M)}
     used = {}
@@ -186,10 +191,12 @@ def conjunction(conditions):
 
 
 # that the terms ask of a row what the test asks of its columns
-def tells(tests):
+def tells(tests, last="refl"):
     if len(tests) == 1:
-        return "and_last refl"
-    return "and_then refl (and_last refl)" if len(tests) == 2 else "and_three " + " ".join(f"({test})" for test in tests)
+        return f"and_last {last}"
+    if len(tests) == 3 and last == "refl":
+        return "and_three " + " ".join(f"({test})" for test in tests)
+    return f"and_then refl ({tells(tests[1:], last)})"
 
 
 def both(parts):
@@ -250,7 +257,8 @@ pub {t.row}_at_is : {t.key['args']} → ShowsRow {t.row}_row {one}_AT.now ({para
             terms = "".join(c["term"](t.place(c["at"]), i) + " ∷ " for i, c in enumerate(cs)) + "[]"
             params = "".join(c["param"] + " ∷ " for c in cs) + "[]"
             test, same = both([c["test"](c["at"]) for c in cs]), conjunction([c["why"] for c in cs])
-            tell = tells([c["test"](t.place(c["at"])) for c in cs])
+            last = f"({cs[-1]['tells'](t.place(cs[-1]['at']))})" if "tells" in cs[-1] else "refl"
+            tell = tells([c["test"](t.place(c["at"])) for c in cs], last)
         else:
             terms, params, test, tell, same = l["terms"], l["params"], l["test"], l["tells"], l["same"]
         names = " ".join(re.findall(r"\(([^:]*) :", l["args"]))

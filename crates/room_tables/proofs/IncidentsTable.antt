@@ -6,7 +6,7 @@ use Rattle.room_schema.specs.Schema.{incidents_table, room_schema}
 use Rattle.room_tables.proofs.Kept.{with_incidents}
 use Rattle.room_tables.proofs.Loads.{Shows, ShowsAll, ShowsRow, all_rows, chosen_rows, row_of_key}
 use Rattle.room_tables.proofs.Puts.{put_changes}
-use Rattle.room_tables.proofs.Tests.{and_three, at_least-integers, below-integers, equal-active}
+use Rattle.room_tables.proofs.Tests.{at_least-integers, below-integers, equal-active}
 use Rattle.room_tables.specs.Stands.{House}
 use Rattle.room_tables.specs.Writes.{Makes}
 use Rattle.room_tables.specs.declared.incidents.TheConstants.{ACTIVE_INCIDENTS, ALL_INCIDENTS, INCIDENTS_OPENED, INCIDENT_AT, PUT_INCIDENT}
@@ -16,7 +16,6 @@ use Rattle.room_types.specs.Keys.{incident_key, pair_cmp}
 use Rattle.room_types.specs.declared.changes.Change.TheVariants.{PutIncident}
 use Rattle.room_types.specs.declared.codes.State.TheVariants.{Active}
 use Rattle.room_types.specs.declared.tables.Incident.{Incident}
-use Rattle.sqlite.specs.Held.{state}
 use Rattle.sqlite.specs.Listing.{understood}
 use Rattle.sqlite.specs.State.{Executes, State}
 use Rattle.sqlite_schema.specs.Rules.{equal}
@@ -29,10 +28,10 @@ use Rattle.std.proofs.Common.{List, Ok, [], filter, pos, refl, sym, ℕ, ℤ, �
 use Rattle.std.specs.Ordering.{nat_cmp}
 use Rattle.std.specs.Prelude.{int_le, int_lt}
 use Rattle.table_laws.proofs.ColumnValues.{cast-Int, cast-number_or_null}
-use Rattle.table_laws.proofs.Comparisons.{and_last, and_then, compare_by, conflict_of_two, equal-numbers, is_eq-then, tie-numbers}
+use Rattle.table_laws.proofs.Comparisons.{and_last, and_then, compare_by, conflict_of_two, equal-by_value, equal-numbers, is_eq-then, tie-numbers}
 use Rattle.table_laws.proofs.StoredRows.{stores_row}
 use Rattle.table_laws.specs.Outcomes.{Inside}
-use Rattle.table_laws.specs.Statements.{Selects, StandsAlone, Stores, Upserts, at_least, below, equals, row_update, row_values}
+use Rattle.table_laws.specs.Statements.{Selects, StandsAlone, Stores, Upserts, at_least, below, equals, equals_by_value, row_update, row_values}
 use Rattle.table_laws.specs.Typed.{number}
 
 abbrev all_of : House → Room → List Incident
@@ -63,14 +62,14 @@ active_incidents_are d =
     chosen_rows pair_cmp incident_key incident_row 5 (1 ∷ 2 ∷ []) (3 ∷ 4 ∷ 5 ∷ 6 ∷ 7 ∷ 8 ∷ 9 ∷ 10 ∷ 11 ∷ 12 ∷ []) incident_faithful all_of (λ trees house room h. h.incidents) ACTIVE_INCIDENTS.now (equals 11 0 ∷ equals 1 1 ∷ []) active_incidents_means
     (number (state_number Active) ∷ number d ∷ []) (λ r. equal Binary (column r 10) (number (state_number Active)) && equal Binary (column r 0) (number d)) (λ x. is_active x.state && x.division == d) (λ r. and_then refl (and_last refl)) (λ x. and_then (equal-active x.state) (equal-numbers x.division d))
 
-pub incidents_opened_means : Selects room_schema INCIDENTS_OPENED.now 5 (1 ∷ 2 ∷ 3 ∷ 4 ∷ 5 ∷ 6 ∷ 7 ∷ 8 ∷ 9 ∷ 10 ∷ 11 ∷ 12 ∷ []) (1 ∷ 2 ∷ []) (at_least 9 0 ∷ below 9 1 ∷ equals 1 2 ∷ [])
+pub incidents_opened_means : Selects room_schema INCIDENTS_OPENED.now 5 (1 ∷ 2 ∷ 3 ∷ 4 ∷ 5 ∷ 6 ∷ 7 ∷ 8 ∷ 9 ∷ 10 ∷ 11 ∷ 12 ∷ []) (1 ∷ 2 ∷ []) (at_least 9 0 ∷ below 9 1 ∷ equals_by_value 1 2 ∷ [])
 unfolding understood everything
 incidents_opened_means = record { names = _; command = refl; plain = (refl, refl); unlisted = refl }
 
 pub incidents_opened_are : (from to : ℤ) (d : ℕ) → Shows incident_row INCIDENTS_OPENED.now (Int from ∷ Int to ∷ number d ∷ []) (λ found house room. found ≡ filter (λ x. int_le from (pos x.opened) && (int_lt (pos x.opened) to && x.division == d)) room.incidents)
 incidents_opened_are from to d =
-    chosen_rows pair_cmp incident_key incident_row 5 (1 ∷ 2 ∷ []) (3 ∷ 4 ∷ 5 ∷ 6 ∷ 7 ∷ 8 ∷ 9 ∷ 10 ∷ 11 ∷ 12 ∷ []) incident_faithful all_of (λ trees house room h. h.incidents) INCIDENTS_OPENED.now (at_least 9 0 ∷ below 9 1 ∷ equals 1 2 ∷ []) incidents_opened_means
-    (Int from ∷ Int to ∷ number d ∷ []) (λ r. compare_by Ge (column r 8) (Int from) && (compare_by Lt (column r 8) (Int to) && equal Binary (column r 0) (number d))) (λ x. int_le from (pos x.opened) && (int_lt (pos x.opened) to && x.division == d)) (λ r. and_three (compare_by Ge (column r 9) (Int from)) (compare_by Lt (column r 9) (Int to)) (equal Binary (column r 1) (number d))) (λ x. and_then (at_least-integers (pos x.opened) from) (and_then (below-integers (pos x.opened) to) (equal-numbers x.division d)))
+    chosen_rows pair_cmp incident_key incident_row 5 (1 ∷ 2 ∷ []) (3 ∷ 4 ∷ 5 ∷ 6 ∷ 7 ∷ 8 ∷ 9 ∷ 10 ∷ 11 ∷ 12 ∷ []) incident_faithful all_of (λ trees house room h. h.incidents) INCIDENTS_OPENED.now (at_least 9 0 ∷ below 9 1 ∷ equals_by_value 1 2 ∷ []) incidents_opened_means
+    (Int from ∷ Int to ∷ number d ∷ []) (λ r. compare_by Ge (column r 8) (Int from) && (compare_by Lt (column r 8) (Int to) && equal Binary (column r 0) (number d))) (λ x. int_le from (pos x.opened) && (int_lt (pos x.opened) to && x.division == d)) (λ r. and_then refl (and_then refl (and_last (equal-by_value (column r 1) (number d))))) (λ x. and_then (at_least-integers (pos x.opened) from) (and_then (below-integers (pos x.opened) to) (equal-numbers x.division d)))
 
 pub incidents_alone : StandsAlone room_schema 4 incidents_table
 incidents_alone = record { is_there = refl; unreferenced = λ olds news. refl; uncounted = refl }

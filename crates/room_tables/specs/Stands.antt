@@ -1,5 +1,5 @@
 -- Which room the tables of a file stand for.
-use Rattle.std.specs.Prelude.{◌≡◌, ◌-◌, ℕ, zero, suc, List, [], ◌∷◌, map, length, Option, Some, None}
+use Rattle.std.specs.Prelude.{◌-◌, ℕ, zero, suc, List, [], ◌∷◌, map, length, Option, Some, None}
 use Rattle.sqlite_value.specs.Order.{Row}
 use Rattle.sqlite_trees.specs.Tree.{Trees}
 use Rattle.sqlite_schema.specs.declared.schema.Table.{Table}

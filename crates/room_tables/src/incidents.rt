@@ -40,9 +40,11 @@ const ACTIVE_INCIDENTS: &str = "SELECT division, number, east, north, class, nee
     need3, opened, first_order, state, into_number \
     FROM incidents WHERE state = ?1 AND division = ?2 ORDER BY division, number";
 
+// The plus keeps the division's value, and the planner from the key, which would walk all incidents of
+// the division: so they are found by their opening.
 const INCIDENTS_OPENED: &str = "SELECT division, number, east, north, class, need1, need2, \
     need3, opened, first_order, state, into_number \
-    FROM incidents WHERE opened >= ?1 AND opened < ?2 AND division = ?3 \
+    FROM incidents WHERE opened >= ?1 AND opened < ?2 AND +division = ?3 \
     ORDER BY division, number";
 
 const PUT_INCIDENT: &str = "INSERT INTO incidents VALUES (?1, ?2, ?3, ?4, ?5, ?6, ?7, ?8, ?9, \

@@ -1,20 +1,14 @@
 -- What a column keeps of a value, and what a program reads of it.
-use Rattle.std.proofs.Common.{◌≡◌, ◌≢◌, ℕ, ℤ, zero, suc, pos, length, MatchOption, List, [], ◌∷◌, cond, Bool, true, false, Option, Some, None, refl, sym, ap, subst, ◌∙◌, is_eq}
-use Rattle.std.specs.Cmp.Lexicographic.{slice_cmp}
-use Rattle.std.specs.Ordering.{nat_cmp}
+use Rattle.std.proofs.Common.{◌≡◌, ◌≢◌, ℕ, ℤ, zero, suc, pos, length, MatchOption, List, [], ◌∷◌, cond, Bool, true, false, Option, Some, None, refl, sym, ap, subst, ◌∙◌}
 use Rattle.sqlite_value.specs.declared.value.Value.{Value}
-use Rattle.sqlite_value.specs.declared.value.Value.TheVariants.{Null, Int, Text}
-use Rattle.sqlite_value.specs.declared.keys.Collation.TheVariants.{Binary}
-use Rattle.sqlite_value.specs.Order.{Row, column, value_cmp}
-use Rattle.sqlite_value.proofs.OrderLemmas.{value_cmp-Text}
+use Rattle.sqlite_value.specs.declared.value.Value.TheVariants.{Null, Int}
+use Rattle.sqlite_value.specs.Order.{Row, column}
 use Rattle.sqlite_sql.specs.Ops.{unary}
-use Rattle.sqlite_schema.specs.Rules.{equal}
 use Rattle.sqlite_schema.specs.declared.schema.Column.{Column}
 use Rattle.sqlite_schema.specs.declared.schema.Kind.TheVariants.{Integer}
 use Rattle.sqlite_rules.specs.Cast.{cast, cast_all}
 use Rattle.sqlite.specs.Values.{bound_value}
 use Rattle.table_laws.specs.Typed.{number, number_or_null}
-use Rattle.table_laws.proofs.Comparisons.{equal-texts}
 
 -- ---- a column of numbers keeps numbers and NULL (columns of texts and of blobs keep theirs by computation)
 

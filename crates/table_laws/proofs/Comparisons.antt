@@ -12,7 +12,7 @@ use Rattle.sqlite_value.specs.Order.{Row, column, value_cmp}
 use Rattle.sqlite_value.proofs.OrderLemmas.{value_cmp-Int, value_cmp-Text, value_cmp-Null, then-Equal}
 use Rattle.sqlite_trees.specs.Tree.{rowid}
 use Rattle.sqlite_trees.specs.View.{is_int}
-use Rattle.sqlite_sql.specs.declared.ops.BinaryOp.TheVariants.{Compare, Or}
+use Rattle.sqlite_sql.specs.declared.ops.BinaryOp.TheVariants.{Compare, Or, Coalesce}
 use Rattle.sqlite_sql.specs.declared.ops.CompareOp.{CompareOp}
 use Rattle.sqlite_sql.specs.declared.ops.CompareOp.TheVariants.{Eq, Lt, Ge}
 use Rattle.sqlite_sql.specs.Ops.{binary, is_null, is_true, from_truth, or3, truth, test}
@@ -55,6 +55,18 @@ equal-value_cmp (Int n) b k = compare_by-value_cmp Eq (Int n) b refl k
 equal-value_cmp (Real x) b k = compare_by-value_cmp Eq (Real x) b refl k
 equal-value_cmp (Text t) b k = compare_by-value_cmp Eq (Text t) b refl k
 equal-value_cmp (Blob t) b k = compare_by-value_cmp Eq (Blob t) b refl k
+
+-- a plus before a column keeps its value
+plus_keeps : (v : Value) → binary Coalesce v Null ≡ v
+unfolding binary
+plus_keeps Null = refl
+plus_keeps (Int n) = refl
+plus_keeps (Real x) = refl
+plus_keeps (Text t) = refl
+plus_keeps (Blob b) = refl
+
+pub equal-by_value : (a b : Value) → equal Binary (binary Coalesce a Null) b ≡ equal Binary a b
+equal-by_value a b = ap (λ v. equal Binary v b) (plus_keeps a)
 
 -- numbers are ordered as numbers
 pub value_cmp-numbers : (m n : ℕ) → value_cmp (Int (pos m)) (Int (pos n)) ≡ nat_cmp m n

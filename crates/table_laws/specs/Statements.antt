@@ -8,7 +8,7 @@ use Rattle.sqlite_value.specs.declared.keys.Collation.TheVariants.{Binary}
 use Rattle.sqlite_value.specs.Keys.{ascending}
 use Rattle.sqlite_value.specs.Order.{Row, column}
 use Rattle.sqlite_trees.specs.Tree.{rowid}
-use Rattle.sqlite_sql.specs.declared.ops.BinaryOp.TheVariants.{Compare, Or}
+use Rattle.sqlite_sql.specs.declared.ops.BinaryOp.TheVariants.{Compare, Or, Coalesce}
 use Rattle.sqlite_sql.specs.declared.ops.CompareOp.{CompareOp}
 use Rattle.sqlite_sql.specs.declared.ops.CompareOp.TheVariants.{Eq, Lt, Ge}
 use Rattle.sqlite_sql.specs.Term.{Term, lit, col, op2, eval_all, holds}
@@ -45,6 +45,10 @@ compares op place param = op2 (Compare op Binary) (col 1 place) (col 0 param)
 
 abbrev pub equals : ℕ → ℕ → Term
 equals = compares Eq
+
+-- the same with a plus before the column, which keeps its value and is sought by no key
+abbrev pub equals_by_value : ℕ → ℕ → Term
+equals_by_value place param = op2 (Compare Eq Binary) (op2 Coalesce (col 1 place) (lit Null)) (col 0 param)
 
 abbrev pub at_least : ℕ → ℕ → Term
 at_least = compares Ge

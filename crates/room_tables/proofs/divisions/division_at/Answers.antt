@@ -7,7 +7,6 @@ use Rattle.sqlite.specs.State.{HasCleanDisk}
 use Rattle.std.proofs.Common.{arith}
 use Rattle.std.proofs.lemmas.Result.{IfOk-weaker}
 use Rattle.table_laws.proofs.Refusals.{plain_here}
-use Rattle.table_laws.specs.Typed.{number}
 use Rattle.room_tables.proofs.divisions.division_at.Goals as goal
 
 pub find-requires : goal.find-requires
