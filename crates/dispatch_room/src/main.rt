@@ -1,24 +1,57 @@
 //! The control room, as a program. Without words it is the dry run: the example room in memory, its
-//! messages from standard input, its answers to standard output.
+//! messages from standard input, its answers to standard output. With words it is a command over a room's file.
 #![tactic(auto)]
 
+mod commands;
+mod creating;
 mod dry_run;
 mod endings;
 mod example;
+mod files;
+mod importing;
+mod serving;
+mod timing;
+mod words;
 
+use crate::commands::command;
 use crate::dry_run::dry_run;
-use crate::endings::ended;
+use crate::endings::{Fault, ended};
 use room_message::wires::Wire;
 use std::process::ExitCode;
+use std::{env, io};
 
 fn main(rt: HostRuntime) -> ExitCode {
+    let status = match arguments(&rt) {
+        Ok(words) if words.len() <= 1 => dry(&rt),
+        Ok(words) => command(
+            &rt,
+            rt.alloc(),
+            words.as_slice(),
+            &mut rt.stdout(),
+            &mut rt.stderr(),
+        ),
+        Err(_) => tell(&rt, Fault::Memory),
+    };
+    ExitCode::from(status)
+}
+
+// The words of the command line, the program's name first.
+fn arguments(rt: &HostRuntime) -> io::Result<Vec<String>> {
+    Ok(env::args(rt)?.collect(rt.alloc())?)
+}
+
+// The dry run over standard input and output.
+fn dry(rt: &HostRuntime) -> u8 {
     let mut reader = Wire::new(rt.stdin());
     let mut writer = Wire::new(rt.stdout());
     match ended(dry_run(rt.alloc(), &mut reader, &mut writer)) {
-        Ok(()) => ExitCode::SUCCESS,
-        Err(fault) => {
-            let _ = eprintln!(rt; "{fault}");
-            ExitCode::from(fault.status())
-        }
+        Ok(()) => 0,
+        Err(fault) => tell(rt, fault),
     }
+}
+
+// Tells a fault on standard error, and gives its status.
+fn tell(rt: &HostRuntime, fault: Fault) -> u8 {
+    let _ = eprintln!(rt; "{fault}");
+    fault.status()
 }
