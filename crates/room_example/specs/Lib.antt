@@ -1,0 +1,2 @@
+-- the example room, and what a connection to it is served
+pub mod Example
