@@ -1,4 +1,4 @@
--- the example room
-pub mod Example
+-- the numbers of the dry run
+pub mod DryRun
 -- how the program ends
 pub mod Endings

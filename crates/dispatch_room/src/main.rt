@@ -6,7 +6,6 @@ mod commands;
 mod creating;
 mod dry_run;
 mod endings;
-mod example;
 mod files;
 mod importing;
 mod serving;

@@ -1,23 +1,7 @@
-use Rattle.sqlite.proofs.Callers.{memory_is_clean}
-use Rattle.room_service.specs.Rooms.{machine}
-use Rattle.dispatch_room.specs.Example.{IsExample}
-use Rattle.dispatch_room.proofs.ExampleLemmas.{zone_is_read}
-use Rattle.dispatch_room.proofs.ServeLemmas.{serves}
+use Rattle.std.proofs.lemmas.Result.{IfOk-weaker}
 use Rattle.dispatch_room.proofs.dry_run.dry_run.Goals as goal
-
-pub unwrap-zone-requires : goal.unwrap-zone-requires
-unwrap-zone-requires g c =
-    c.read.ensures.read.1 (rw (c.zone.ensures, c.plan.ensures, c.in_ok-store.ensures.zone) zone_is_read)
 
 pub returns-clause-talk : goal.returns-clause-talk
 returns-clause-talk g c =
-    let zone = rw (c.unwrap-zone.ensures, c.zone.ensures, c.plan.ensures, c.in_ok-store.ensures.zone) at c.read.ensures.zone in
-    let talk = rw c.new-clock.ensures at c.serve-end.ensures.talk in
-    let clock = c.serve-end.new.clock in (
-      c.unwrap-zone.result,
-      zone,
-      clock.count,
-      clock.was_none,
-      serves machine c.unwrap-zone.result _ _ _ (memory_is_clean c.serve-end.new.room.conn) _ _ IsExample
-          (λ terminals room begins. rw (begins.0, begins.1) c.in_ok-store.ensures.room) 10000 c.serve-end.result talk,
-    )
+    let clock = c.serve_example.new.clock in
+    IfOk-weaker _ _ _ (λ end talk. (clock.count, clock.was_none, talk)) (rw c.new-clock.ensures at c.serve_example.ensures.talk)

@@ -1,4 +1,0 @@
--- what holds of the example room as it is written out
-pub mod ExampleLemmas
--- a talk of which only the room at its beginning is told
-pub mod ServeLemmas
