@@ -1,5 +1,5 @@
 -- The kind of a number.
-use Rattle.std.proofs.Common.{◌≡◌, ℕ, Option, Some, None, refl, sym}
+use Rattle.std.proofs.Common.{◌≡◌, ℕ, Option, Some, None, refl}
 use Rattle.std.proofs.lemmas.Bool.{ne_eqb}
 use Rattle.room_types.specs.Codes.{Decodes, kind_number}
 use Rattle.room_types.specs.declared.codes.Kind.{Kind}

@@ -9,7 +9,6 @@ use Rattle.room_place.specs.declared.plans.Area.{Area}
 use Rattle.room_types.specs.Texts.{Token}
 use Rattle.room_types.specs.declared.asks.Who.{Who}
 use Rattle.room_types.specs.declared.asks.Who.TheVariants.{Desk, Crew, Position}
-use Rattle.room_types.specs.declared.fleet.Terminal.{Terminal}
 use Rattle.room_files.specs.declared.plan_lines.PlanLine.{PlanLine}
 use Rattle.room_files.specs.declared.plan_lines.PlanLine.TheVariants as line
 

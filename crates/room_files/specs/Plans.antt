@@ -1,5 +1,5 @@
 -- The plan that the rows of a file make, and why a text is no plan.
-use Rattle.std.specs.Prelude.{◌≡◌, ℕ, zero, suc, List, [], ◌∷◌, codes, length, map, filter_map, Bool, true, false, Option, Some, None}
+use Rattle.std.specs.Prelude.{◌≡◌, ℕ, zero, suc, List, [], ◌∷◌, codes, length, map, filter_map, true, false, Option, Some, None}
 use Rattle.room_place.specs.declared.plans.Area.{Area}
 use Rattle.room_types.specs.declared.fleet.Terminal.{Terminal}
 use Rattle.room_files.specs.PlanLines.{plan_line_of}

@@ -1,11 +1,11 @@
-use Rattle.std.proofs.Common.{Bor, List, ℕ, ◌≡◌, ◌<◌, ◌∙◌, refl, sym, rules, arith, inl, inr, true, map, Some, ◌∷◌, []}
+use Rattle.std.proofs.Common.{Bor, List, ℕ, ◌≡◌, ◌∙◌, refl, sym, rules, arith, inl, inr, true, map, Some, ◌∷◌, []}
 use Rattle.std.specs.Result.{is_ok}
 use Rattle.std.proofs.lemmas.List.{map-append}
 use Rattle.std.proofs.lemmas.List.Elements.{All-push}
 use Rattle.csv.specs.Reading.{Reached, default_config, strip_bom}
 use Rattle.csv.specs.Records.{AllText, fields_of}
 use Rattle.csv.specs.declared.parser.State.TheVariants.{StartRecord}
-use Rattle.csv.proofs.ReadFacts.{rows-end, rows-more}
+use Rattle.csv.proofs.ReadFacts.{rows-more}
 use Rattle.room_files.proofs.TableLemmas.{fault_explained, width_more}
 use Rattle.room_files.proofs.records.read_records.Goals as goal
 
