@@ -1,5 +1,5 @@
--- Outcomes at their moments get one answer each.
-use Rattle.std.proofs.Common.{◌≡◌, ◌∙◌, sym, ap, subst, ℕ, ℤ, List, [], ◌∷◌, ◌++◌, Bool, true, false, Option, Some, None, Result, Ok, Err}
+-- A stream has one list of messages, and outcomes at their moments get one answer each.
+use Rattle.std.proofs.Common.{◌≡◌, ◌∙◌, sym, ap, subst, refl, arith, ℕ, ℤ, List, [], ◌∷◌, ◌++◌, Bool, true, false, Option, Some, None, Result, Ok, Err}
 use Rattle.std.specs.Prelude.{MatchBool, pos}
 use Rattle.jiff_core.specs.Calendar.{days_from_civil}
 use Rattle.room_types.specs.declared.asks.Ask.{Ask}
@@ -10,7 +10,9 @@ use Rattle.room_types.specs.declared.fleet.Terminal.{Terminal}
 use Rattle.room_types.specs.declared.refusals.Refusal.{Refusal}
 use Rattle.room_types.specs.declared.refusals.Refusal.TheVariants.{WrongRole}
 use Rattle.room_model.specs.Room.{Room}
+use Rattle.room_message.specs.declared.endings.Ending.TheVariants.{Refused}
 use Rattle.room_message.specs.Messages.{WholeMessage, terminal_of}
+use Rattle.room_message.proofs.LawLemmas.{one_message_law, no_end_law}
 use Rattle.room_routes.specs.Targets.{routed}
 use Rattle.room_routes.specs.declared.targets.Target.{Target}
 use Rattle.room_bodies.specs.Asking.{wanted_by}
@@ -23,10 +25,23 @@ use Rattle.room_days.specs.Days.{zone_of}
 use Rattle.room_days.specs.declared.zones.Zone.{Zone}
 use Rattle.room_days.proofs.SpanLaws.{one_span_law}
 use Rattle.room_http.specs.Events.{AsksAs, AsksAt, AsksBy, IsAskFor, named}
-use Rattle.room_http.specs.Laws.{IsOneTalk}
-use Rattle.room_http.specs.Outcomes.{message, refused, is_head_only, is_closing}
+use Rattle.room_http.specs.Laws.{AreFirstOf, IsOneStream, IsOneTalk}
+use Rattle.room_http.specs.Outcomes.{Outcome, message, refused, is_head_only, is_closing, Begins}
 use Rattle.room_service.specs.Rooms.{Step}
 use Rattle.room_http.specs.Talk.{Timed, Finds, replied, IsReplyTo, IsTalk}
+
+none_more : (few many : List Outcome) → few ≡ [] → AreFirstOf few many
+none_more few many none = rw none tt
+
+pub one_stream_law : IsOneStream
+one_stream_law stream [] many rest left x y fewer = tt
+one_stream_law stream (o ∷ few) [] rest left x y fewer = absurd (omega arith)
+one_stream_law stream (message m ∷ few) (message n ∷ many) rest left x y fewer =
+    let same = one_message_law stream m n x.0 y.0 x.1 y.1 in
+    (same.0, one_stream_law x.0 few many rest left x.3 (subst (λ (s : List ℕ). Begins s many left) (sym same.1) y.3) (omega arith))
+one_stream_law stream (message m ∷ few) (refused r head_only ∷ many) rest left x y fewer = absurd (no_end_law stream m x.0 (Refused r head_only) x.1 y.1.0)
+one_stream_law stream (refused r head_only ∷ few) (message n ∷ many) rest left x y fewer = absurd (no_end_law stream n y.0 (Refused r head_only) y.1 x.1.0)
+one_stream_law stream (refused r head_only ∷ few) (refused s without ∷ many) rest left x y fewer = (tt, none_more few many (x.2 refl))
 
 one_ask : (zone : Zone) (given : Wanted) (a b : Ask) → IsAskFor zone given a → IsAskFor zone given b → a ≡ b
 one_ask zone (wanted.Ask x) a b is also = is ∙ sym also

@@ -1,22 +1,23 @@
 -- Lemmas on a connection that is served.
-use Rattle.std.proofs.Common.{◌≡◌, ◌≤◌, subst, refl, ℕ, List, [], ◌∷◌, ◌++◌, map, append-nil, inl, inr, Bool, true, false, Option, Some, None, Ok, Err, All}
-use Rattle.std.proofs.lemmas.List.{map-append}
+use Rattle.std.proofs.Common.{◌≡◌, ◌∙◌, ◌≤◌, subst, sym, refl, ℕ, List, [], ◌∷◌, ◌++◌, map, append-nil, inl, inr, Bool, true, false, Option, Some, None, Ok, Err, All}
+use Rattle.std.proofs.lemmas.List.{length-map, map-append}
 use Rattle.std.proofs.lemmas.List.Elements.{All-nil, All-push}
-use Rattle.std.specs.Io.KnownBytes.{Keeps, Appends}
+use Rattle.std.specs.Io.KnownBytes.{prepend_known, Keeps, Appends}
 use Rattle.room_types.specs.declared.fleet.Terminal.{Terminal}
 use Rattle.room_types.specs.declared.refusals.Refusal.{Refusal}
 use Rattle.room_model.specs.Room.{Room}
+use Rattle.room_message.specs.Messages.{IsPart}
 use Rattle.room_message.proofs.StreamLemmas.{Appends-more, Appends-none}
 use Rattle.room_http.specs.declared.moments.TheConstants.{LAST_MOMENT}
 use Rattle.room_http.specs.declared.serving.ServeEnd.{ServeEnd}
 use Rattle.room_http.specs.declared.serving.ServeEnd.TheVariants.{Closed, Cut, ReadFault, WriteFault, ClockFault, Turns, Memory}
 use Rattle.room_answers.specs.Replies.{fixed_bytes}
-use Rattle.room_http.specs.Answering.{Answers}
+use Rattle.room_http.specs.Answering.{Answers, EndsAnswering}
 use Rattle.room_http.specs.Moments.{HasNoMoment}
 use Rattle.room_http.specs.Outcomes.{Outcome, is_closing, is_head_only, Begins, HasNext}
 use Rattle.room_days.specs.declared.zones.Zone.{Zone}
 use Rattle.room_service.specs.Rooms.{Step, IsWant}
-use Rattle.room_http.specs.Serving.{Sides, Finish, Answered, Wanted, Broken, ServeIs}
+use Rattle.room_http.specs.Serving.{Sides, Finish, Answered, Wanted, Broken, LeavesPart, MissesNone, ServeIs}
 use Rattle.room_http.specs.Talk.{Timed, IsFront, BreaksOff, Talks}
 use Rattle.room_http.proofs.StreamLemmas.{Passes, Begins-push}
 use Rattle.room_http.proofs.TalkLemmas.{Talks-none, Talks-append}
@@ -42,6 +43,16 @@ still_begins stream outs (Some rest) None begins same = absurd same
 still_begins stream outs (Some rest) (Some next) begins same =
     let is : begins.0 ≡ next = cc in
     (next, refl, subst (λ (t : List ℕ). Begins stream (map (λ x. x.0) outs) t) is begins.2)
+
+-- where serving ends with an answer no read failed or was wanting
+pub ends_missing_none : (left remains given gives : Option (List ℕ)) (e : ServeEnd) → EndsAnswering e → MissesNone left remains given gives e
+ends_missing_none left remains given gives Closed ends = tt
+ends_missing_none left remains given gives WriteFault ends = tt
+ends_missing_none left remains given gives ClockFault ends = tt
+ends_missing_none left remains given gives Cut ends = tt
+ends_missing_none left remains given gives Memory ends = tt
+ends_missing_none left remains given gives ReadFault ends = absurd ends
+ends_missing_none left remains given gives Turns ends = absurd ends
 
 module _ (step : Step) (zone : Zone) (old : Sides) where
   pub Going-none : (trusted : Type 0) (stood : List Terminal → Room → Type 0) → Going step zone old old.left old.held old.given trusted stood stood []
@@ -74,6 +85,22 @@ module _ (step : Step) (zone : Zone) (old : Sides) where
       timed = (before.timed, before.moments);
       talk = before.talk;
     }
+
+    -- of what was read, all is answered but what is in the inbox
+    pub leaves_part : (kept : List ℕ) (remains : Option (List ℕ)) → left ≡ prepend_known kept remains → Going step zone old left held given early stood stays outs
+        → IsPart kept → LeavesPart old.left remains old.given given
+    leaves_part kept None is before part = λ stream known. absurd (let begins = before.begins stream known in cc)
+    leaves_part kept (Some rest) is before part = λ stream known.
+        let begins = before.begins stream known in
+        let same : begins.0 ≡ kept ++ rest = cc in (
+          map (λ x. x.0) outs,
+          kept,
+          rest,
+          refl,
+          subst (λ (t : List ℕ). Begins stream (map (λ x. x.0) outs) t) same begins.2,
+          part,
+          (map (λ x. x.1) outs, length-map outs (λ x. x.1) ∙ sym (length-map outs (λ x. x.0)), before.moments),
+        )
 
     module _ (before : Going step zone old left held given early stood stays outs) (new : Finish) (late : Type 0) (stands : List Terminal → Room → Type 0) (earlier : late → early)
         (after : Option (List ℕ)) (o : Outcome) (pass : Passes left after o) where

@@ -1,5 +1,5 @@
 -- What is done with one request.
-use Rattle.std.specs.Prelude.{◌≡◌, ◌⊎◌, ◌≤◌, ℕ, List, [], ◌∷◌, Bool, true, false, Option, Result, Ok, Err}
+use Rattle.std.specs.Prelude.{◌≡◌, ◌⊎◌, ◌≤◌, ℕ, List, [], ◌∷◌, Bool, true, false, ⊤, Option, Result, Ok, Err}
 use Rattle.std.specs.Io.KnownBytes.{Appends}
 use Rattle.room_types.specs.declared.fleet.Terminal.{Terminal}
 use Rattle.room_types.specs.declared.refusals.Refusal.{Refusal}
@@ -13,6 +13,16 @@ use Rattle.room_http.specs.Moments.{HasNoMoment}
 use Rattle.room_answers.specs.Replies.{fixed_bytes}
 use Rattle.room_days.specs.declared.zones.Zone.{Zone}
 use Rattle.room_http.specs.Talk.{Talks, IsFront, BreaksOff}
+
+-- serving ends with an answer in one of these ways
+abbrev pub EndsAnswering : ServeEnd → Type 0
+EndsAnswering Closed = ⊤
+EndsAnswering WriteFault = ⊤
+EndsAnswering ClockFault = ⊤
+EndsAnswering Cut = ⊥
+EndsAnswering ReadFault = ⊥
+EndsAnswering Turns = ⊥
+EndsAnswering Memory = ⊥
 
 module _ (step : Step) (zone : Zone) (held holds given gives : Option (List ℕ)) (write_failed was_none : Bool)
     (trusted : Type 0) (stood stands : List Terminal → Room → Type 0) (o : Outcome) where

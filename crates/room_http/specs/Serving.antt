@@ -1,11 +1,11 @@
 -- How a connection is served, and how that ends.
-use Rattle.std.specs.Prelude.{◌≡◌, ◌⊎◌, ◌≤◌, ℕ, List, [], ◌∷◌, ◌++◌, map, All, Bool, true, ⊤, Option, Some}
+use Rattle.std.specs.Prelude.{◌≡◌, ◌⊎◌, ◌≤◌, ℕ, List, [], ◌∷◌, ◌++◌, length, map, All, Bool, true, ⊤, Option, Some}
 use Rattle.std.specs.Io.KnownBytes.{Appends}
 use Rattle.room_types.specs.declared.fleet.Terminal.{Terminal}
 use Rattle.room_types.specs.declared.refusals.Refusal.{Refusal}
 use Rattle.room_model.specs.Room.{Room}
 use Rattle.room_answers.specs.Replies.{fixed_bytes}
-use Rattle.room_message.specs.Messages.{IsCut}
+use Rattle.room_message.specs.Messages.{IsCut, IsPart}
 use Rattle.room_message.specs.Streams.{CountsBy}
 use Rattle.room_http.specs.declared.serving.ServeEnd.{ServeEnd}
 use Rattle.room_http.specs.declared.serving.ServeEnd.TheVariants.{Closed, Cut, ReadFault, WriteFault, ClockFault, Turns, Memory}
@@ -95,3 +95,19 @@ module _ (step : Step) (zone : Zone) (old : Sides) (new : Finish) (trusted : Typ
   ServeIs turns ClockFault = (outs : List Timed) × (o : Outcome) × Untimed outs o
   ServeIs turns Turns = (outs : List Timed) × Answered outs (λ rest. ⊤) × CountsBy turns old.reads new.reads
   ServeIs turns Memory = Answered [] (λ rest. ⊤) × CountsBy 0 old.reads new.reads
+
+-- the clock gave a moment for each of these outcomes
+abbrev pub HasMoments : Option (List ℕ) → Option (List ℕ) → List Outcome → Type 0
+HasMoments given gives outs = (moments : List ℕ) × (length moments ≡ length outs) × Appends given gives moments
+
+-- the stream begins with as many outcomes as moments were given, and what was read after them is less than a message
+abbrev pub LeavesPart : Option (List ℕ) → Option (List ℕ) → Option (List ℕ) → Option (List ℕ) → Type 0
+LeavesPart left remains given gives =
+    (stream : List ℕ) → left ≡ Some stream
+    → (outs : List Outcome) × (part : List ℕ) × (rest : List ℕ) × (remains ≡ Some rest) × Begins stream outs (part ++ rest) × IsPart part × HasMoments given gives outs
+
+-- a read that fails, and reads that are used up, leave no message without an answer that was read whole
+abbrev pub MissesNone : Option (List ℕ) → Option (List ℕ) → Option (List ℕ) → Option (List ℕ) → ServeEnd → Type 0
+MissesNone left remains given gives ReadFault = LeavesPart left remains given gives
+MissesNone left remains given gives Turns = LeavesPart left remains given gives
+MissesNone left remains given gives end = ⊤

@@ -1,7 +1,7 @@
 //! One request, answered.
-ghost use Rattle.std.specs.Prelude.{◌≡◌, false};
+ghost use Rattle.std.specs.Prelude.{◌≡◌, false, IfErr};
 ghost use Rattle.room_http.specs.Outcomes.{Outcome, IsShown};
-ghost use Rattle.room_http.specs.Answering.{Answers};
+ghost use Rattle.room_http.specs.Answering.{Answers, EndsAnswering};
 
 use crate::moments::moment;
 use crate::replies::reply;
@@ -29,6 +29,7 @@ pub fn answer<W: Sink, M: Room, C: Clock>(
     requires sound { W.has_failed writer.old ≡ false }
     ensures ready { M.is_ready room.new }
     ensures trusted { M.is_trusted room.new → M.is_trusted room.old }
+    ensures ends { IfErr result EndsAnswering }
     ensures answers { (o : Outcome) → IsShown request.now o → Answers M.step zone.now
         (W.held writer.old) (W.held writer.new) (C.given clock.old) (C.given clock.new) (W.has_failed writer.new) (C.was_none clock.new)
         (M.is_trusted room.new) (M.stands room.old) (M.stands room.new) o result }

@@ -1,6 +1,6 @@
 //! A connection that is served.
 ghost use Rattle.std.specs.Prelude.{◌≡◌, false};
-ghost use Rattle.room_http.specs.Serving.{ReadsAtMost, ServeIs};
+ghost use Rattle.room_http.specs.Serving.{MissesNone, ReadsAtMost, ServeIs};
 
 use crate::answering::answer;
 use crate::requests::Request;
@@ -56,6 +56,7 @@ pub fn serve<R: Source, W: Sink, M: Room, C: Clock>(
         (record { left = R.left reader.old; reads = R.reads reader.old; held = W.held writer.old; given = C.given clock.old })
         (record { reads = R.reads reader.new; held = W.held writer.new; given = C.given clock.new; read_failed = R.has_failed reader.new; read_ended = R.has_ended reader.new; write_failed = W.has_failed writer.new; was_none = C.was_none clock.new })
         (M.is_trusted room.new) (M.stands room.old) (M.stands room.new) turns result }
+    ensures none_missed { MissesNone (R.left reader.old) (R.left reader.new) (C.given clock.old) (C.given clock.new) result }
 {
     let Ok(routes) = Routes::new(alloc) else {
         return ServeEnd::Memory;

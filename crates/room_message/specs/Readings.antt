@@ -5,7 +5,7 @@ use Rattle.room_message.specs.declared.messages.Layout.{Layout}
 use Rattle.room_message.specs.declared.endings.Ending.{Ending}
 use Rattle.room_message.specs.declared.endings.Ending.TheVariants.{End, Cut, ReadFault, Turns, Refused}
 use Rattle.room_message.specs.Layouts.{IsLayout, IsWhole}
-use Rattle.room_message.specs.Messages.{WholeMessage, HasMessage, IsCut, IsRefused, EndsWith}
+use Rattle.room_message.specs.Messages.{WholeMessage, HasMessage, IsCut, IsPart, IsRefused, EndsWith}
 use Rattle.room_message.specs.Streams.{Reads}
 
 -- a stream that ends with these bytes ends between messages, or within one
@@ -13,12 +13,13 @@ abbrev pub end_of : List ℕ → Ending
 end_of [] = End
 end_of (byte ∷ more) = Cut
 
--- why reading stopped: what holds of the bytes in the inbox, of the turns and of the reader
+-- Why reading stopped: what holds of the bytes in the inbox, of the turns and of the reader. Where a
+-- read failed or the turns are used up, the bytes that were read are less than a message.
 abbrev pub StopsAs : List ℕ → ℕ → Bool → Bool → Option (List ℕ) → Ending → Type 0
 StopsAs bytes turns failed ended left End = (bytes ≡ []) × (ended ≡ true) × IsAtEnd left × (failed ≡ false)
 StopsAs bytes turns failed ended left Cut = IsCut bytes × (ended ≡ true) × IsAtEnd left × (failed ≡ false)
-StopsAs bytes turns failed ended left ReadFault = failed ≡ true
-StopsAs bytes turns failed ended left Turns = (turns ≡ 0) × (failed ≡ false)
+StopsAs bytes turns failed ended left ReadFault = IsPart bytes × (failed ≡ true)
+StopsAs bytes turns failed ended left Turns = IsPart bytes × (turns ≡ 0) × (failed ≡ false)
 StopsAs bytes turns failed ended left (Refused r head_only) = ((more : List ℕ) → IsRefused (bytes ++ more) r head_only) × (failed ≡ false)
 
 -- one read put bytes behind those that were kept, or nothing more was read

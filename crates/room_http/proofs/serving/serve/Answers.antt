@@ -2,7 +2,7 @@ use Rattle.std.proofs.Common.{◌≡◌, ◌∙◌, refl, arith, sym, drop, ◌-
 use Rattle.std.specs.Io.KnownBytes.{prepend_known}
 use Rattle.room_http.specs.Outcomes.{message, refused}
 use Rattle.room_http.specs.Serving.{Finish}
-use Rattle.room_http.proofs.ServeLemmas.{Going-none, Going-kept, Going-more, Going-ends, closes, ends}
+use Rattle.room_http.proofs.ServeLemmas.{Going-none, Going-kept, Going-more, Going-ends, closes, ends, ends_missing_none, leaves_part}
 use Rattle.room_http.proofs.StreamLemmas.{CountsBy-none, Keeps-prepend, reads_by, message_passes, refusal_passes, nothing_left}
 use Rattle.room_http.proofs.serving.serve.Goals as goal
 use Rattle.room_http.proofs.serving.serve.Goals.{in-Ok-answer, in-Err-answer}
@@ -125,7 +125,13 @@ returns-in-Err-ReadFault-clause-talk g c =
     let going = c.messages.invariant.going in
     let kept = Going-kept _ _ _ _ _ _ _ _ _ _ _ going.1 c.read_message.ensures.read.same in
     let says = (rw c.in-Err-ReadFault.field-0-is at c.in-Err-ReadFault.ensures.says) in
-    (going.0, Going-ends _ _ _ _ _ _ _ _ _ _ _ _ _ _ _ _ kept (λ rest known. tt), says)
+    (going.0, Going-ends _ _ _ _ _ _ _ _ _ _ _ _ _ _ _ _ kept (λ rest known. tt), says.1)
+
+pub returns-in-Err-ReadFault-clause-none_missed : goal.returns-in-Err-ReadFault-clause-none_missed
+returns-in-Err-ReadFault-clause-none_missed g c =
+    let kept = Going-kept _ _ _ _ _ _ _ _ _ _ _ c.messages.invariant.going.1 c.read_message.ensures.read.same in
+    let says = (rw c.in-Err-ReadFault.field-0-is at c.in-Err-ReadFault.ensures.says) in
+    leaves_part _ _ _ _ _ _ _ _ _ _ _ _ refl kept says.0
 
 pub returns-in-Err-Turns-clause-reads : goal.returns-in-Err-Turns-clause-reads
 returns-in-Err-Turns-clause-reads g c = (_, omega arith, reads_by _ _ _ _ _ _ c.messages.invariant.spent c.read_message.ensures.read.spent c.messages.invariant.reads c.read_message.ensures.read.count)
@@ -135,6 +141,22 @@ returns-in-Err-Turns-clause-talk g c =
     let going = c.messages.invariant.going in
     let kept = Going-kept _ _ _ _ _ _ _ _ _ _ _ going.1 c.read_message.ensures.read.same in
     let says = (rw c.in-Err-Turns.field-0-is at c.in-Err-Turns.ensures.says) in
-    let whole : c.args.turns - c.read_message.new.turns ≡ c.args.turns = omega (arith, says.0) in
+    let whole : c.args.turns - c.read_message.new.turns ≡ c.args.turns = omega (arith, says.1) in
     let all = reads_by _ _ _ _ _ _ c.messages.invariant.spent c.read_message.ensures.read.spent c.messages.invariant.reads c.read_message.ensures.read.count in
     (going.0, Going-ends _ _ _ _ _ _ _ _ _ _ _ _ _ _ _ _ kept (λ rest known. tt), rw whole at all)
+
+pub returns-in-Err-Turns-clause-none_missed : goal.returns-in-Err-Turns-clause-none_missed
+returns-in-Err-Turns-clause-none_missed g c =
+    let kept = Going-kept _ _ _ _ _ _ _ _ _ _ _ c.messages.invariant.going.1 c.read_message.ensures.read.same in
+    let says = (rw c.in-Err-Turns.field-0-is at c.in-Err-Turns.ensures.says) in
+    leaves_part _ _ _ _ _ _ _ _ _ _ _ _ refl kept says.0
+
+pub returns-in-Err-clause-none_missed : goal.returns-in-Err-clause-none_missed
+returns-in-Err-clause-none_missed g c = ends_missing_none _ _ _ _ _ c.in-Err.ensures.ends
+
+pub returns-in-Err-Refused-clause-none_missed : goal.returns-in-Err-Refused-clause-none_missed
+returns-in-Err-Refused-clause-none_missed g c =
+    elim c.match-answer-2.branch [
+      | in-Ok-answer w ↦ rw w.result-is tt
+      | in-Err-answer w ↦ rw w.result-is (ends_missing_none _ _ _ _ _ w.in-Err-answer.ensures.ends)
+    ]
