@@ -132,6 +132,43 @@ fn the_first_refusal_is_answered(rt: HostRuntime) -> Result<(), Fail> {
             "",
             "{\"done\":true}",
         ),
+        (
+            "get /queue HTTP/1.1\r\nHost: room\r\nX-Terminal: deskone1\r\n\r\n",
+            "405 Method Not Allowed",
+            "Allow: GET, HEAD\r\n",
+            "{\"error\":\"WrongMethod\",\"number\":37}",
+        ),
+        (
+            "GET /report HTTP/1.1\r\nHost: room\r\nX-Terminal: nobodys1\r\n\r\n",
+            "405 Method Not Allowed",
+            "Allow: POST\r\n",
+            "{\"error\":\"WrongMethod\",\"number\":37}",
+        ),
+        (
+            "POST /report HTTP/1.1\r\nHost: room\r\nContent-Length: 1\r\n\r\n{",
+            "403 Forbidden",
+            "",
+            "{\"error\":\"NoTerminal\",\"number\":38}",
+        ),
+        (
+            "POST /report HTTP/1.1\r\nHost: room\r\nX-Terminal: takerone\r\nContent-Length: 1\r\n\r\n{",
+            "403 Forbidden",
+            "",
+            "{\"error\":\"WrongRole\",\"number\":39}",
+        ),
+        (
+            "GET /times/2026-02-30 HTTP/1.1\r\nHost: room\r\n\r\n",
+            "404 Not Found",
+            "",
+            "{\"error\":\"NoPath\",\"number\":36}",
+        ),
+        // A day of 23 hours, in the zone that is served.
+        (
+            "GET /times/2026-03-29 HTTP/1.1\r\nHost: room\r\nX-Terminal: deskone1\r\n\r\n",
+            "200 OK",
+            "",
+            "{\"activated\":0,\"from\":1774742400,\"incidents\":[],\"to\":1774825200,\"within\":0}",
+        ),
     ];
     for (stream, status, more, content) in rows {
         let (text, end) = written(rt.alloc(), stream.as_bytes(), NEVER)?;
@@ -163,6 +200,11 @@ fn what_closes_is_the_last(rt: HostRuntime) -> Result<(), Fail> {
         ),
         (
             "POST /call HTTP/1.1\r\nHost: room\r\nContent-Length: +5\r\n\r\n",
+            "400 Bad Request",
+            "{\"error\":\"BadMessage\",\"number\":30}",
+        ),
+        (
+            "POST /call HTTP/1.1\r\nHost: room\r\nContent-Length: 5\r\nContent-Length: 5\r\n\r\nabcde",
             "400 Bad Request",
             "{\"error\":\"BadMessage\",\"number\":30}",
         ),
@@ -202,6 +244,40 @@ fn what_closes_is_the_last(rt: HostRuntime) -> Result<(), Fail> {
         let (text, end) = written(alloc, twice.as_bytes(), NEVER)?;
         let wanted = answer(alloc, status, CLOSE, content)?;
         assert_eq!(rt; text.as_str(), wanted.as_str(), "to {stream}");
+        assert_eq!(rt; end, ServeEnd::Closed, "to {stream}");
+    }
+    Ok(())
+}
+
+// The length of the content is told all the same.
+#[test]
+fn a_head_request_gets_no_content(rt: HostRuntime) -> Result<(), Fail> {
+    let alloc = rt.alloc();
+    let rows = [
+        (
+            "HEAD /queue HTTP/1.1\r\nHost: room\r\nX-Terminal: deskone1\r\n\r\n",
+            "200 OK",
+            "",
+            "{\"queue\":[]}",
+        ),
+        (
+            "HEAD /call HTTP/1.1\r\nHost: room\r\nX-Terminal: takerone\r\n\r\n",
+            "405 Method Not Allowed",
+            "Allow: POST\r\n",
+            "{\"error\":\"WrongMethod\",\"number\":37}",
+        ),
+        (
+            "HEAD /queue HTTP/1.1\r\nHost: room\r\nTransfer-Encoding: chunked\r\n\r\n",
+            "501 Not Implemented",
+            CLOSE,
+            "{\"error\":\"Coding\",\"number\":34}",
+        ),
+    ];
+    for (stream, status, more, content) in rows {
+        let (text, end) = written(alloc, stream.as_bytes(), NEVER)?;
+        let whole = answer(alloc, status, more, content)?;
+        let head = whole.as_str().strip_suffix(content).ok_or("no content")?;
+        assert_eq!(rt; text.as_str(), head, "to {stream}");
         assert_eq!(rt; end, ServeEnd::Closed, "to {stream}");
     }
     Ok(())
@@ -309,6 +385,17 @@ fn each_prefix_in_pieces(rt: HostRuntime) -> Result<(), Fail> {
     Ok(())
 }
 
+// The first piece ends at each byte of the stream in turn.
+#[test]
+fn a_stream_in_pieces_of_each_size(rt: HostRuntime) -> Result<(), Fail> {
+    for size in 1..THREE.len() + 1 {
+        let (text, end) = written(rt.alloc(), THREE, size)?;
+        assert_eq!(rt; text.as_str(), ANSWERS, "in pieces of {size}");
+        assert_eq!(rt; end, ServeEnd::Closed, "in pieces of {size}");
+    }
+    Ok(())
+}
+
 #[test]
 fn each_failing_read(rt: HostRuntime) -> Result<(), Fail> {
     for place in 0..THREE.len() {
@@ -332,29 +419,24 @@ fn each_failing_read(rt: HostRuntime) -> Result<(), Fail> {
 
 #[test]
 fn each_failing_write(rt: HostRuntime) -> Result<(), Fail> {
-    // The answers are of 150, 108 and 120 bytes.
-    for stops_at in 0..38usize {
-        let mut writer = Narrow::new(rt.alloc(), 10, stops_at);
-        let mut room = Toy::new();
-        let mut reader = Pieces::new(THREE, NEVER, NEVER);
-        let end = served(
-            rt.alloc(),
-            &mut reader,
-            &mut writer,
-            &mut room,
-            &mut FixedClock::<1000>::new(),
-        )?;
-        let text = writer.text()?;
-        assert!(rt; ANSWERS.starts_with(text.as_str()), "at {stops_at}");
-        assert_eq!(rt; end, ServeEnd::WriteFault, "at {stops_at}");
-        let messages = if stops_at < 15 {
-            1usize
-        } else if stops_at < 26 {
-            2
-        } else {
-            3
-        };
-        assert_eq!(rt; room.acts, messages, "at {stops_at}");
+    for stops_at in 0..ANSWERS.len() {
+        for takes_nothing in [false, true] {
+            let mut writer = Narrow::new(rt.alloc(), 1, stops_at);
+            writer.takes_nothing = takes_nothing;
+            let mut room = Toy::new();
+            let end = served(
+                rt.alloc(),
+                &mut Pieces::new(THREE, NEVER, NEVER),
+                &mut writer,
+                &mut room,
+                &mut FixedClock::<1000>::new(),
+            )?;
+            let text = writer.text()?;
+            assert_eq!(rt; end, ServeEnd::WriteFault, "at {stops_at}");
+            assert_eq!(rt; text.as_bytes(), &ANSWERS.as_bytes()[..stops_at]);
+            let messages = LENGTHS.iter().filter(|all| **all <= stops_at).count();
+            assert_eq!(rt; room.acts, messages.saturating_add(1), "at {stops_at}");
+        }
     }
     Ok(())
 }

@@ -10,7 +10,7 @@ use room_message::sinks::{Sink, WriteFailed};
 use room_message::sources::{ReadFailed, Source};
 use room_place::plans::DivisionNumber;
 use room_service::rooms::Room;
-use room_types::answers::{Answer, Listed};
+use room_types::answers::{Answer, Listed, Times};
 use room_types::asks::{Ask, Event, Who};
 use room_types::callsign::Callsign;
 use room_types::numbers::PositionNumber;
@@ -72,7 +72,7 @@ impl<'a> Source for Pieces<'a> {
     }
 }
 
-/// A sink that takes so many bytes at a time, and fails at one write.
+/// A sink that takes so many bytes at a time, and at one write fails or takes nothing.
 #[derive(Drop)]
 pub struct Narrow {
     alloc: Global,
@@ -80,6 +80,7 @@ pub struct Narrow {
     size: usize,
     calls: usize,
     stops_at: usize,
+    pub takes_nothing: bool,
     pub failed: bool,
 }
 
@@ -93,6 +94,7 @@ impl Narrow {
             size,
             calls: 0,
             stops_at,
+            takes_nothing: false,
             failed: false,
         }
     }
@@ -112,8 +114,9 @@ impl Sink for Narrow {
     fn write(&mut self, buf: &[u8]) -> Result<usize, WriteFailed> {
         let stops = self.calls == self.stops_at;
         self.calls = self.calls.saturating_add(1);
-        let count = self.size.min(buf.len());
-        if stops || self.held.extend_from_slice(&buf[..count]).is_err() {
+        let count = if stops { 0 } else { self.size.min(buf.len()) };
+        let fails = stops && !self.takes_nothing;
+        if fails || self.held.extend_from_slice(&buf[..count]).is_err() {
             self.failed = true;
             return Err(WriteFailed);
         }
@@ -124,7 +127,7 @@ impl Sink for Narrow {
     }
 }
 
-/// A room of three terminals that answers each event alike. It says of no room that it stands for it.
+/// A room of three terminals in which nothing is ever there. It says of no room that it stands for it.
 #[derive(Drop)]
 pub struct Toy {
     pub acts: usize,
@@ -152,6 +155,13 @@ fn told(alloc: Global, event: &Event) -> Answer {
     match event.ask {
         Ask::Call(form) => Answer::Called(DivisionNumber::of(1), form.serial, false),
         Ask::Queue => Answer::Queue(Listed::new(alloc)),
+        Ask::Times(from, to) => Answer::Times(Times {
+            from,
+            to,
+            activated: 0,
+            within: 0,
+            lines: Listed::new(alloc),
+        }),
         _ => Answer::Done,
     }
 }
