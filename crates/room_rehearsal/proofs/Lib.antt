@@ -1,0 +1,2 @@
+-- bytes that are read one after another
+pub mod LineLemmas

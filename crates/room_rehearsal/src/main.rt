@@ -1,0 +1,24 @@
+//! Plays messages to the example room, each at a moment of its own: the first line of standard input
+//! tells the moments, and the messages follow it. The answers go to standard output.
+#![tactic(auto)]
+
+mod endings;
+mod moments;
+mod rehearsal;
+
+use crate::endings::ended;
+use crate::rehearsal::rehearse;
+use room_message::wires::Wire;
+use std::process::ExitCode;
+
+fn main(rt: HostRuntime) -> ExitCode {
+    let mut reader = Wire::new(rt.stdin());
+    let mut writer = Wire::new(rt.stdout());
+    match ended(rehearse(rt.alloc(), &mut reader, &mut writer)) {
+        Ok(()) => ExitCode::SUCCESS,
+        Err(fault) => {
+            let _ = eprintln!(rt; "{fault}");
+            ExitCode::from(fault.status())
+        }
+    }
+}
