@@ -66,14 +66,14 @@ pub(crate) fn read_rows(
 }
 
 /// Whether the fields of a record are these names.
-fn has_names(record: &StringRecord, names: &[&str]) -> bool
-    ensures { IsTrue result ↔ (fields_of record.now ≡ map (λ name. name.now) names.now) }
+fn has_names(first: &StringRecord, names: &[&str]) -> bool
+    ensures { IsTrue result ↔ (fields_of first.now ≡ map (λ name. name.now) names.now) }
 {
-    if record.len() != names.len() {
+    if first.len() != names.len() {
         return false;
     }
     for (at, name) in names.iter().enumerate() {
-        if text_at(record, at) != *name {
+        if text_at(first, at) != *name {
             return false;
         }
     }

@@ -20,4 +20,4 @@ pub returns : goal.returns
 returns c =
     let names = map (λ name. name.now) c.args.names.now in
     let long = length-map c.args.names.now (λ name. name.now) in
-    (λ yes. same_fields (fields_of c.args.record.now) names (sym c.len.ensures ∙ c.if-len-names.false ∙ sym long) (λ at within. c.loop-at.invariant at (omega (arith, long))), λ same. refl)
+    (λ yes. same_fields (fields_of c.args.first.now) names (sym c.len.ensures ∙ c.if-len-names.false ∙ sym long) (λ at within. c.loop-at.invariant at (omega (arith, long))), λ same. refl)

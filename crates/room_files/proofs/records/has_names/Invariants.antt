@@ -4,4 +4,4 @@ use Rattle.room_files.specs.Fields.{text_at}
 use Rattle.room_files.proofs.records.has_names.Given as goal
 
 abbrev pub invariant-loop-at : goal.invariant-loop-at
-invariant-loop-at l = (at : ℕ) → at < l.at → text_at (fields_of l.record) at ≡ get_or (map (λ name. name.now) l.names) at []
+invariant-loop-at l = (at : ℕ) → at < l.at → text_at (fields_of l.first) at ≡ get_or (map (λ name. name.now) l.names) at []
