@@ -5,4 +5,4 @@ pub returns : goal.returns
 returns g c =
     let clock = c.serve_example.new.clock in
     let talk = rw c.new-clock.ensures.next at c.in_ok-end.ensures.talk in
-    (_, _, take clock.next clock.moments.now, clock.was_none, c.in_ok-moments.ensures.line, talk)
+    record { talk = (_, _, take clock.next clock.moments.now, clock.was_none, c.in_ok-moments.ensures.line, talk) }
