@@ -38,5 +38,6 @@ pub fn dry_run<R: Source, W: Sink>(
     ensures unused { OnErr result ((reader.new ≡ reader.old) × (writer.new ≡ writer.old)) }
 {
     let mut clock = FixedClock::<MOMENT>::new();
-    serve_example(alloc, reader, writer, &mut clock, MOST_READS)
+    let end = serve_example(alloc, reader, writer, &mut clock, MOST_READS)?;
+    Ok(end)
 }
