@@ -15,7 +15,7 @@ use Rattle.room_types.specs.declared.refusals.Refusal.TheVariants as refusal
 use Rattle.dispatch_room.specs.declared.endings.Done.{Done}
 use Rattle.dispatch_room.specs.declared.endings.Done.TheVariants.{Whole, InPart}
 use Rattle.dispatch_room.specs.declared.endings.Fault.{Fault}
-use Rattle.dispatch_room.specs.declared.endings.Fault.TheVariants.{PlanRow, Input, File, Division, Day, Connection, Storage, Network, Memory}
+use Rattle.dispatch_room.specs.declared.endings.Fault.TheVariants.{PlanRow, Input, File, Version, Division, Day, Connection, Storage, Network, Memory}
 
 -- the exit status of a command that was done
 abbrev pub status_done : Done → ℕ
@@ -27,6 +27,7 @@ abbrev pub status_of : Fault → ℕ
 status_of (PlanRow _) = 1
 status_of Input = 1
 status_of File = 1
+status_of Version = 1
 status_of Division = 1
 status_of Day = 1
 status_of Connection = 1
@@ -68,6 +69,7 @@ create_fault create.Storage = Storage
 
 -- of a file that is opened
 abbrev pub open_fault : OpenFault → Fault
+open_fault opening.OldRoom = Version
 open_fault opening.NotARoom = File
 open_fault opening.Memory = Memory
 open_fault opening.Storage = Storage

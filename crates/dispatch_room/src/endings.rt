@@ -46,6 +46,9 @@ pub enum Fault {
     /// The room's file is not there, or is no room; or a room was to be created, and the file is not empty.
     #[error("refused: file")]
     File,
+    /// The room's file is of an older version.
+    #[error("refused: version")]
+    Version,
     /// The division is not in the room's plan.
     #[error("refused: division")]
     Division,
@@ -78,6 +81,7 @@ impl Fault {
             Fault::PlanRow(_)
             | Fault::Input
             | Fault::File
+            | Fault::Version
             | Fault::Division
             | Fault::Day
             | Fault::Connection => 1,
@@ -138,6 +142,7 @@ impl From<OpenFault> for Fault {
 
     fn from(fault: OpenFault) -> Fault {
         match fault {
+            OpenFault::OldRoom => Fault::Version,
             OpenFault::NotARoom => Fault::File,
             OpenFault::Memory => Fault::Memory,
             OpenFault::Storage => Fault::Storage,

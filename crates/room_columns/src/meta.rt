@@ -1,9 +1,10 @@
 //! The version and the zone of a room as a row of SQL.
 
-ghost use Rattle.std.specs.Prelude.{◌≡◌, IfSome};
+ghost use Rattle.std.specs.Prelude.{◌≡◌, ◌↔◌, IfSome, IsTrue};
 ghost use Rattle.sqlite.specs.Values.{bound};
 ghost use Rattle.sqlite_value.specs.Order.{column};
 ghost use Rattle.sqlite_value.specs.declared.value.Value.TheVariants.{Text};
+ghost use Rattle.table_laws.specs.Typed.{number};
 ghost use Rattle.room_columns.specs.Rows.{meta_row};
 
 use crate::columns::{integer, value_at};
@@ -13,6 +14,19 @@ use std::str;
 
 /// The version of these tables.
 pub const VERSION: u32 = 2;
+
+/// The version before, which had no table `offers`.
+pub const FIRST_VERSION: u32 = 1;
+
+/// Whether a row of `meta` tells this version.
+pub fn is_of_version(row: &Row, version: u32) -> bool
+    ensures { IsTrue result ↔ (column row.now 1 ≡ number version) }
+{
+    match row.get_ref(1) {
+        Ok(ValueRef::Int(told)) => told == i64::from(version),
+        _ => false,
+    }
+}
 
 /// The zone that the one row of `meta` tells; none where it is none of this version.
 pub fn zone_of(row: &Row) -> Option<&str>

@@ -1,6 +1,8 @@
 -- What a room's file is made of, and why its database fails.
 -- the tables and indexes
 pub mod Schema
+-- files of other versions
+pub mod Versions
 -- what the texts that make them do
 pub mod Definitions
 -- what a schema is tested for

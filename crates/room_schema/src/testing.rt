@@ -4,6 +4,7 @@ ghost use Rattle.std.specs.Prelude.{◌≡◌, IsTrue, ◌↔◌, [], ◌∷◌,
 ghost use Rattle.sqlite_schema.specs.Names.{table_named};
 ghost use Rattle.sqlite_value.specs.Keys.{plain};
 ghost use Rattle.room_schema.specs.Schema.{no_schema, room_tables, tables_schema, room_schema};
+ghost use Rattle.room_schema.specs.Versions.{BeginsAsRoom};
 ghost use Rattle.room_schema.specs.Forms.{column_as, table_as, index_as, indexes_as};
 ghost use Rattle.room_schema.specs.Bare.{IsBare, HasKey};
 
@@ -40,6 +41,16 @@ pub fn is_there(schema: &Schema, name: &str) -> bool
     ensures { IsTrue result ↔ IsSome (table_named schema.now name.now) }
 {
     schema.table_named(name.as_bytes()).is_some()
+}
+
+/// Whether a schema begins as that of a room does, of this version or another: with the table `meta`, and with no view.
+pub fn begins_as_room(schema: &Schema) -> bool
+    ensures { IsTrue result ↔ BeginsAsRoom schema.now }
+{
+    match schema.tables.as_slice() {
+        [meta, ..] => TABLES[0].fits(meta) && schema.views.is_empty(),
+        [] => false,
+    }
 }
 
 fn has_objects(schema: &Schema, indexes: &[IndexForm]) -> bool

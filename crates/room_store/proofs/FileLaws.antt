@@ -45,6 +45,14 @@ module _ (old mid new : State) (made : StandsAs old mid.now.trees) where
   pub room_still : HoldsRoom old.now.trees → HoldsRoom mid.now.trees
   room_still h = record { layout = h.layout; terminals = h.terminals; room = h.room; planned = h.planned; stands = made (house_of h.layout h.terminals) h.room h.stands; formed = h.formed; fits = h.fits }
 
+-- a file of which something was read before that, and that had stayed as it was
+module _ (old mid new : State) (same : mid.now ≡ old.now) where
+  pub kept_after : KeepsRoom mid new → KeepsRoom old new
+  kept_after kept is_open house room h = kept is_open house room (subst (λ (db : Database). Stands db.trees house room) (sym same) h)
+
+  pub stop_after : (db : Trees) → StandsAs mid db → StandsAs old db
+  stop_after db stands house room h = stands house room (subst (λ (db : Database). Stands db.trees house room) (sym same) h)
+
 -- a room that some tables hold is the one that they were read as
 pub held_is : (trees : Trees) (plan : Layout) (terminals : List Terminal) (room : Room) → Stands trees (house_of plan terminals) room → HoldsRoom trees → IsWellFormed room × AreTerminals room terminals
 held_is trees plan terminals room stands h =

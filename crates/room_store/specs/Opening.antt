@@ -1,5 +1,6 @@
 -- What a file holds that is opened.
 use Rattle.std.specs.Prelude.{IsTrue, List, ℕ, ◌≡◌, ◌⊎◌, ◌∷◌, []}
+use Rattle.sqlite.specs.Effect.{Database}
 use Rattle.sqlite.specs.State.{State}
 use Rattle.sqlite_schema.specs.declared.schema.Schema.{Schema}
 use Rattle.sqlite_trees.specs.Tree.{Trees}
@@ -12,9 +13,11 @@ use Rattle.room_model.specs.Room.{Room}
 use Rattle.room_model.specs.WellFormed.{IsWellFormed}
 use Rattle.room_columns.specs.Rows.{area_row, assignment_row, call_row, division_row, incident_row, loan_row, meta_row, offer_row, point_row, report_row, terminal_row, turn_row, vehicle_row}
 use Rattle.room_schema.specs.Schema.{areas_table, assignments_table, calls_table, divisions_table, incidents_table, loans_table, meta_table, offers_table, points_table, reports_table, room_schema, tables_schema, terminals_table, turns_table, vehicles_table}
+use Rattle.room_schema.specs.Versions.{BeginsAsRoom}
 use Rattle.room_schema.specs.declared.faults.Fault.{Fault}
 use Rattle.room_schema.specs.declared.faults.Fault.TheVariants as fault
 use Rattle.room_tables.specs.Stands.{House, Stands, StandsFor, numbered}
+use Rattle.room_tables.specs.Versions.{IsOfFirstVersion}
 use Rattle.room_store.specs.Keeping.{house_of}
 use Rattle.room_store.specs.declared.opening.OpenFault.{OpenFault}
 use Rattle.room_store.specs.declared.opening.OpenFault.TheVariants.{Memory, Storage}
@@ -25,6 +28,10 @@ use Rattle.room_store.specs.declared.whole.Work.{Work}
 -- The file has a room's tables, with its indexes or without them.
 abbrev pub HasTables : Schema → Type 0
 HasTables schema = (schema ≡ room_schema) ⊎ (schema ≡ tables_schema)
+
+-- The file holds a room of the version before this one, whatever its other tables are.
+abbrev pub IsOldRoom : Database → Type 0
+IsOldRoom now = BeginsAsRoom now.schema × IsOfFirstVersion now.trees
 
 -- Some well-formed room with terminals that fit it is what the tables stand for.
 pub record HoldsRoom (trees : Trees) : Type 0 where

@@ -1,5 +1,5 @@
 //! A room opened from the tables of a file.
-ghost use Rattle.std.specs.Prelude.{◌≡◌, ◌↔◌, false, List, IsTrue, IfErr, IfOk, OnErr, OnOk};
+ghost use Rattle.std.specs.Prelude.{◌≡◌, ◌≢◌, ◌↔◌, false, List, IsTrue, IfErr, IfOk, OnErr, OnOk};
 ghost use Rattle.sqlite.specs.Held.{state};
 ghost use Rattle.sqlite.specs.State.{HasCleanDisk, Survives};
 ghost use Rattle.room_types.specs.declared.fleet.Terminal.{Terminal};
@@ -11,17 +11,18 @@ ghost use Rattle.room_schema.specs.Schema.{room_schema, tables_schema};
 ghost use Rattle.room_tables.specs.Stands.{Stands};
 ghost use Rattle.room_store.specs.Acting.{Commits, Leaves};
 ghost use Rattle.room_store.specs.Keeping.{IsReady, IsRoom, house_of};
-ghost use Rattle.room_store.specs.Opening.{HasTables, HoldsRoom, KeepsRoom, StandsAs};
-ghost use Rattle.room_store.specs.declared.opening.OpenFault.TheVariants.{Memory, NotARoom};
+ghost use Rattle.room_store.specs.Opening.{HasTables, HoldsRoom, IsOldRoom, KeepsRoom, StandsAs};
+ghost use Rattle.room_store.specs.declared.opening.OpenFault.TheVariants.{Memory, NotARoom, OldRoom};
 
 use crate::store::Store;
 use crate::whole::{Whole, read_whole};
 use room_place::plans::Plan;
 use room_schema::faults::Fault;
 use room_schema::making::make_indexes;
-use room_schema::testing::{has_tables_alone, is_room};
+use room_schema::testing::{begins_as_room, has_tables_alone, is_room};
 use room_sound::rooms::is_well_formed;
 use room_sound::terminals::do_terminals_fit;
+use room_tables::meta::is_of_first_version;
 use sqlite::{Alter, Connection};
 use std::alloc::Global;
 use thiserror::Error;
@@ -29,6 +30,9 @@ use thiserror::Error;
 /// Why a file is not opened.
 #[derive(Clone, Copy, Debug, PartialEq, Eq, Error)]
 pub enum OpenFault {
+    /// The file holds a room of the version before this one, well-formed or not.
+    #[error("the file is a room of an older version")]
+    OldRoom,
     /// A table is missing, or there is another, or the tables stand for no well-formed room.
     #[error("the file is no room")]
     NotARoom,
@@ -64,6 +68,8 @@ impl<S: Alter> Store<S> {
         ensures ready { IfOk result (IsReady S.Store) }
         ensures room { IfOk result (λ store. HasCleanDisk (state S.Store store.conn) → (terminals : List Terminal) × (room : Room) × IsRoom S.Store store terminals room) }
         ensures same { IfOk result (λ store. HasCleanDisk (state S.Store store.conn) → KeepsRoom (state S.Store conn) (state S.Store store.conn)) }
+        ensures not_old { IfOk result (λ store. HasCleanDisk (state S.Store store.conn) → ¬ IsOldRoom (state S.Store conn).now) }
+        ensures old_room { IfErr result (λ e. HasCleanDisk (state S.Store e.1) → (e.0 ≡ OldRoom → IsOldRoom (state S.Store conn).now) × (e.0 ≡ NotARoom → ¬ IsOldRoom (state S.Store conn).now)) }
         ensures no_room { IfErr result (λ e. HasCleanDisk (state S.Store e.1) → e.0 ≡ NotARoom → HasTables (state S.Store conn).now.schema → ¬ HoldsRoom (state S.Store conn).now.trees) }
         ensures same_fault { IfErr result (λ e. HasCleanDisk (state S.Store e.1) → KeepsRoom (state S.Store conn) (state S.Store e.1)) }
         ensures ended { IfErr result (λ e. e.1.in_transaction ≡ false) }
@@ -86,8 +92,44 @@ fn open_in<S: Alter>(alloc: Global, conn: &mut Connection<S>) -> Result<Plan, Op
     requires outside { conn.old.in_transaction ≡ false }
     ensures room { HasCleanDisk (state S.Store conn.new) → IfOk result (λ plan. (terminals : List Terminal) × (room : Room) × IsWellFormed room × AreTerminals room terminals × (room.plan ≡ plan.areas) × Stands (state S.Store conn.new).now.trees (house_of plan terminals) room) }
     ensures schema { HasCleanDisk (state S.Store conn.new) → OnOk result ((state S.Store conn.new).now.schema ≡ room_schema) }
+    ensures not_old { HasCleanDisk (state S.Store conn.new) → OnOk result (¬ IsOldRoom (state S.Store conn.old).now) }
+    ensures old_room { HasCleanDisk (state S.Store conn.new) → IfErr result (λ e. (e ≡ OldRoom → IsOldRoom (state S.Store conn.old).now) × (e ≡ NotARoom → ¬ IsOldRoom (state S.Store conn.old).now)) }
     ensures no_room { HasCleanDisk (state S.Store conn.new) → IfErr result (λ e. e ≡ NotARoom → HasTables (state S.Store conn.old).now.schema → ¬ HoldsRoom (state S.Store conn.old).now.trees) }
     ensures kept { HasCleanDisk (state S.Store conn.new) → KeepsRoom (state S.Store conn.old) (state S.Store conn.new) }
+    ensures ended { conn.new.in_transaction ≡ false }
+    ensures survives { Survives (state S.Store conn.old) (state S.Store conn.new) (StandsAs (state S.Store conn.old)) }
+{
+    if is_old(conn)? {
+        return Err(OpenFault::OldRoom);
+    }
+    read_room(alloc, conn)
+}
+
+// Whether the file holds a room of the version before this one.
+fn is_old<S: Alter>(conn: &mut Connection<S>) -> Result<bool, Fault>
+    requires outside { conn.old.in_transaction ≡ false }
+    ensures old_room { HasCleanDisk (state S.Store conn.new) → IfOk result (λ yes. IsTrue yes ↔ IsOldRoom (state S.Store conn.old).now) }
+    ensures ok { HasCleanDisk (state S.Store conn.new) → OnOk result ((state S.Store conn.new).now ≡ (state S.Store conn.old).now) }
+    ensures err { HasCleanDisk (state S.Store conn.new) → OnErr result (KeepsRoom (state S.Store conn.old) (state S.Store conn.new)) }
+    ensures ended { conn.new.in_transaction ≡ false }
+    ensures survives { Survives (state S.Store conn.old) (state S.Store conn.new) (λ _. ⊥) }
+{
+    // Outside a transaction the tables are as they were committed.
+    let _ = conn.is_autocommit();
+    if !begins_as_room(conn.schema()) {
+        return Ok(false);
+    }
+    is_of_first_version(conn)
+}
+
+// The plan of the room of this version that the file holds.
+fn read_room<S: Alter>(alloc: Global, conn: &mut Connection<S>) -> Result<Plan, OpenFault>
+    requires outside { conn.old.in_transaction ≡ false }
+    ensures room { HasCleanDisk (state S.Store conn.new) → IfOk result (λ plan. (terminals : List Terminal) × (room : Room) × IsWellFormed room × AreTerminals room terminals × (room.plan ≡ plan.areas) × Stands (state S.Store conn.new).now.trees (house_of plan terminals) room) }
+    ensures schema { HasCleanDisk (state S.Store conn.new) → OnOk result ((state S.Store conn.new).now.schema ≡ room_schema) }
+    ensures no_room { HasCleanDisk (state S.Store conn.new) → IfErr result (λ e. e ≡ NotARoom → HasTables (state S.Store conn.old).now.schema → ¬ HoldsRoom (state S.Store conn.old).now.trees) }
+    ensures kept { HasCleanDisk (state S.Store conn.new) → KeepsRoom (state S.Store conn.old) (state S.Store conn.new) }
+    ensures this_version { IfErr result (λ e. e ≢ OldRoom) }
     ensures ended { conn.new.in_transaction ≡ false }
     ensures survives { Survives (state S.Store conn.old) (state S.Store conn.new) (StandsAs (state S.Store conn.old)) }
 {
@@ -128,6 +170,7 @@ fn have_indexes<S: Alter>(conn: &mut Connection<S>) -> Result<(), OpenFault>
     ensures ok { HasCleanDisk (state S.Store conn.new) → OnOk result (StandsAs (state S.Store conn.old) (state S.Store conn.new).now.trees) }
     ensures err { HasCleanDisk (state S.Store conn.new) → OnErr result (Leaves (state S.Store conn.old) (state S.Store conn.new)) }
     ensures no_room { IfErr result (λ e. e ≡ NotARoom → ¬ HasTables (state S.Store conn.old).now.schema) }
+    ensures this_version { IfErr result (λ e. e ≢ OldRoom) }
     ensures ended { conn.new.in_transaction ≡ false }
     ensures survives { Survives (state S.Store conn.old) (state S.Store conn.new) (StandsAs (state S.Store conn.old)) }
 {
@@ -155,54 +198,4 @@ fn add_indexes<S: Alter>(conn: &mut Connection<S>) -> Result<(), Fault>
     make_indexes(&mut tx)?;
     tx.commit()?;
     Ok(())
-}
-
-#[cfg(test)]
-mod tests {
-    use super::*;
-    use crate::creating::tests::plan;
-    use sqlite::MemStore;
-    use std::process::Abort;
-    use std::test::Fail;
-
-    // Why the file is not opened, if it isn't, and the connection again.
-    fn fault_of(
-        rt: &(impl AllocGlobal + Abort),
-        conn: Connection<MemStore>,
-    ) -> (Option<OpenFault>, Connection<MemStore>) {
-        assert!(rt; conn.is_autocommit());
-        match Store::open(rt.alloc(), conn) {
-            Ok(store) => (None, store.close()),
-            Err((fault, conn)) => (Some(fault), conn),
-        }
-    }
-
-    // The connection of a room that was created and closed.
-    fn created(
-        rt: &(impl AllocGlobal + Abort),
-        conn: Connection<MemStore>,
-    ) -> Result<Connection<MemStore>, Fail> {
-        assert!(rt; conn.is_autocommit());
-        match Store::create(rt.alloc(), conn, &plan(rt.alloc())?, &[]) {
-            Ok(store) => Ok(store.close()),
-            Err((_, conn)) => Ok(conn),
-        }
-    }
-
-    #[test]
-    fn a_room_that_was_closed_is_opened_again(rt: HostRuntime) -> Result<(), Fail> {
-        let conn = Connection::open_in_memory(rt.alloc())?;
-        let (fault, conn) = fault_of(&rt, conn);
-        assert_eq!(rt; fault, Some(OpenFault::NotARoom));
-        let conn = created(&rt, conn)?;
-        let (fault, mut conn) = fault_of(&rt, conn);
-        assert_eq!(rt; fault, None);
-        conn.execute_batch("DELETE FROM divisions WHERE number = 2")?;
-        let (fault, mut conn) = fault_of(&rt, conn);
-        assert_eq!(rt; fault, Some(OpenFault::NotARoom));
-        conn.execute_batch("UPDATE meta SET version = 1")?;
-        let (fault, _) = fault_of(&rt, conn);
-        assert_eq!(rt; fault, Some(OpenFault::Storage));
-        Ok(())
-    }
 }

@@ -1,5 +1,5 @@
 //! All that the tables of a file hold, read.
-ghost use Rattle.std.specs.Prelude.{◌≡◌, false, IfErr, IfOk, OnErr, OnOk};
+ghost use Rattle.std.specs.Prelude.{◌≡◌, ◌≢◌, false, IfErr, IfOk, OnErr, OnOk};
 ghost use Rattle.sqlite.specs.Held.{state};
 ghost use Rattle.sqlite.specs.State.{HasCleanDisk, IsUnchanged, Survives};
 ghost use Rattle.table_laws.specs.Outcomes.{Keeps};
@@ -10,7 +10,7 @@ ghost use Rattle.room_tables.specs.Numbering.{AreAllNumbered};
 ghost use Rattle.room_tables.specs.Stands.{Stands};
 ghost use Rattle.room_store.specs.Keeping.{house_of};
 ghost use Rattle.room_store.specs.Opening.{HasFleet, HasHouse, HasLending, HasRows, HasWork, HoldsRoom};
-ghost use Rattle.room_store.specs.declared.opening.OpenFault.TheVariants.{NotARoom};
+ghost use Rattle.room_store.specs.declared.opening.OpenFault.TheVariants.{NotARoom, OldRoom};
 
 use crate::opening::OpenFault;
 use room_place::plans::{Area, Plan, PlanFault};
@@ -58,6 +58,7 @@ pub(crate) fn read_whole<S: Alter>(
     ensures err { HasCleanDisk (state S.Store conn.new) → OnErr result (Keeps (state S.Store conn.old) (state S.Store conn.new)) }
     ensures mode { conn.old.in_transaction ≡ false → conn.new.in_transaction ≡ false }
     ensures survives { Survives (state S.Store conn.old) (state S.Store conn.new) (λ _. ⊥) }
+    ensures this_version { IfErr result (λ e. e ≢ OldRoom) }
 {
     if !are_numbered(conn)? {
         return Err(OpenFault::NotARoom);
@@ -82,6 +83,7 @@ fn read_house<S: Alter>(alloc: Global, conn: &mut Connection<S>) -> Result<House
     ensures err { HasCleanDisk (state S.Store conn.new) → OnErr result (Keeps (state S.Store conn.old) (state S.Store conn.new)) }
     ensures mode { conn.old.in_transaction ≡ false → conn.new.in_transaction ≡ false }
     ensures survives { Survives (state S.Store conn.old) (state S.Store conn.new) (λ _. ⊥) }
+    ensures this_version { IfErr result (λ e. e ≢ OldRoom) }
 {
     let terminals = all_terminals(alloc, conn)?;
     let zone = zone(alloc, conn)?;
@@ -96,6 +98,7 @@ fn read_house<S: Alter>(alloc: Global, conn: &mut Connection<S>) -> Result<House
 fn plan_of(alloc: Global, areas: Vec<Area>, zone: &str) -> Result<Plan, OpenFault>
     ensures plan { IfOk result (λ plan. (plan.areas ≡ areas.items) × (plan.zone ≡ zone.now)) }
     ensures no_plan { IfErr result (λ e. e ≡ NotARoom → (layout : Layout) → layout.areas ≡ areas.items → layout.zone ≡ zone.now → ⊥) }
+    ensures this_version { IfErr result (λ e. e ≢ OldRoom) }
 {
     match Plan::new(alloc, areas, zone) {
         Ok(plan) => Ok(plan),

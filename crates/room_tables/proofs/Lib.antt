@@ -33,5 +33,7 @@ pub mod Starts
 pub mod Repeats
 -- the rowids of all tables
 pub mod Rowids
+-- the version of a file
+pub mod FirstVersion
 -- one room alone
 pub mod OneRoom

@@ -1,6 +1,6 @@
 //! The version and the zone of the room in their table.
 
-ghost use Rattle.std.specs.Prelude.{◌≡◌, false, [], ◌∷◌, string_bytes, IsTrue, IfOk, OnOk, OnErr};
+ghost use Rattle.std.specs.Prelude.{◌≡◌, ◌↔◌, false, [], ◌∷◌, string_bytes, IsTrue, IfOk, OnOk, OnErr};
 ghost use Rattle.sqlite.specs.Held.{state};
 ghost use Rattle.sqlite.specs.State.{HasCleanDisk, IsUnchanged, Survives};
 ghost use Rattle.table_laws.specs.Outcomes.{Keeps};
@@ -9,10 +9,12 @@ ghost use Rattle.room_model.specs.Room.{Room};
 ghost use Rattle.room_columns.specs.Rows.{meta_row};
 ghost use Rattle.room_schema.specs.Definitions.{IsBlank};
 ghost use Rattle.room_schema.specs.Schema.{room_schema, meta_table};
+ghost use Rattle.room_schema.specs.Versions.{BeginsAsRoom};
 ghost use Rattle.room_tables.specs.Stands.{House, Stands, StandsFor, empty_room};
+ghost use Rattle.room_tables.specs.Versions.{IsOfFirstVersion, OneTells};
 ghost use Rattle.room_tables.specs.Writes.{Changes};
 
-use room_columns::meta::{meta_columns, zone_of};
+use room_columns::meta::{FIRST_VERSION, is_of_version, meta_columns, zone_of};
 use room_schema::faults::Fault;
 use sqlite::{Alter, Connection, Row, Transaction};
 use std::alloc::Global;
@@ -36,6 +38,30 @@ pub fn zone<S: Alter>(alloc: Global, conn: &mut Connection<S>) -> Result<String,
 {
     let shown = select(conn, ALL_META, &[])?;
     zone_in(alloc, shown.as_slice())
+}
+
+/// Whether `meta` has one row, and it is of the first version of these tables. Of the other tables nothing is read.
+pub fn is_of_first_version<S: Alter>(conn: &mut Connection<S>) -> Result<bool, Fault>
+    requires { HasCleanDisk (state S.Store conn.old) → BeginsAsRoom (state S.Store conn.old).now.schema }
+    ensures version { HasCleanDisk (state S.Store conn.new) → IfOk result (λ yes. IsTrue yes ↔ IsOfFirstVersion (state S.Store conn.old).now.trees) }
+    ensures ok { HasCleanDisk (state S.Store conn.new) → OnOk result (IsUnchanged (state S.Store conn.old) (state S.Store conn.new)) }
+    ensures err { HasCleanDisk (state S.Store conn.new) → OnErr result (Keeps (state S.Store conn.old) (state S.Store conn.new)) }
+    ensures mode { conn.old.in_transaction ≡ false → conn.new.in_transaction ≡ false }
+    ensures survives { Survives (state S.Store conn.old) (state S.Store conn.new) (λ _. ⊥) }
+{
+    let shown = select(conn, ALL_META, &[])?;
+    Ok(one_tells(shown.as_slice(), FIRST_VERSION))
+}
+
+// Whether there is one row, and it tells this version.
+fn one_tells(shown: &[Row], version: u32) -> bool
+    ensures { IsTrue result ↔ OneTells version shown.now }
+{
+    match shown {
+        [] => false,
+        [row] => is_of_version(row, version),
+        [_, _, ..] => false,
+    }
 }
 
 // The zone of the one row.

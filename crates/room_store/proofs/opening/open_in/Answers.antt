@@ -1,60 +1,27 @@
-use Rattle.std.proofs.Common.{IsTrue, arith, inl, rules, sym, true≢false, ◌∙◌, ◌≡◌}
+use Rattle.std.proofs.Common.{◌∙◌, arith, sym, true≢false}
+use Rattle.std.proofs.lemmas.Result.{IfErr-weaker}
 use Rattle.sqlite.specs.Held.{state}
 use Rattle.sqlite.specs.State.{HasCleanDisk}
 use Rattle.sqlite.proofs.StateLemmas.{survives_then}
-use Rattle.room_model.specs.Slices.{room_of}
-use Rattle.room_store.proofs.FileLaws.{held_is, room_still, read_keeps}
+use Rattle.room_store.proofs.FileLaws.{kept_after, stop_after}
 use Rattle.room_store.specs.Opening.{StandsAs}
 use Rattle.room_store.proofs.opening.open_in.Goals as goal
 
-pub returns-in-Err-clause-no_room : goal.returns-in-Err-clause-no_room
-returns-in-Err-clause-no_room g c clean is tables holds =
-    let early : HasCleanDisk (state g.S.Store c.have_indexes.new.conn) = omega (arith, c.read_whole.ensures.survives.clean) in
-    c.in-Err.ensures.no_room clean is (room_still (state g.S.Store c.args.conn.now) (state g.S.Store c.have_indexes.new.conn) (state g.S.Store c.read_whole.new.conn) (c.in_ok-have_indexes.ensures.ok early) holds)
+pub returns-clause-old_room : goal.returns-clause-old_room
+returns-clause-old_room g c clean =
+    let early : HasCleanDisk (state g.S.Store c.is_old.new.conn) = omega (arith, c.read_room.ensures.survives.clean) in
+    let told = c.in_ok-is_old.ensures.old_room early in
+    IfErr-weaker c.read_room.result _ _ (λ e other. (λ is. absurd (other is), λ is old. absurd (true≢false (sym (told.1 old) ∙ c.if-branch.false)))) c.read_room.ensures.this_version
 
-pub returns-in-Err-clause-kept : goal.returns-in-Err-clause-kept
-returns-in-Err-clause-kept g c clean =
-    let mid = state g.S.Store c.have_indexes.new.conn in
-    let early : HasCleanDisk mid = omega (arith, c.read_whole.ensures.survives.clean) in
-    let settled : IsTrue mid.is_open → mid.now ≡ mid.committed = search rules in
-    read_keeps (state g.S.Store c.args.conn.now) mid (state g.S.Store c.read_whole.new.conn) (c.in_ok-have_indexes.ensures.ok early) settled (c.in-Err.ensures.err clean)
+pub returns-clause-kept : goal.returns-clause-kept
+returns-clause-kept g c clean =
+    let early : HasCleanDisk (state g.S.Store c.is_old.new.conn) = omega (arith, c.read_room.ensures.survives.clean) in
+    kept_after (state g.S.Store c.args.conn.now) (state g.S.Store c.is_old.new.conn) (state g.S.Store c.read_room.new.conn) (c.in_ok-is_old.ensures.ok early) (c.read_room.ensures.kept clean)
 
-pub returns-in-Ok-true-clause-kept : goal.returns-in-Ok-true-clause-kept
-returns-in-Ok-true-clause-kept g c clean =
-    let mid = state g.S.Store c.have_indexes.new.conn in
-    let early : HasCleanDisk mid = omega (arith, c.read_whole.ensures.survives.clean) in
-    let settled : IsTrue mid.is_open → mid.now ≡ mid.committed = search rules in
-    read_keeps (state g.S.Store c.args.conn.now) mid (state g.S.Store c.read_whole.new.conn) (c.in_ok-have_indexes.ensures.ok early) settled (inl (c.in-Ok.ensures.ok clean))
-
-pub returns-in-Ok-false-clause-kept : goal.returns-in-Ok-false-clause-kept
-returns-in-Ok-false-clause-kept g c clean =
-    let mid = state g.S.Store c.have_indexes.new.conn in
-    let early : HasCleanDisk mid = omega (arith, c.read_whole.ensures.survives.clean) in
-    let settled : IsTrue mid.is_open → mid.now ≡ mid.committed = search rules in
-    read_keeps (state g.S.Store c.args.conn.now) mid (state g.S.Store c.read_whole.new.conn) (c.in_ok-have_indexes.ensures.ok early) settled (inl (c.in-Ok.ensures.ok clean))
-
-pub returns-in-Err-is_sound-clause-kept : goal.returns-in-Err-is_sound-clause-kept
-returns-in-Err-is_sound-clause-kept g c clean =
-    let mid = state g.S.Store c.have_indexes.new.conn in
-    let early : HasCleanDisk mid = omega (arith, c.read_whole.ensures.survives.clean) in
-    let settled : IsTrue mid.is_open → mid.now ≡ mid.committed = search rules in
-    read_keeps (state g.S.Store c.args.conn.now) mid (state g.S.Store c.read_whole.new.conn) (c.in_ok-have_indexes.ensures.ok early) settled (inl (c.in-Ok.ensures.ok clean))
-
-pub returns-in-Ok-false-clause-no_room : goal.returns-in-Ok-false-clause-no_room
-returns-in-Ok-false-clause-no_room g c clean is tables holds =
-    let mid = state g.S.Store c.have_indexes.new.conn in
-    let early : HasCleanDisk mid = omega (arith, c.read_whole.ensures.survives.clean) in
-    let house = c.in-Ok.whole.house in
-    let there = room_still (state g.S.Store c.args.conn.now) mid (state g.S.Store c.read_whole.new.conn) (c.in_ok-have_indexes.ensures.ok early) holds in
-    let yes = c.in-Ok-false.ensures.test.1 (held_is mid.now.trees house.plan house.terminals.items (room_of house.plan.areas c.in-Ok.whole.rows) (c.in-Ok.ensures.stands clean) there) in
-    absurd (true≢false (sym yes ∙ c.in-Ok-false.field-0-test))
-
-pub returns-in-Ok-true-clause-survives : goal.returns-in-Ok-true-clause-survives
-returns-in-Ok-true-clause-survives g c =
-    survives_then (state g.S.Store c.args.conn.now) (state g.S.Store c.have_indexes.new.conn) (state g.S.Store c.read_whole.new.conn) _ _ (StandsAs (state g.S.Store c.args.conn.now)) (λ _ db left. left) (λ _ db none. absurd none)
-    c.have_indexes.ensures.survives c.read_whole.ensures.survives
-
-pub returns-in-Ok-false-clause-survives : goal.returns-in-Ok-false-clause-survives
-returns-in-Ok-false-clause-survives g c =
-    survives_then (state g.S.Store c.args.conn.now) (state g.S.Store c.have_indexes.new.conn) (state g.S.Store c.read_whole.new.conn) _ _ (StandsAs (state g.S.Store c.args.conn.now)) (λ _ db left. left) (λ _ db none. absurd none)
-    c.have_indexes.ensures.survives c.read_whole.ensures.survives
+pub returns-clause-survives : goal.returns-clause-survives
+returns-clause-survives g c =
+    let old = state g.S.Store c.args.conn.now in
+    let mid = state g.S.Store c.is_old.new.conn in
+    survives_then old mid (state g.S.Store c.read_room.new.conn) _ _ (StandsAs old) (λ _ db none. absurd none)
+    (λ clean db left. let early : HasCleanDisk mid = omega (arith, c.read_room.ensures.survives.clean) in stop_after old mid (state g.S.Store c.read_room.new.conn) (c.in_ok-is_old.ensures.ok early) db left)
+    c.is_old.ensures.survives c.read_room.ensures.survives

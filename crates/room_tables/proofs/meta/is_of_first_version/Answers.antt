@@ -1,0 +1,16 @@
+use Rattle.std.proofs.Common.{arith}
+use Rattle.sqlite.specs.Held.{state}
+use Rattle.sqlite.specs.State.{HasCleanDisk}
+use Rattle.room_tables.proofs.FirstVersion.{all_meta_begins, first_shown, shows_first}
+use Rattle.room_tables.proofs.meta.is_of_first_version.Goals as goal
+
+pub select-requires : goal.select-requires
+select-requires g c clean = (all_meta_begins _ (c.requires clean)).plain
+
+pub returns-clause-version : goal.returns-clause-version
+returns-clause-version g c clean =
+    let old = state g.S.Store c.args.conn.now in
+    let early : HasCleanDisk old = omega (arith, c.select.ensures.survives.clean) in
+    let shows = c.in_ok-shown.ensures.shown clean in
+    let told = rw c.as_slice.ensures.value at c.one_tells.ensures in
+    (λ yes. first_shown old _ _ (c.requires early) shows (told.0 yes), λ first. told.1 (shows_first old _ _ (c.requires early) shows first))
