@@ -1,11 +1,11 @@
 -- Lines of a head.
-use Rattle.std.proofs.Common.{List, append_assoc, codes, ℕ, ◌++◌, ◌≡◌}
+use Rattle.std.proofs.Common.{List, append_assoc, codes, IfSome, None, Option, Some, ℕ, ◌++◌, ◌≡◌}
+use Rattle.std.specs.Fmt.{AppendsText, ◌++?◌}
 use Rattle.room_answers.specs.Replies.{field, line}
 
-pub line_added : (head before text : List ℕ) → ((head ++ before) ++ text) ++ codes "\r\n" ≡ head ++ line (before ++ text)
-unfolding line
-line_added head before text = simp append_assoc
-
-pub field_added : (head name value : List ℕ) → (((head ++ name) ++ codes ": ") ++ value) ++ codes "\r\n" ≡ head ++ field name value
+pub field_added :
+    (head new name : List ℕ) (value : Option (List ℕ)) → AppendsText head new (Some name ++? Some (codes ": ") ++? value ++? Some (codes "\r\n"))
+    → IfSome value (λ text. new ≡ head ++ field name text)
 unfolding field line
-field_added head name value = simp append_assoc
+field_added head new name None added = tt
+field_added head new name (Some text) added = rw added (simp append_assoc)

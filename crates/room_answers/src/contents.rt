@@ -1,5 +1,5 @@
 //! The content of each answer, and of each refusal.
-ghost use Rattle.std.specs.Prelude.{◌≡◌, IfOk, string_bytes};
+ghost use Rattle.std.specs.Prelude.{◌≡◌, IfOk};
 ghost use Rattle.serde_json.specs.View.{view};
 ghost use Rattle.room_answers.specs.Contents.{answer_json, refusal_json, json_of, content};
 
@@ -68,8 +68,8 @@ fn json_of(alloc: Global, answer: &Result<Answer, Refusal>) -> Result<Value, All
 
 /// The content of the message that tells an answer or a refusal.
 #[tactic(auto, unfolding(crate::specs::Contents::content))]
-pub fn content(alloc: Global, answer: &Result<Answer, Refusal>) -> Result<String, AllocError>
-    ensures { IfOk result (λ text. string_bytes text ≡ content answer.now) }
+pub fn content(alloc: Global, answer: &Result<Answer, Refusal>) -> Result<Vec<u8>, AllocError>
+    ensures { IfOk result (λ text. text.items ≡ content answer.now) }
 {
-    json_of(alloc, answer)?.to_string(alloc)
+    json_of(alloc, answer)?.to_vec(alloc)
 }

@@ -1,5 +1,6 @@
 //! Answers as messages of HTTP/1.1.
-ghost use Rattle.std.specs.Prelude.{◌≡◌, ◌++◌, [], if◌then◌else◌, IfErr, IfOk, OnOk, string_bytes};
+ghost use Rattle.std.specs.Prelude.{◌≡◌, ◌++◌, [], codes, if◌then◌else◌, IfErr, IfOk, IfSome, OnOk, string_bytes};
+ghost use Rattle.http.specs.StatusCode.{status_text};
 ghost use Rattle.httpdate.specs.Date.{unix_secs};
 ghost use Rattle.room_answers.specs.Replies.{IsReply, allow_field, closing_field, field, line, methods, status_of};
 
@@ -10,6 +11,7 @@ use room_types::answers::Answer;
 use room_types::numbers::Moment;
 use room_types::refusals::{Allow, Refusal};
 use std::alloc::{AllocError, Global};
+use std::fmt::Display;
 
 fn status_of(answer: &Result<Answer, Refusal>) -> StatusCode
     ensures { result ≡ status_of answer.now }
@@ -27,25 +29,22 @@ fn date_of(at: Moment) -> HttpDate
     HttpDate::from_unix_secs(at.get() as u64).unwrap()
 }
 
-/// Adds a line of the head.
-#[tactic(auto, using(crate::proofs::HeadLines::line_added))]
-fn put_line(head: &mut String, before: &str, text: &str) -> Result<(), AllocError>
-    ensures { OnOk result (string_bytes head.new ≡ string_bytes head.old ++ line (before.now ++ text.now)) }
+/// Room for the head of an answer, which has fewer bytes.
+const HEAD_ROOM: usize = 256;
+
+/// Adds the line of the status.
+#[tactic(auto, unfolding(crate::specs::Replies::line))]
+fn put_status(head: &mut String, status: StatusCode) -> Result<(), AllocError>
+    ensures { OnOk result (string_bytes head.new ≡ string_bytes head.old ++ line (codes "HTTP/1.1 " ++ status_text status)) }
 {
-    head.push_str(before)?;
-    head.push_str(text)?;
-    head.push_str("\r\n")
+    write!(head, "HTTP/1.1 {status}\r\n")
 }
 
 /// Adds a field of the head.
-#[tactic(auto, using(crate::proofs::HeadLines::field_added))]
-fn put_field(head: &mut String, name: &str, value: &str) -> Result<(), AllocError>
-    ensures { OnOk result (string_bytes head.new ≡ string_bytes head.old ++ field name.now value.now) }
+fn put_field<T: Display + Drop>(head: &mut String, name: &str, value: T) -> Result<(), AllocError>
+    ensures { OnOk result (IfSome (T.output value) (λ text. string_bytes head.new ≡ string_bytes head.old ++ field name.now text)) }
 {
-    head.push_str(name)?;
-    head.push_str(": ")?;
-    head.push_str(value)?;
-    head.push_str("\r\n")
+    write!(head, "{name}: {value}\r\n")
 }
 
 fn methods(allow: &Allow) -> &'static str
@@ -79,10 +78,10 @@ fn put_closing(head: &mut String, closing: bool) -> Result<(), AllocError>
 }
 
 /// What of the content is sent.
-fn shown(content: &str, head_only: bool) -> &str
+fn shown(content: &[u8], head_only: bool) -> &[u8]
     ensures { result.now ≡ (if head_only then [] else content.now) }
 {
-    if head_only { "" } else { content }
+    if head_only { &[] } else { content }
 }
 
 /// The message that tells an answer or a refusal at a moment: without its content after a HEAD
@@ -99,18 +98,17 @@ pub fn render(
     ensures err { IfErr result (λ refusal. refusal ≡ Refusal.Memory) }
 {
     let content = content(alloc, answer)?;
-    let content = content.as_str();
-    let status = status_of(answer).to_string(alloc)?;
-    let date = date_of(at).to_string(alloc)?;
-    let length = content.len().to_string(alloc)?;
-    let mut text = String::new(alloc);
-    put_line(&mut text, "HTTP/1.1 ", status.as_str())?;
-    put_field(&mut text, "Date", date.as_str())?;
-    put_field(&mut text, "Content-Type", "application/json")?;
-    put_field(&mut text, "Content-Length", length.as_str())?;
-    put_allow(&mut text, answer)?;
-    put_closing(&mut text, closing)?;
-    text.push_str("\r\n")?;
-    text.push_str(shown(content, head_only))?;
-    Ok(text.into_bytes())
+    let content = content.as_slice();
+    let shown = shown(content, head_only);
+    let mut head = String::with_capacity(alloc, shown.len().saturating_add(HEAD_ROOM))?;
+    put_status(&mut head, status_of(answer))?;
+    put_field(&mut head, "Date", date_of(at))?;
+    put_field(&mut head, "Content-Type", "application/json")?;
+    put_field(&mut head, "Content-Length", content.len())?;
+    put_allow(&mut head, answer)?;
+    put_closing(&mut head, closing)?;
+    head.push_str("\r\n")?;
+    let mut bytes = head.into_bytes();
+    bytes.extend_from_slice(shown)?;
+    Ok(bytes)
 }

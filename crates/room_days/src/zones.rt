@@ -23,6 +23,10 @@ pub enum ZoneFault {
 }
 
 impl fmt::Display for ZoneFault {
+    ghost use Rattle.std.specs.Prelude.{codes, Some};
+
+    ghost output = { λ _. Some (codes "the text is no rule of a time zone") };
+
     fn fmt<W: fmt::Write>(&self, f: &mut fmt::Formatter<W>) -> fmt::Result {
         f.write_str(match self {
             ZoneFault::Rule => "the text is no rule of a time zone",

@@ -3,7 +3,6 @@ ghost use Rattle.std.specs.Prelude.{◌≡◌, ◌≤◌, true};
 ghost use Rattle.std.specs.Option.{SomeIff};
 ghost use Rattle.room_routes.specs.Days.{is_date, days_in, is_leap, two_digits, day_of};
 
-use std::fmt;
 use std::marker::Model;
 
 /// A day of the Gregorian calendar from 1970-01-01 to 2099-12-31. A contract sees its numbers.
@@ -79,13 +78,6 @@ impl Day {
         ensures greatest { self.day ≤ 31 }
     {
         self.day
-    }
-}
-
-impl fmt::Display for Day {
-    fn fmt<W: fmt::Write>(&self, f: &mut fmt::Formatter<W>) -> fmt::Result {
-        let (year, month, day) = (self.year, self.month, self.day);
-        write!(f, "{year}-{month:02}-{day:02}")
     }
 }
 

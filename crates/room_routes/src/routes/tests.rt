@@ -1,6 +1,5 @@
 //! What methods and targets come to.
 use super::*;
-use crate::days::Day;
 use std::test::Fail;
 
 #[test]
@@ -43,12 +42,5 @@ fn methods_and_targets_are_refused(rt: HostRuntime) -> Result<(), Fail> {
         .route(b"POST", b"/vehicles/\xff/off")
         .expect_err(&rt, "no text");
     assert_eq!(rt; missed, Refusal::NoPath);
-    Ok(())
-}
-
-#[test]
-fn a_day_is_shown_as_it_is_written(rt: HostRuntime) -> Result<(), Fail> {
-    let day = Day::parse("2026-03-09").ok_or("a day")?;
-    assert_eq!(rt; day.to_string(rt.alloc())?.as_str(), "2026-03-09");
     Ok(())
 }

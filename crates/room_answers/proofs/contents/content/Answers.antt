@@ -11,4 +11,4 @@ unfolding content
 returns c =
     let said = c.in_ok-json_of.ensures in
     let plain : has_float (view c.in_ok-json_of.field-0) ≡ false = rw said (has_float-json c.args.answer.now) in
-    IfOk-weaker c.to_string.result _ _ (λ text e. e plain ∙ ap compact_text said) c.to_string.ensures.text
+    IfOk-weaker c.to_vec.result _ _ (λ text e. e plain ∙ ap compact_text said) c.to_vec.ensures.text
