@@ -20,7 +20,7 @@ use Rattle.room_types.specs.declared.codes.Kind.{Kind}
 use Rattle.room_types.specs.declared.tables.Incident.{Incident}
 use Rattle.room_alloc.specs.Nearness.{is_nearer, nearness_cmp, proposal_with, whole}
 use Rattle.room_alloc.specs.NearnessOrder.{nearness_total}
-use Rattle.room_alloc.specs.Rings.{AreApart, AreOfKind, ArePlaced, IsSearched, is_below, is_enough, is_marked, nearness_of, nears, proposal_at}
+use Rattle.room_alloc.specs.Rings.{AreApart, AreOfKind, ArePlaced, IsSearched, is_below, is_enough, is_marked, nearness_of, proposal_at}
 use Rattle.room_alloc.specs.declared.nearness.Candidate.{Candidate}
 use Rattle.room_alloc.specs.declared.nearness.Nearness.{Nearness}
 use Rattle.room_alloc.proofs.FirstLaws.{first_of_set}
@@ -58,13 +58,14 @@ kept_before (suc n) (x ∷ (z ∷ q)) f y h l t =
     let rest = kept_before n (z ∷ q) f y h.1 l t in
     (omega (arith, rest.0), (steps x z y (ap is_lt h.0.0) rest.1.0, rest.1))
 
-enough_before : (n k : ℕ) (q : List Nearness) (y : Nearness) → IsKeyed nearness_cmp whole q → ring_floor (suc k) ≤ y.distance → is_enough n k q ≡ true → (n ≤ length q) × AreBefore is_nearer (take n q) y
+enough_before : (n k : ℕ) (q : List Nearness) (y : Nearness) → IsKeyed nearness_cmp whole q → ring_floor k ≤ y.distance → is_enough n k q ≡ true → (n ≤ length q) × AreBefore is_nearer (take n q) y
 enough_before zero k q y h l t = (omega arith, tt)
-enough_before (suc n) k q y h l t = kept_before n q (ring_floor (suc k)) y h l t
+enough_before (suc n) k q y h l t = kept_before n q (ring_floor k) y h l t
 
-floors : (k r : ℕ) → k < r → ring_floor (suc k) ≤ ring_floor r
-floors k zero h = absurd (omega arith)
-floors k (suc r) h = omega arith
+floors : (k r : ℕ) → k ≤ r → ring_floor k ≤ ring_floor r
+floors zero r h = omega arith
+floors (suc k) zero h = absurd (omega arith)
+floors (suc k) (suc r) h = omega arith
 
 -- ---- the candidates' nearnesses
 record IsOf (i : Incident) (xs : List Candidate) (y : Nearness) : Type 0 where
@@ -95,7 +96,7 @@ distinct : (i : Incident) (xs : List Candidate) → AreApart xs → AreDistinct 
 distinct i [] h = tt
 distinct i (x ∷ xs) h = (not_below i x xs h.0, distinct i xs h.1)
 
-search_first : (n : ℕ) (b : Bool) (i : Incident) (xs : List Candidate) (found : List Nearness) → ArePlaced i xs → AreApart xs → IsKeyed nearness_cmp whole found → IsSearched n b i xs found → AreFirst is_nearer n None (nears b i xs) (take n found)
+search_first : (n : ℕ) (b : Bool) (i : Incident) (xs : List Candidate) (found : List Nearness) → ArePlaced i xs → AreApart xs → IsKeyed nearness_cmp whole found → IsSearched n i (filter (is_marked b) xs) found → AreFirst is_nearer n None (map (nearness_of i) (filter (is_marked b) xs)) (take n found)
 search_first n b i xs found placed separate in_order s =
     let marked = filter (is_marked b) xs in
     let past = λ (y : Nearness) (h : Among y (map (nearness_of i) marked)). let m = found_of i marked y h in
@@ -175,13 +176,13 @@ map_map : {X Y Z : Type 0} (g : Y → Z) (f : X → Y) (xs : List X) → map g (
 map_map g f [] = refl
 map_map g f (x ∷ xs) = ap (λ zs. g (f x) ∷ zs) (map_map g f xs)
 
-as_proposals : (b : Bool) (k : Kind) (i : Incident) (xs : List Candidate) → AreOfKind k xs → map (proposal_with b k) (nears b i xs) ≡ map (proposal_at i) (filter (is_marked b) xs)
+as_proposals : (b : Bool) (k : Kind) (i : Incident) (xs : List Candidate) → AreOfKind k xs → map (proposal_with b k) (map (nearness_of i) (filter (is_marked b) xs)) ≡ map (proposal_at i) (filter (is_marked b) xs)
 as_proposals b k i xs kinds =
     map_map (proposal_with b k) (nearness_of i) (filter (is_marked b) xs)
     ∙ map_among (λ c. proposal_with b k (nearness_of i c)) (proposal_at i) (filter (is_marked b) xs)
     (λ c among. let m = among_filter (is_marked b) xs c among in as_proposal b k i c (mark_of b c m.1) (kinds c m.0))
 
-pub nearest_first : (n : ℕ) (b : Bool) (k : Kind) (i : Incident) (xs : List Candidate) (found : List Nearness) → ArePlaced i xs → AreOfKind k xs → AreApart xs → IsKeyed nearness_cmp whole found → IsSearched n b i xs found → AreFirst is_before n None (map (proposal_at i) (filter (is_marked b) xs)) (map (proposal_with b k) (take n found))
+pub nearest_first : (n : ℕ) (b : Bool) (k : Kind) (i : Incident) (xs : List Candidate) (found : List Nearness) → ArePlaced i xs → AreOfKind k xs → AreApart xs → IsKeyed nearness_cmp whole found → IsSearched n i (filter (is_marked b) xs) found → AreFirst is_before n None (map (proposal_at i) (filter (is_marked b) xs)) (map (proposal_with b k) (take n found))
 nearest_first n b k i xs found placed kinds separate in_order s =
     subst (λ ps. AreFirst is_before n None ps (map (proposal_with b k) (take n found))) (as_proposals b k i xs kinds)
-    (first_images (proposal_with b k) is_before is_nearer (by_nearness b k) n (nears b i xs) (take n found) (search_first n b i xs found placed separate in_order s))
+    (first_images (proposal_with b k) is_before is_nearer (by_nearness b k) n (map (nearness_of i) (filter (is_marked b) xs)) (take n found) (search_first n b i xs found placed separate in_order s))

@@ -1,8 +1,8 @@
 -- Candidates ring by ring of cells round an incident.
-use Rattle.std.specs.Prelude.{Bool, List, None, Option, Some, [], cond, drop, false, filter, map, nat_lt, not, suc, true, zero, ℕ, ◌&&◌, ◌<◌, ◌==◌, ◌∷◌, ◌≡◌, ◌≤◌, ◌⊎◌}
+use Rattle.std.specs.Prelude.{Bool, List, None, Option, Some, [], drop, false, filter, map, nat_lt, not, suc, true, zero, ℕ, ◌<◌, ◌∷◌, ◌≡◌, ◌≤◌, ◌⊎◌}
 use Rattle.room_place.specs.Choice.{Among, first}
 use Rattle.room_place.specs.Places.{cell_of, distance, ring_floor, ring_of}
-use Rattle.room_types.specs.Keyed.{IsKeyed, put_row}
+use Rattle.room_types.specs.Keyed.{IsKeyed}
 use Rattle.room_types.specs.Keys.{callsign_cmp}
 use Rattle.room_types.specs.declared.answers.Proposal.{Proposal}
 use Rattle.room_types.specs.declared.codes.Kind.{Kind}
@@ -10,7 +10,6 @@ use Rattle.room_types.specs.declared.tables.Incident.{Incident}
 use Rattle.room_types.specs.declared.tables.Point.{Point}
 use Rattle.room_types.specs.declared.tables.Vehicle.{Vehicle}
 use Rattle.room_alloc.specs.Candidates.{has_point, is_candidate}
-use Rattle.room_alloc.specs.Nearness.{nearness_cmp, whole}
 use Rattle.room_alloc.specs.declared.nearness.Candidate.{Candidate}
 use Rattle.room_alloc.specs.declared.nearness.Nearness.{Nearness}
 
@@ -33,9 +32,6 @@ abbrev pub is_marked : Bool → Candidate → Bool
 is_marked true c = c.breaks
 is_marked false c = not c.breaks
 
-abbrev pub nears : Bool → Incident → List Candidate → List Nearness
-nears b i xs = map (nearness_of i) (filter (is_marked b) xs)
-
 -- the ring is one that a search comes to, and the candidate no nearer than the ring's floor
 abbrev pub IsPlaced : Incident → Candidate → Type 0
 IsPlaced i c = (c.ring < 200) × (ring_floor c.ring ≤ distance c.vehicle.place i.place)
@@ -50,36 +46,36 @@ AreOfKind k xs = (c : Candidate) → Among c xs → c.vehicle.kind ≡ k
 abbrev pub AreApart : List Candidate → Type 0
 AreApart xs = IsKeyed callsign_cmp (λ (c : Candidate). c.vehicle.callsign) xs
 
+-- ---- the order of rings
+-- no candidate stands before one of a lesser ring
+abbrev pub IsByRing : List Candidate → Type 0
+IsByRing [] = Unit {0}
+IsByRing (x ∷ xs) = ((c : Candidate) → Among c xs → x.ring ≤ c.ring) × IsByRing xs
+
+-- ys are the candidates of xs in the order of their rings
+pub record AreByRing (xs ys : List Candidate) : Type 0 where
+  pub only : (c : Candidate) → Among c ys → Among c xs
+  pub there : (c : Candidate) → Among c xs → Among c ys
+  pub rising : IsByRing ys
+
 -- ---- a search
-abbrev pub in_ring : Bool → Incident → ℕ → Candidate → Option Nearness
-in_ring b i k c = cond (is_marked b c && c.ring == k) (Some (nearness_of i c)) None
-
--- the candidate's ring was come to
-abbrev pub is_seen : ℕ → Candidate → Bool
-is_seen k c = nat_lt c.ring (suc k)
-
--- each of xs put in its place
-abbrev pub ordered_from : List Nearness → List Nearness → List Nearness
-ordered_from q [] = q
-ordered_from q (x ∷ xs) = ordered_from (put_row nearness_cmp whole q x) xs
-
 -- what is there, is nearer than this
 abbrev pub is_below : Option Nearness → ℕ → Bool
 is_below None floor = false
 is_below (Some n) floor = nat_lt n.distance floor
 
--- the first n were found: the last of them is nearer than all later rings
+-- the first n were found: the last of them is nearer than this ring and all later ones
 abbrev pub is_enough : ℕ → ℕ → List Nearness → Bool
 is_enough zero k found = true
-is_enough (suc n) k found = is_below (first (drop n found)) (ring_floor (suc k))
+is_enough (suc n) k found = is_below (first (drop n found)) (ring_floor k)
 
--- the search ended at a ring before the candidate's
+-- the search ended before the candidate's ring, or at it
 pub record IsPast (n : ℕ) (found : List Nearness) (c : Candidate) : Type 0 where
   pub ring : ℕ
-  pub later : ring < c.ring
+  pub later : ring ≤ c.ring
   pub enough : is_enough n ring found ≡ true
 
--- what was found are candidates of the mark; each other one stands in a ring past the end
-pub record IsSearched (n : ℕ) (b : Bool) (i : Incident) (xs : List Candidate) (found : List Nearness) : Type 0 where
-  pub only : (y : Nearness) → Among y found → Among y (nears b i xs)
-  pub there : (c : Candidate) → Among c (filter (is_marked b) xs) → Among (nearness_of i c) found ⊎ IsPast n found c
+-- what was found are candidates; each other one stands past the end
+pub record IsSearched (n : ℕ) (i : Incident) (xs : List Candidate) (found : List Nearness) : Type 0 where
+  pub only : (y : Nearness) → Among y found → Among y (map (nearness_of i) xs)
+  pub there : (c : Candidate) → Among c xs → Among (nearness_of i c) found ⊎ IsPast n found c

@@ -1,14 +1,13 @@
 //! The nearest candidates, searched ring by ring of cells round the incident, so that the
 //! distances of those in later rings need not be known.
-ghost use Rattle.std.specs.Prelude.{◌≡◌, ◌<◌, ◌++◌, IfErr, IfOk, None, OnOk, filter, map, take};
-ghost use Rattle.std.specs.List.{filter_map, list_all};
+ghost use Rattle.std.specs.Prelude.{◌≡◌, ◌≤◌, IfErr, IfOk, None, filter, map, take};
 ghost use Rattle.room_place.specs.Choice.{AreFirst};
 ghost use Rattle.room_place.specs.Places.{IsInSquares};
 ghost use Rattle.room_types.specs.Keyed.{IsKeyed};
 ghost use Rattle.room_types.specs.declared.refusals.Refusal.TheVariants.{Memory};
 ghost use Rattle.room_model.specs.Proposals.{is_before};
 ghost use Rattle.room_alloc.specs.Nearness.{nearness_cmp, proposal_with, whole};
-ghost use Rattle.room_alloc.specs.Rings.{AreApart, AreOfKind, ArePlaced, IsPlaced, IsSearched, candidate_of, candidates_round, in_ring, is_enough, is_marked, is_seen, nearness_of, ordered_from, proposal_at};
+ghost use Rattle.room_alloc.specs.Rings.{AreApart, AreByRing, AreOfKind, ArePlaced, IsByRing, IsPlaced, IsSearched, candidate_of, candidates_round, is_enough, is_marked, nearness_of, proposal_at};
 
 use crate::candidates::{has_point, is_candidate};
 use crate::nearness::{Candidate, Nearness};
@@ -22,9 +21,6 @@ use room_types::rows::Rows;
 use room_types::slices::Slice;
 use room_types::tables::{Incident, Point, Vehicle};
 use std::alloc::{AllocError, Global};
-
-// The squares of the grid are 200 km wide, so no ring has a greater number than 199.
-const RINGS: u32 = 200;
 
 /// The division's eligible vehicles of a kind, in callsign order, each with its ring round the
 /// incident. The one refusal is `Memory`.
@@ -90,54 +86,39 @@ pub(crate) fn nearest(
     ensures ok { IfOk result (λ few. AreFirst is_before count None (map (proposal_at incident.now) (filter (is_marked breaks) candidates.now)) few) }
     ensures memory { IfErr result (λ refusal. refusal ≡ Memory) }
 {
-    let found = search(alloc, candidates, incident, breaks, count)?;
+    let by_ring = by_ring(alloc, candidates, breaks)?;
+    let found = search(alloc, by_ring.as_slice(), incident, count)?;
     let few = first_of(alloc, &found, kind, breaks, count)?;
     Ok(few)
 }
 
-// After each ring the search ends where all candidates were seen, or where enough were found and
-// the worst that is kept is nearer than any candidate of a later ring can be.
-fn search(
+// The candidates of a mark, in the order of their rings.
+fn by_ring(
     alloc: Global,
     candidates: &[Candidate],
-    incident: &Incident,
     breaks: bool,
-    count: usize,
-) -> Result<Rows<Nearness>, Refusal>
-    requires { ArePlaced incident.now candidates.now }
-    ensures ok { IfOk result (λ found. IsSearched count breaks incident.now candidates.now found) }
-    ensures memory { IfErr result (λ refusal. refusal ≡ Memory) }
+) -> Result<Vec<Candidate>, AllocError>
+    ensures { IfOk result (λ all. AreByRing (filter (is_marked breaks) candidates.now) all.items) }
 {
-    let mut found = Rows::new(alloc);
-    for ring in 0..RINGS {
-        add_ring(&mut found, candidates, incident, breaks, ring)?;
-        if are_seen(candidates, ring) {
-            return Ok(found);
-        }
-        if is_enough(&found, count, ring) {
-            return Ok(found);
-        }
-    }
-    Ok(found)
+    let mut all = marked(alloc, candidates, breaks)?;
+    all.sort_unstable_by_key(|candidate| candidate.ring);
+    Ok(all)
 }
 
-// Puts the candidates of a ring in their places.
-fn add_ring(
-    found: &mut Rows<Nearness>,
+fn marked(
+    alloc: Global,
     candidates: &[Candidate],
-    incident: &Incident,
     breaks: bool,
-    ring: u32,
-) -> Result<(), Refusal>
-    ensures ok { OnOk result (found.new ≡ ordered_from found.old (filter_map (in_ring breaks incident.now ring) candidates.now)) }
-    ensures memory { IfErr result (λ refusal. refusal ≡ Memory) }
+) -> Result<Vec<Candidate>, AllocError>
+    ensures { IfOk result (λ marked. marked.items ≡ filter (is_marked breaks) candidates.now) }
 {
+    let mut marked = Vec::new(alloc);
     for candidate in candidates {
-        if is_marked(candidate, breaks) && candidate.ring == ring {
-            found.put(nearness_of(candidate, incident))?;
+        if is_marked(candidate, breaks) {
+            marked.push(*candidate)?;
         }
     }
-    Ok(())
+    Ok(marked)
 }
 
 fn is_marked(candidate: &Candidate, breaks: bool) -> bool
@@ -150,6 +131,29 @@ fn is_marked(candidate: &Candidate, breaks: bool) -> bool
     }
 }
 
+// Goes from ring to ring. The search ends where all candidates were seen, or where enough were
+// found and the worst that is kept is nearer than any of the rings that are left can be.
+fn search(
+    alloc: Global,
+    candidates: &[Candidate],
+    incident: &Incident,
+    count: usize,
+) -> Result<Rows<Nearness>, Refusal>
+    requires placed { ArePlaced incident.now candidates.now }
+    requires rising { IsByRing candidates.now }
+    ensures ok { IfOk result (λ found. IsSearched count incident.now candidates.now found) }
+    ensures memory { IfErr result (λ refusal. refusal ≡ Memory) }
+{
+    let mut found = Rows::new(alloc);
+    for candidate in candidates {
+        if is_enough(&found, count, candidate.ring) {
+            return Ok(found);
+        }
+        found.put(nearness_of(candidate, incident))?;
+    }
+    Ok(found)
+}
+
 fn nearness_of(candidate: &Candidate, incident: &Incident) -> Nearness
     ensures { result ≡ nearness_of incident.now candidate.now }
 {
@@ -159,24 +163,17 @@ fn nearness_of(candidate: &Candidate, incident: &Incident) -> Nearness
     }
 }
 
-fn are_seen(candidates: &[Candidate], ring: u32) -> bool
-    requires { ring < RINGS }
-    ensures { result ≡ list_all (is_seen ring) candidates.now }
-{
-    candidates.iter().all(|candidate| candidate.ring <= ring)
-}
-
-// Whether no candidate of a later ring can be among the first: one as far away as the worst could
-// stand before it by its callsign, so the worst has to be nearer than the next ring's floor.
+// Whether no candidate of this ring or a later one can be among the first: one as far away as the
+// worst could stand before it by its callsign, so the worst has to be nearer than the ring's floor.
 fn is_enough(found: &Rows<Nearness>, count: usize, ring: u32) -> bool
-    requires { ring < RINGS }
+    requires { ring ≤ 200 }
     ensures { result ≡ is_enough count ring found.now }
 {
     if count == 0 {
         return true;
     }
     match found.as_slice().get(count - 1) {
-        Some(worst) => worst.distance < ring_floor(ring + 1),
+        Some(worst) => worst.distance < ring_floor(ring),
         None => false,
     }
 }

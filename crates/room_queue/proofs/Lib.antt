@@ -1,3 +1,4 @@
 pub mod QueueAnswers
 pub mod SeenLaws
+pub mod ServedLaws
 pub mod SortLaws

@@ -17,10 +17,13 @@ use Rattle.room_types.specs.declared.tables.Turn.{Turn}
 use Rattle.room_types.specs.declared.tables.Vehicle.{Vehicle}
 use Rattle.room_model.proofs.SliceLookUps.{open_turn_is}
 use Rattle.room_model.proofs.Tests.{filter_map_among, left_true, right_true, row_among}
-use Rattle.room_model.specs.Queries.{holders, incident_of, open_turn, point_of, served}
+use Rattle.room_model.specs.Queries.{holders, incident_of, open_turn, point_of}
 use Rattle.room_model.specs.Queue.{entries, slow, slow_turn, uncovered, unread, unread_turn}
 use Rattle.room_model.specs.Slices.{room_of}
-use Rattle.room_queue.specs.Seen.{room, seen, turn_ahead, uncovered_seen}
+use Rattle.room_queue.specs.Seen.{seen, turn_ahead, uncovered_seen}
+use Rattle.room_queue.specs.Served.{AreServed}
+use Rattle.room_queue.specs.declared.served.Served.{Served}
+use Rattle.room_queue.proofs.ServedLaws.{unserved_is}
 
 -- what makes nothing of no turn may look at the turn's guard first
 guarded : (f : Option Turn → Option Entry) → f None ≡ None → (b : Bool) (o : Option Turn) → f (cond b o None) ≡ cond b (f o) None
@@ -51,6 +54,6 @@ module _ (d at : ℕ) (plan : List Area) (s : DivisionRows) (agrees : is_share d
       let there : row_at pair_cmp point_key s.points (d, p.number) ≡ Some p = subst (λ k. row_at pair_cmp point_key s.points (k, p.number) ≡ Some p) owned (row_among pair_cmp point_key pairs_total s.points p points a) in
       rw there refl
 
-  pub seen_all : seen d at s ≡ entries d at (room_of plan s)
-  unfolding entries holders incident_of served
-  seen_all = rw (filter_map_among _ _ s.vehicles unread_is) (rw (filter_map_among _ _ s.vehicles slow_is) (rw (filter_map_among _ _ s.points uncovered_is) (simp append_assoc refl)))
+  pub seen_all : (served : List Served) → AreServed d s.turns served → seen d at served s ≡ entries d at (room_of plan s)
+  unfolding entries holders incident_of
+  seen_all served h = rw (filter_map_among _ _ s.incidents (λ i a. unserved_is d at (room_of plan s) served i h)) (rw (filter_map_among _ _ s.vehicles unread_is) (rw (filter_map_among _ _ s.vehicles slow_is) (rw (filter_map_among _ _ s.points uncovered_is) (simp append_assoc refl))))

@@ -1,17 +1,16 @@
 //! What makes an entry of the queue, a function a rank.
 ghost use Rattle.std.specs.Prelude.{◌≡◌, ◌==◌, option_copied, if◌then◌else◌};
 ghost use Rattle.room_model.specs.Moments.{age, scene_limit};
-ghost use Rattle.room_model.specs.Queue.{exception, is_unserved, overdue, shift_over, slow_turn, unanswered, unread_turn, unserved};
-ghost use Rattle.room_queue.specs.Seen.{room, turn_ahead, uncovered_seen};
+ghost use Rattle.room_model.specs.Queue.{exception, overdue, shift_over, slow_turn, unanswered, unread_turn};
+ghost use Rattle.room_queue.specs.Seen.{room, turn_ahead, uncovered_seen, unserved_seen};
 
 use crate::exceptions::is_exception;
+use crate::served::Served;
 use room_alloc::standby::cover;
-use room_incident::served::served;
 use room_place::plans::DivisionNumber;
 use room_types::answers::Entry;
-use room_types::codes::Kind;
-use room_types::numbers::{Class, Moment, Number};
-use room_types::rows::Row;
+use room_types::numbers::{Class, Moment};
+use room_types::rows::{Row, Rows};
 use room_types::slices::Slice;
 use room_types::tables::{Incident, Loan, Offer, Point, Report, Turn, Vehicle};
 
@@ -24,28 +23,24 @@ const UNREAD_AFTER: u32 = 60;
 const UNANSWERED_AFTER: u32 = 300;
 
 /// 1: an active incident that nobody serves.
-pub fn unserved(slice: &Slice, incident: &Incident, at: Moment) -> Option<Entry>
-    ensures { result ≡ unserved slice.now.division at (room slice.now.rows) incident.now }
+pub fn unserved(
+    slice: &Slice,
+    served: &Rows<Served>,
+    incident: &Incident,
+    at: Moment,
+) -> Option<Entry>
+    ensures { result ≡ unserved_seen slice.now.division at served.now incident.now }
 {
     let needs_eye = incident.owned_by(slice.division)
         && incident.state.is_active()
         && age(at, incident.opened) > UNSERVED_AFTER
-        && is_unserved(slice, incident.number);
+        && served.get(&incident.number).is_none();
     needs_eye.then_some(Entry {
         rank: 1,
         since: incident.opened,
         number: incident.number.get(),
         callsign: None,
     })
-}
-
-fn is_unserved(slice: &Slice, incident: Number) -> bool
-    ensures { result ≡ is_unserved slice.now.division incident (room slice.now.rows) }
-{
-    let turns = &slice.rows.turns;
-    served(turns, slice.division, incident, Kind::Ambulance) == 0
-        && served(turns, slice.division, incident, Kind::Car) == 0
-        && served(turns, slice.division, incident, Kind::Support) == 0
 }
 
 /// 2: a mobilised vehicle whose crew has not read its order.

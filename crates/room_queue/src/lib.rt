@@ -4,3 +4,4 @@
 mod entries;
 pub mod exceptions;
 pub mod queues;
+mod served;

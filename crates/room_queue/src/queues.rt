@@ -6,11 +6,14 @@ ghost use Rattle.room_types.specs.declared.refusals.Refusal.TheVariants.{Memory}
 ghost use Rattle.room_model.specs.Decisions.{show};
 ghost use Rattle.room_model.specs.Queue.{IsQueueOf, entries, show_queue};
 ghost use Rattle.room_model.specs.Slices.{room_of};
+ghost use Rattle.room_queue.specs.Served.{AreServed};
 
 use crate::entries;
+use crate::served::{Served, gather};
 use room_types::answers::{Entry, Listed};
 use room_types::numbers::Moment;
 use room_types::refusals::Refusal;
+use room_types::rows::Rows;
 use room_types::slices::Slice;
 use std::alloc::{AllocError, Global};
 
@@ -22,13 +25,20 @@ pub fn queue(alloc: Global, slice: &Slice, at: Moment) -> Result<Listed<Entry>, 
     ensures entries { IfOk result (λ queue. (plan : List Area) → IsQueueOf (entries slice.now.division at (room_of plan slice.now.rows)) queue) }
     ensures memory { IfErr result (λ refusal. refusal ≡ Memory) }
 {
-    let mut entries = seen(alloc, slice, at)?;
+    let served = gather(alloc, &slice.rows.turns, slice.division)?;
+    let mut entries = seen(alloc, slice, &served, at)?;
     sort(&mut entries);
     listed(alloc, &entries)
 }
 
 // The entries rank by rank, in one walk each.
-fn seen(alloc: Global, slice: &Slice, at: Moment) -> Result<Vec<Entry>, AllocError>
+fn seen(
+    alloc: Global,
+    slice: &Slice,
+    served: &Rows<Served>,
+    at: Moment,
+) -> Result<Vec<Entry>, AllocError>
+    requires { AreServed slice.now.division slice.now.rows.turns served.now }
     ensures { IfOk result (λ seen. (plan : List Area) → seen.items ≡ entries slice.now.division at (room_of plan slice.now.rows)) }
 {
     let rows = &slice.rows;
@@ -40,7 +50,7 @@ fn seen(alloc: Global, slice: &Slice, at: Moment) -> Result<Vec<Entry>, AllocErr
     let loans = rows.loans.iter();
     let points = rows.points.as_slice();
     let offers = rows.offers.iter();
-    let unserved = incidents.filter_map(|incident| entries::unserved(slice, incident, at));
+    let unserved = incidents.filter_map(|incident| entries::unserved(slice, served, incident, at));
     let unread = vehicles
         .iter()
         .filter_map(|vehicle| entries::unread(slice, vehicle, at));

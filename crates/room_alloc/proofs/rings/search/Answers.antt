@@ -1,43 +1,37 @@
-use Rattle.std.proofs.Common.{arith, inl, inr, sym, ◌+◌, ◌∙◌}
-use Rattle.std.proofs.lemmas.Bool.{cases_lt}
-use Rattle.room_model.proofs.Tests.{among_filter}
-use Rattle.room_alloc.specs.Rings.{is_marked}
-use Rattle.room_alloc.proofs.RingLaws.{more_only, more_there, seen}
+use Rattle.std.proofs.Common.{ap, arith, inl, inr, subst, sym, take_all, ◌∙◌}
+use Rattle.room_place.specs.Choice.{Among}
+use Rattle.room_types.specs.Keyed.{put_row}
+use Rattle.room_alloc.specs.Nearness.{nearness_cmp, whole}
+use Rattle.room_alloc.proofs.RingLaws.{among_item, more_only, more_there, seen_or_later}
 use Rattle.room_alloc.proofs.rings.search.Goals as goal
 
-pub loop-ring-preserved : goal.loop-ring-preserved
-loop-ring-preserved c =
-    let k = c.loop-ring.ring in
-    let added = c.in_ok-add_ring.ensures.ok in
-    record {
-      only = more_only c.args.breaks c.args.incident.now k c.args.candidates.now c.loop-ring.found _ added c.loop-ring.invariant.only;
-      there = more_there c.args.breaks c.args.incident.now k c.args.candidates.now c.loop-ring.found _ added c.loop-ring.invariant.there;
-    }
+pub is_enough-requires : goal.is_enough-requires
+is_enough-requires c =
+    let placed = (c.requires.placed _ (among_item _ c.loop-candidate.candidate-index _ c.loop-candidate-test.true c.candidate-item.is)).0 in
+    omega (arith, placed)
 
-pub returns-then-are_seen-clause-ok : goal.returns-then-are_seen-clause-ok
-returns-then-are_seen-clause-ok c =
-    let k = c.loop-ring.ring in
-    let added = c.in_ok-add_ring.ensures.ok in
+pub loop-candidate-preserved : goal.loop-candidate-preserved
+loop-candidate-preserved c =
+    let i = c.args.incident.now in
+    let xs = c.args.candidates.now in
+    let k = c.loop-candidate.candidate-index in
+    let put = c.in_ok-put.ensures.ok ∙ ap (put_row nearness_cmp whole c.loop-candidate.found) c.nearness_of.ensures in
     record {
-      only = more_only c.args.breaks c.args.incident.now k c.args.candidates.now c.loop-ring.found _ added c.loop-ring.invariant.only;
-      there = λ x h. inl (more_there c.args.breaks c.args.incident.now k c.args.candidates.now c.loop-ring.found _ added c.loop-ring.invariant.there x h
-          (seen k c.args.candidates.now (sym c.are_seen.ensures ∙ c.if-are_seen.true) x (among_filter (is_marked c.args.breaks) c.args.candidates.now x h).0));
+      only = more_only i xs k _ c.loop-candidate-test.true c.candidate-item.is c.loop-candidate.found _ put c.loop-candidate.invariant.only;
+      there = more_there i xs k _ c.loop-candidate-test.true c.candidate-item.is c.loop-candidate.found _ put c.loop-candidate.invariant.there;
     }
 
 pub returns-then-is_enough-clause-ok : goal.returns-then-is_enough-clause-ok
-returns-then-is_enough-clause-ok c =
-    let k = c.loop-ring.ring in
-    let added = c.in_ok-add_ring.ensures.ok in
-    record {
-      only = more_only c.args.breaks c.args.incident.now k c.args.candidates.now c.loop-ring.found _ added c.loop-ring.invariant.only;
-      there = λ x h. elim (cases_lt x.ring (k + 1)) [
-        | inl e ↦ inl (more_there c.args.breaks c.args.incident.now k c.args.candidates.now c.loop-ring.found _ added c.loop-ring.invariant.there x h e)
-        | inr e ↦ inr (record { ring = k; later = omega arith; enough = sym c.is_enough.ensures ∙ c.if-is_enough.true })
-      ];
-    }
+returns-then-is_enough-clause-ok c = record {
+  only = c.loop-candidate.invariant.only;
+  there = λ x a. elim (seen_or_later c.args.candidates.now c.loop-candidate.candidate-index _ x c.requires.rising c.loop-candidate-test.true c.candidate-item.is a) [
+    | inl t ↦ inl (c.loop-candidate.invariant.there x t)
+    | inr le ↦ inr (record { ring = _; later = le; enough = sym c.is_enough.ensures ∙ c.if-is_enough.true })
+  ];
+}
 
 pub returns-clause-ok : goal.returns-clause-ok
 returns-clause-ok c = record {
-  only = c.loop-ring.invariant.only;
-  there = λ x h. inl (c.loop-ring.invariant.there x h (let placed = (c.requires x (among_filter (is_marked c.args.breaks) c.args.candidates.now x h).0).0 in omega (arith, placed, c.loop-ring-test.false)));
+  only = c.loop-candidate.invariant.only;
+  there = λ x a. inl (c.loop-candidate.invariant.there x (subst (Among x) (sym (take_all c.loop-candidate.candidate-index c.args.candidates.now c.loop-candidate-test.false)) a));
 }
