@@ -8,8 +8,6 @@ pub mod areas;
 pub mod assignments;
 pub mod calls;
 pub mod divisions;
-#[cfg(test)]
-mod in_memory;
 pub mod incidents;
 pub mod laws;
 pub mod loans;

@@ -6,29 +6,29 @@ ghost use Rattle.sqlite.specs.Held.{state};
 ghost use Rattle.sqlite.specs.State.{HasCleanDisk};
 ghost use Rattle.room_schema.specs.Schema.{no_schema, room_schema};
 
-use crate::areas::{all_areas, put_area};
-use crate::assignments::{
-    all_assignments, assignment_at, assignments_of, drop_assignment, put_assignment,
-};
-use crate::calls::{all_calls, call_at, calls_of, put_call};
-use crate::divisions::{all_divisions, division_at, put_division};
-use crate::incidents::{
-    active_incidents, all_incidents, incident_at, incidents_opened, put_incident,
-};
-use crate::loans::{all_loans, drop_loan, loan_at, loans_of, put_loan};
-use crate::meta::{put_meta, zone};
-use crate::numbering::are_numbered;
-use crate::offers::{all_offers, drop_offer, offer_at, offers_of, put_offer};
-use crate::points::{all_points, points_of, put_point};
-use crate::reports::{all_reports, put_report, report_at, uncleared_reports};
-use crate::terminals::{all_terminals, crew_terminals, put_terminal, terminal_at};
-use crate::turns::{all_turns, put_turn, turn_at, turns_of};
-use crate::vehicles::{all_vehicles, put_vehicle, settle, vehicle_at, vehicles_held};
 use room_place::places::Place;
 use room_place::plans::{Area, DivisionNumber, Rect};
 use room_schema::faults::Fault;
 use room_schema::making::make;
 use room_schema::testing::{is_empty, is_room};
+use room_tables::areas::{all_areas, put_area};
+use room_tables::assignments::{
+    all_assignments, assignment_at, assignments_of, drop_assignment, put_assignment,
+};
+use room_tables::calls::{all_calls, call_at, calls_of, put_call};
+use room_tables::divisions::{all_divisions, division_at, put_division};
+use room_tables::incidents::{
+    active_incidents, all_incidents, incident_at, incidents_opened, put_incident,
+};
+use room_tables::loans::{all_loans, drop_loan, loan_at, loans_of, put_loan};
+use room_tables::meta::{put_meta, zone};
+use room_tables::numbering::are_numbered;
+use room_tables::offers::{all_offers, drop_offer, offer_at, offers_of, put_offer};
+use room_tables::points::{all_points, points_of, put_point};
+use room_tables::reports::{all_reports, put_report, report_at, uncleared_reports};
+use room_tables::terminals::{all_terminals, crew_terminals, put_terminal, terminal_at};
+use room_tables::turns::{all_turns, put_turn, turn_at, turns_of};
+use room_tables::vehicles::{all_vehicles, put_vehicle, settle, vehicle_at, vehicles_held};
 use room_types::asks::Who;
 use room_types::callsign::Callsign;
 use room_types::changes::Change;
@@ -39,6 +39,7 @@ use room_types::note::Note;
 use room_types::numbers::{
     Class, Cover, LastNumber, Moment, Need, Number, PointNumber, PositionNumber,
 };
+use room_types::rows::{Row, Rows};
 use room_types::tables::{
     Assignment, Call, Division, Incident, Loan, Offer, Point, Report, Turn, Vehicle,
 };
@@ -46,6 +47,34 @@ use room_types::token::Token;
 use sqlite::{Alter, Connection, MemStore, Transaction};
 use std::process::Abort;
 use std::test::Fail;
+
+// A table of a room.
+#[derive(Clone, Copy, Debug, PartialEq, Eq)]
+enum Table {
+    Meta,
+    Areas,
+    Terminals,
+    Divisions,
+    Incidents,
+    Calls,
+    Vehicles,
+    Turns,
+    Assignments,
+    Points,
+    Loans,
+    Offers,
+    Reports,
+}
+
+const AREA: Area = Area {
+    division: 1,
+    rect: Rect {
+        west: 500_000,
+        south: 100_000,
+        east: 549_999,
+        north: 199_999,
+    },
+};
 
 // Asserts that the connection is of a room, and outside a transaction.
 fn ready<S: Alter>(rt: &impl Abort, conn: &Connection<S>)
@@ -86,6 +115,19 @@ fn change<S: Alter>(conn: &mut Connection<S>, change: &Change) -> Result<(), Fau
     Ok(())
 }
 
+// Changes one after another.
+fn change_all<S: Alter>(
+    rt: &impl Abort,
+    conn: &mut Connection<S>,
+    changes: &[Change],
+) -> Result<(), Fault> {
+    for one in changes {
+        ready(rt, conn);
+        change(conn, one)?;
+    }
+    Ok(())
+}
+
 fn write<S: Alter>(tx: &mut Transaction<'_, S>, change: &Change) -> Result<(), Fault>
     requires schema { HasCleanDisk (state S.Store tx.old.conn.now) → (state S.Store tx.old.conn.now).now.schema ≡ room_schema }
     requires inside { HasCleanDisk (state S.Store tx.old.conn.now) → IsTrue (state S.Store tx.old.conn.now).in_transaction }
@@ -109,103 +151,143 @@ fn write<S: Alter>(tx: &mut Transaction<'_, S>, change: &Change) -> Result<(), F
 }
 
 // The zone, an area or a terminal, in a transaction of its own.
-fn furnish<S: Alter>(conn: &mut Connection<S>, table: &str, keys: &Keys) -> Result<(), Fault>
-    requires schema { HasCleanDisk (state S.Store conn.old) → (state S.Store conn.old).now.schema ≡ room_schema }
-    requires outside { conn.old.in_transaction ≡ false }
+fn furnish<S: Alter>(
+    rt: &impl Abort,
+    conn: &mut Connection<S>,
+    table: Table,
+    keys: &Keys,
+) -> Result<(), Fault> {
+    ready(rt, conn);
+    let mut tx = conn.transaction();
+    put(&mut tx, table, keys)?;
+    tx.commit()?;
+    Ok(())
+}
+
+fn put<S: Alter>(tx: &mut Transaction<'_, S>, table: Table, keys: &Keys) -> Result<(), Fault>
+    requires schema { HasCleanDisk (state S.Store tx.old.conn.now) → (state S.Store tx.old.conn.now).now.schema ≡ room_schema }
+    requires inside { HasCleanDisk (state S.Store tx.old.conn.now) → IsTrue (state S.Store tx.old.conn.now).in_transaction }
 {
-    let area = Area {
-        division: 1,
-        rect: Rect {
-            west: 500_000,
-            south: 100_000,
-            east: 549_999,
-            north: 199_999,
-        },
-    };
     let terminal = Terminal {
         token: keys.token,
         who: Who::Crew(keys.callsign),
     };
-    let mut tx = conn.transaction();
     match table {
-        "areas" => put_area(&mut tx, 1, &area)?,
-        "terminals" => put_terminal(&mut tx, &terminal)?,
-        _ => put_meta(&mut tx, "GMT0")?,
+        Table::Areas => put_area(tx, 1, &AREA),
+        Table::Terminals => put_terminal(tx, &terminal),
+        _ => put_meta(tx, "GMT0"),
     }
-    tx.commit()?;
-    Ok(())
 }
 
 // How many rows a table has; of `meta`, the bytes of its zone.
 fn count<S: Alter>(
     rt: &(impl Abort + AllocGlobal),
     conn: &mut Connection<S>,
-    table: &str,
+    table: Table,
 ) -> Result<usize, Fault> {
     let alloc = rt.alloc();
     ready(rt, conn);
-    Ok(match table {
-        "divisions" => all_divisions(alloc, conn)?.len(),
-        "incidents" => all_incidents(alloc, conn)?.len(),
-        "calls" => all_calls(alloc, conn)?.len(),
-        "vehicles" => all_vehicles(alloc, conn)?.len(),
-        "turns" => all_turns(alloc, conn)?.len(),
-        "assignments" => all_assignments(alloc, conn)?.len(),
-        "points" => all_points(alloc, conn)?.len(),
-        "loans" => all_loans(alloc, conn)?.len(),
-        "offers" => all_offers(alloc, conn)?.len(),
-        "reports" => all_reports(alloc, conn)?.len(),
-        "areas" => all_areas(alloc, conn)?.len(),
-        "terminals" => all_terminals(alloc, conn)?.len(),
-        _ => zone(alloc, conn)?.len(),
-    })
+    match table {
+        Table::Divisions => length(all_divisions(alloc, conn)),
+        Table::Incidents => length(all_incidents(alloc, conn)),
+        Table::Calls => length(all_calls(alloc, conn)),
+        Table::Vehicles => length(all_vehicles(alloc, conn)),
+        Table::Turns => length(all_turns(alloc, conn)),
+        Table::Assignments => length(all_assignments(alloc, conn)),
+        Table::Points => length(all_points(alloc, conn)),
+        Table::Loans => length(all_loans(alloc, conn)),
+        Table::Offers => length(all_offers(alloc, conn)),
+        Table::Reports => length(all_reports(alloc, conn)),
+        Table::Areas => listed(all_areas(alloc, conn)),
+        Table::Terminals => listed(all_terminals(alloc, conn)),
+        Table::Meta => match zone(alloc, conn) {
+            Ok(zone) => Ok(zone.len()),
+            Err(fault) => Err(fault),
+        },
+    }
 }
 
-// Whether a row is found by its key.
-fn is_found<S: Alter>(
+// How many rows are found by the key of one.
+fn found<S: Alter>(
     rt: &impl Abort,
     conn: &mut Connection<S>,
-    table: &str,
+    table: Table,
     keys: &Keys,
-) -> Result<bool, Fault> {
+) -> Result<usize, Fault> {
     ready(rt, conn);
-    Ok(match table {
-        "divisions" => division_at(conn, keys.division)?.is_some(),
-        "incidents" => incident_at(conn, keys.division, keys.number)?.is_some(),
-        "calls" => call_at(conn, keys.position, keys.number)?.is_some(),
-        "vehicles" => vehicle_at(conn, &keys.callsign)?.is_some(),
-        "turns" => turn_at(conn, &keys.callsign, keys.number)?.is_some(),
-        "assignments" => assignment_at(conn, &keys.callsign)?.is_some(),
-        "loans" => loan_at(conn, &keys.callsign)?.is_some(),
-        "offers" => offer_at(conn, &keys.callsign)?.is_some(),
-        "reports" => report_at(conn, &keys.callsign, keys.number)?.is_some(),
-        _ => terminal_at(conn, &keys.token)?.is_some(),
-    })
+    match table {
+        Table::Divisions => one(division_at(conn, keys.division)),
+        Table::Incidents => one(incident_at(conn, keys.division, keys.number)),
+        Table::Calls => one(call_at(conn, keys.position, keys.number)),
+        Table::Vehicles => one(vehicle_at(conn, &keys.callsign)),
+        Table::Turns => one(turn_at(conn, &keys.callsign, keys.number)),
+        Table::Assignments => one(assignment_at(conn, &keys.callsign)),
+        Table::Loans => one(loan_at(conn, &keys.callsign)),
+        Table::Offers => one(offer_at(conn, &keys.callsign)),
+        Table::Reports => one(report_at(conn, &keys.callsign, keys.number)),
+        Table::Terminals => one(terminal_at(conn, &keys.token)),
+        Table::Points | Table::Areas | Table::Meta => Ok(0),
+    }
 }
 
 // How many rows are selected for division 1 and incident 1.
 fn selected<S: Alter>(
     rt: &(impl Abort + AllocGlobal),
     conn: &mut Connection<S>,
-    table: &str,
+    table: Table,
     keys: &Keys,
 ) -> Result<usize, Fault> {
-    let alloc = rt.alloc();
-    let division = keys.division;
+    let (alloc, division) = (rt.alloc(), keys.division);
     ready(rt, conn);
-    Ok(match table {
-        "incidents" => active_incidents(alloc, conn, division)?.len(),
-        "opened" => incidents_opened(alloc, conn, 1000, 1001, division)?.len(),
-        "calls" => calls_of(alloc, conn, division, keys.number)?.len(),
-        "vehicles" => vehicles_held(alloc, conn, division)?.len(),
-        "turns" => turns_of(alloc, conn, division, keys.number)?.len(),
-        "assignments" => assignments_of(alloc, conn, division)?.len(),
-        "points" => points_of(alloc, conn, division)?.len(),
-        "loans" => loans_of(alloc, conn, division)?.len(),
-        "offers" => offers_of(alloc, conn, division)?.len(),
-        "reports" => uncleared_reports(alloc, conn, Outcome::Skipped, division)?.len(),
-        _ => crew_terminals(alloc, conn, &keys.callsign)?.len(),
-    })
+    match table {
+        Table::Incidents => length(active_incidents(alloc, conn, division)),
+        Table::Calls => length(calls_of(alloc, conn, division, keys.number)),
+        Table::Vehicles => length(vehicles_held(alloc, conn, division)),
+        Table::Turns => length(turns_of(alloc, conn, division, keys.number)),
+        Table::Assignments => length(assignments_of(alloc, conn, division)),
+        Table::Points => length(points_of(alloc, conn, division)),
+        Table::Loans => length(loans_of(alloc, conn, division)),
+        Table::Offers => length(offers_of(alloc, conn, division)),
+        Table::Reports => length(uncleared_reports(alloc, conn, Outcome::Skipped, division)),
+        Table::Terminals => listed(crew_terminals(alloc, conn, &keys.callsign)),
+        Table::Divisions | Table::Areas | Table::Meta => Ok(0),
+    }
+}
+
+// How many incidents of division 1 were opened at 1000.
+fn opened<S: Alter>(
+    rt: &(impl Abort + AllocGlobal),
+    conn: &mut Connection<S>,
+    keys: &Keys,
+) -> Result<usize, Fault> {
+    ready(rt, conn);
+    length(incidents_opened(rt.alloc(), conn, 1000, 1001, keys.division))
+}
+
+// How many active incidents are read of a division.
+fn active<S: Alter>(
+    rt: &(impl Abort + AllocGlobal),
+    conn: &mut Connection<S>,
+    division: DivisionNumber,
+) -> Result<usize, Fault> {
+    ready(rt, conn);
+    length(active_incidents(rt.alloc(), conn, division))
+}
+
+fn length<R: Row>(rows: Result<Rows<R>, Fault>) -> Result<usize, Fault> {
+    Ok(rows?.len())
+}
+
+fn listed<T: Copy>(rows: Result<Vec<T>, Fault>) -> Result<usize, Fault> {
+    Ok(rows?.len())
+}
+
+fn one<R: Copy>(row: Result<Option<R>, Fault>) -> Result<usize, Fault> {
+    match row {
+        Ok(Some(_)) => Ok(1),
+        Ok(None) => Ok(0),
+        Err(fault) => Err(fault),
+    }
 }
 
 // The vehicle that is found after it was settled.
@@ -261,6 +343,33 @@ fn vehicle(keys: &Keys) -> Option<Vehicle> {
         last_order: last,
         last_report: last,
     })
+}
+
+fn rows(keys: &Keys) -> Option<[Change; 10]> {
+    let [division, incident, call, point] = incident_rows(keys)?;
+    let [vehicle, turn, assignment, loan, offer, report] = vehicle_rows(keys)?;
+    Some([
+        division, incident, call, point, vehicle, turn, assignment, loan, offer, report,
+    ])
+}
+
+fn drops(keys: &Keys) -> [Change; 3] {
+    [
+        Change::DropAssignment(keys.callsign),
+        Change::DropLoan(keys.callsign),
+        Change::DropOffer(keys.callsign),
+    ]
+}
+
+fn divisions_out_of_order() -> Option<[Change; 3]> {
+    Some([new_division(3)?, new_division(1)?, new_division(2)?])
+}
+
+fn new_division(number: u32) -> Option<Change> {
+    Some(Change::PutDivision(Division {
+        number: DivisionNumber::new(number)?,
+        last_incident: LastNumber::new(0)?,
+    }))
 }
 
 fn vehicle_rows(keys: &Keys) -> Option<[Change; 6]> {
@@ -377,50 +486,38 @@ fn rows_are_put_found_and_dropped(rt: HostRuntime) -> Result<(), Fail> {
     let mut conn = made(&rt)?;
     // each row twice: the second put takes the place of the first
     for _ in 0..2 {
-        for row in &incident_rows(&keys).ok_or("rows")? {
-            ready(&rt, &conn);
-            change(&mut conn, row)?;
-        }
-        for row in &vehicle_rows(&keys).ok_or("rows")? {
-            ready(&rt, &conn);
-            change(&mut conn, row)?;
-        }
-        ready(&rt, &conn);
-        furnish(&mut conn, "terminals", &keys)?;
+        change_all(&rt, &mut conn, &rows(&keys).ok_or("rows")?)?;
+        furnish(&rt, &mut conn, Table::Terminals, &keys)?;
     }
-    for table in [
-        "divisions",
-        "incidents",
-        "calls",
-        "vehicles",
-        "turns",
-        "assignments",
-        "points",
-        "loans",
-        "offers",
-        "reports",
-        "terminals",
+    for (table, by_key, by_index) in [
+        (Table::Divisions, 1, 0),
+        (Table::Incidents, 1, 1),
+        (Table::Calls, 1, 1),
+        (Table::Vehicles, 1, 1),
+        (Table::Turns, 1, 1),
+        (Table::Assignments, 1, 1),
+        (Table::Points, 0, 1),
+        (Table::Loans, 1, 1),
+        (Table::Offers, 1, 1),
+        (Table::Reports, 1, 1),
+        (Table::Terminals, 1, 1),
     ] {
-        assert_eq!(rt; count(&rt, &mut conn, table)?, 1);
-        if table != "points" {
-            assert!(rt; is_found(&rt, &mut conn, table, &keys)?);
-        }
-        if table != "divisions" {
-            assert_eq!(rt; selected(&rt, &mut conn, table, &keys)?, 1);
-        }
+        assert_eq!(rt; count(&rt, &mut conn, table), Ok(1), "{table:?}");
+        assert_eq!(rt;
+            found(&rt, &mut conn, table, &keys),
+            Ok(by_key),
+            "{table:?}"
+        );
+        assert_eq!(rt;
+            selected(&rt, &mut conn, table, &keys),
+            Ok(by_index),
+            "{table:?}"
+        );
     }
-    assert_eq!(rt; selected(&rt, &mut conn, "opened", &keys)?, 1);
-    let callsign = keys.callsign;
-    for drop in [
-        Change::DropAssignment(callsign),
-        Change::DropLoan(callsign),
-        Change::DropOffer(callsign),
-    ] {
-        ready(&rt, &conn);
-        change(&mut conn, &drop)?;
-    }
-    for table in ["assignments", "loans", "offers"] {
-        assert_eq!(rt; count(&rt, &mut conn, table)?, 0);
+    assert_eq!(rt; opened(&rt, &mut conn, &keys), Ok(1));
+    change_all(&rt, &mut conn, &drops(&keys))?;
+    for table in [Table::Assignments, Table::Loans, Table::Offers] {
+        assert_eq!(rt; count(&rt, &mut conn, table), Ok(0), "{table:?}");
     }
     Ok(())
 }
@@ -431,8 +528,7 @@ fn a_vehicle_is_settled(rt: HostRuntime) -> Result<(), Fail> {
     let mobilised = vehicle(&keys).ok_or("a vehicle")?;
     let holder = DivisionNumber::new(2).ok_or("a holder")?;
     let mut conn = made(&rt)?;
-    ready(&rt, &conn);
-    change(&mut conn, &Change::PutVehicle(mobilised))?;
+    change_all(&rt, &mut conn, &[Change::PutVehicle(mobilised)])?;
     let found = settled(&rt, &mut conn, &keys.callsign, holder)?.ok_or("none is found")?;
     assert_eq!(rt; found.holder, holder);
     assert_eq!(rt; found.status, Status::Available);
@@ -445,7 +541,7 @@ fn a_vehicle_that_is_not_there_is_not_settled(rt: HostRuntime) -> Result<(), Fai
     let keys = of_a1().ok_or("keys")?;
     let mut conn = made(&rt)?;
     assert!(rt; settled(&rt, &mut conn, &keys.callsign, keys.division)?.is_none());
-    assert_eq!(rt; count(&rt, &mut conn, "vehicles")?, 0);
+    assert_eq!(rt; count(&rt, &mut conn, Table::Vehicles), Ok(0));
     Ok(())
 }
 
@@ -453,20 +549,14 @@ fn a_vehicle_that_is_not_there_is_not_settled(rt: HostRuntime) -> Result<(), Fai
 fn rows_are_numbered(rt: HostRuntime) -> Result<(), Fail> {
     let keys = of_a1().ok_or("keys")?;
     let mut conn = made(&rt)?;
-    assert!(rt; is_numbered(&rt, &mut conn)?);
-    for number in [3, 1, 2] {
-        let division = Division {
-            number: DivisionNumber::new(number).ok_or("a division")?,
-            last_incident: LastNumber::new(0).ok_or("a number")?,
-        };
-        ready(&rt, &conn);
-        change(&mut conn, &Change::PutDivision(division))?;
-    }
-    for row in &vehicle_rows(&keys).ok_or("rows")? {
-        ready(&rt, &conn);
-        change(&mut conn, row)?;
-    }
-    assert!(rt; is_numbered(&rt, &mut conn)?);
+    assert_eq!(rt; is_numbered(&rt, &mut conn), Ok(true));
+    change_all(
+        &rt,
+        &mut conn,
+        &divisions_out_of_order().ok_or("divisions")?,
+    )?;
+    change_all(&rt, &mut conn, &rows(&keys).ok_or("rows")?)?;
+    assert_eq!(rt; is_numbered(&rt, &mut conn), Ok(true));
     Ok(())
 }
 
@@ -474,27 +564,37 @@ fn rows_are_numbered(rt: HostRuntime) -> Result<(), Fail> {
 fn a_row_that_is_none_of_its_table_is_told(rt: HostRuntime) -> Result<(), Fail> {
     let keys = of_a1().ok_or("keys")?;
     let mut conn = made(&rt)?;
-    for row in &incident_rows(&keys).ok_or("rows")? {
-        ready(&rt, &conn);
-        change(&mut conn, row)?;
-    }
-    for table in ["meta", "areas"] {
-        ready(&rt, &conn);
-        furnish(&mut conn, table, &keys)?;
-    }
-    assert_eq!(rt; count(&rt, &mut conn, "meta")?, 4);
-    assert_eq!(rt; count(&rt, &mut conn, "areas")?, 1);
-    conn.execute("UPDATE incidents SET class = 9", &[])?;
-    conn.execute("UPDATE calls SET linked = 2", &[])?;
-    conn.execute("UPDATE areas SET n = 2", &[])?;
-    conn.execute("UPDATE meta SET version = 3", &[])?;
-    for table in ["incidents", "calls", "areas", "meta"] {
+    change_all(&rt, &mut conn, &rows(&keys).ok_or("rows")?)?;
+    furnish(&rt, &mut conn, Table::Meta, &keys)?;
+    furnish(&rt, &mut conn, Table::Areas, &keys)?;
+    assert_eq!(rt; count(&rt, &mut conn, Table::Meta), Ok(4));
+    assert_eq!(rt; count(&rt, &mut conn, Table::Areas), Ok(1));
+    conn.execute_batch(
+        "UPDATE incidents SET class = 9; UPDATE calls SET linked = 2; \
+         UPDATE areas SET n = 2; UPDATE meta SET version = 3",
+    )?;
+    for table in [Table::Incidents, Table::Calls, Table::Areas, Table::Meta] {
         assert_eq!(rt;
             count(&rt, &mut conn, table),
             Err(Fault::Storage),
-            "{table}"
+            "{table:?}"
         );
     }
-    assert_eq!(rt; count(&rt, &mut conn, "points")?, 1);
+    assert_eq!(rt; count(&rt, &mut conn, Table::Points), Ok(1));
+    Ok(())
+}
+
+#[test]
+fn a_row_of_class_9_holds_up_its_own_division_alone(rt: HostRuntime) -> Result<(), Fail> {
+    let mut conn = made(&rt)?;
+    conn.execute_batch(
+        "INSERT INTO incidents VALUES (1, 1, 530000, 180000, 2, 1, 0, 0, 1000, NULL, 0, NULL), \
+         (2, 1, 560000, 180000, 9, 1, 0, 0, 1000, NULL, 0, NULL)",
+    )?;
+    assert_eq!(rt; active(&rt, &mut conn, DivisionNumber::of(1)), Ok(1));
+    assert_eq!(rt;
+        active(&rt, &mut conn, DivisionNumber::of(2)),
+        Err(Fault::Storage)
+    );
     Ok(())
 }
