@@ -1,11 +1,13 @@
 """What the tests of the program share: its commands, the command sqlite3, a room that is served, and the sum."""
 import contextlib
+import email.utils
 import pathlib
 import socket
 import subprocess
 
 TOP = pathlib.Path(__file__).resolve().parent.parent
 PROGRAM = TOP / 'dispatch_room'
+BUILT = TOP / 'crates' / 'dispatch_room' / 'out' / 'dispatch_room'  # what it runs, once it is built
 PLAN = TOP / 'examples' / 'plan.csv'
 FLEET = TOP / 'examples' / 'fleet.csv'
 passed = failed = 0
@@ -27,9 +29,9 @@ def run(*words):
     return done.returncode, done.stdout.decode(), done.stderr.decode()
 
 
-def sql(file, text):
+def sql(file, *texts):
     """What the command sqlite3 prints of a room's file."""
-    done = subprocess.run(['sqlite3', '-bail', file, text], capture_output=True, timeout=60)
+    done = subprocess.run(['sqlite3', '-bail', file, *texts], capture_output=True, timeout=60)
     return done.stdout.decode() if done.returncode == 0 else f'sqlite3: {done.stderr.decode()}'
 
 
@@ -86,6 +88,12 @@ def call(serial, place='TQ300800'):
 
 def read_answer(stream):
     """The status and the body of the next answer; nothing at the end."""
+    answer = read_dated(stream)
+    return answer and answer[1:]
+
+
+def read_dated(stream):
+    """The moment, the status and the body of the next answer; nothing at the end. What has no Date has no moment."""
     head = b''
     while not head.endswith(b'\r\n\r\n'):
         line = stream.readline()
@@ -95,7 +103,10 @@ def read_answer(stream):
     lines = head.decode().split('\r\n')
     fields = dict(it.split(': ', 1) for it in lines[1:] if it)
     body = stream.read(int(fields['Content-Length']))
-    return (int(lines[0].split(' ')[1]), body.decode()) if len(body) == int(fields['Content-Length']) else None
+    if len(body) != int(fields['Content-Length']):
+        return None
+    date = email.utils.parsedate_to_datetime(fields['Date']) if 'Date' in fields else None
+    return date and int(date.timestamp()), int(lines[0].split(' ')[1]), body.decode()
 
 
 def ask(port, *messages):
