@@ -2,6 +2,7 @@
 
 ghost use Rattle.std.specs.Prelude.{◌≡◌};
 ghost use Rattle.sqlite.specs.Values.{bound};
+ghost use Rattle.room_columns.specs.Readable.{is_area_row};
 ghost use Rattle.room_columns.specs.Rows.{area_row};
 
 use crate::columns::{Stored, integer, value_at};
@@ -11,6 +12,8 @@ use sqlite_value::value::ValueRef;
 
 impl Stored for (u32, Area) {
     ghost cells = { area_row };
+
+    ghost is_row = { is_area_row };
 
     fn read(row: &Row) -> Option<(u32, Area)> {
         if row.column_count() != 6 {

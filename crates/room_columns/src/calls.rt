@@ -2,6 +2,7 @@
 
 ghost use Rattle.std.specs.Prelude.{◌≡◌};
 ghost use Rattle.sqlite.specs.Values.{bound};
+ghost use Rattle.room_columns.specs.Readable.{is_call_row};
 ghost use Rattle.room_columns.specs.Rows.{call_row};
 
 use crate::columns::{Field, Stored, integer, value_at};
@@ -13,6 +14,8 @@ use sqlite_value::value::ValueRef;
 
 impl Stored for Call {
     ghost cells = { call_row };
+
+    ghost is_row = { is_call_row };
 
     fn read(row: &Row) -> Option<Call> {
         if row.column_count() != 14 {

@@ -2,6 +2,7 @@
 
 ghost use Rattle.std.specs.Prelude.{◌≡◌};
 ghost use Rattle.sqlite.specs.Values.{bound};
+ghost use Rattle.room_columns.specs.Readable.{is_division_row};
 ghost use Rattle.room_columns.specs.Rows.{division_row};
 
 use crate::columns::{Field, Stored, value_at};
@@ -11,6 +12,8 @@ use sqlite_value::value::ValueRef;
 
 impl Stored for Division {
     ghost cells = { division_row };
+
+    ghost is_row = { is_division_row };
 
     fn read(row: &Row) -> Option<Division> {
         if row.column_count() != 2 {

@@ -5,6 +5,7 @@ ghost use Rattle.sqlite.specs.Values.{bound};
 ghost use Rattle.sqlite_value.specs.Value.{owned};
 ghost use Rattle.table_laws.specs.Typed.{number, number_or_null};
 ghost use Rattle.room_types.specs.Codes.{state_number, merged_into};
+ghost use Rattle.room_columns.specs.Readable.{is_incident_row};
 ghost use Rattle.room_columns.specs.Rows.{incident_row};
 
 use crate::columns::{Field, Stored, integer, value_at};
@@ -17,6 +18,8 @@ use sqlite_value::value::ValueRef;
 
 impl Stored for Incident {
     ghost cells = { incident_row };
+
+    ghost is_row = { is_incident_row };
 
     fn read(row: &Row) -> Option<Incident> {
         if row.column_count() != 12 {

@@ -2,6 +2,7 @@
 
 ghost use Rattle.std.specs.Prelude.{◌≡◌};
 ghost use Rattle.sqlite.specs.Values.{bound};
+ghost use Rattle.room_columns.specs.Readable.{is_loan_row};
 ghost use Rattle.room_columns.specs.Rows.{loan_row};
 
 use crate::columns::{Field, Stored, value_at};
@@ -11,6 +12,8 @@ use sqlite_value::value::ValueRef;
 
 impl Stored for Loan {
     ghost cells = { loan_row };
+
+    ghost is_row = { is_loan_row };
 
     fn read(row: &Row) -> Option<Loan> {
         if row.column_count() != 6 {

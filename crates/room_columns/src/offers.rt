@@ -2,6 +2,7 @@
 
 ghost use Rattle.std.specs.Prelude.{◌≡◌};
 ghost use Rattle.sqlite.specs.Values.{bound};
+ghost use Rattle.room_columns.specs.Readable.{is_offer_row};
 ghost use Rattle.room_columns.specs.Rows.{offer_row};
 
 use crate::columns::{Field, Stored, value_at};
@@ -11,6 +12,8 @@ use sqlite_value::value::ValueRef;
 
 impl Stored for Offer {
     ghost cells = { offer_row };
+
+    ghost is_row = { is_offer_row };
 
     fn read(row: &Row) -> Option<Offer> {
         if row.column_count() != 5 {

@@ -2,6 +2,7 @@
 
 ghost use Rattle.std.specs.Prelude.{◌≡◌};
 ghost use Rattle.sqlite.specs.Values.{bound};
+ghost use Rattle.room_columns.specs.Readable.{is_point_row};
 ghost use Rattle.room_columns.specs.Rows.{point_row};
 
 use crate::columns::{Field, Stored, value_at};
@@ -12,6 +13,8 @@ use sqlite_value::value::ValueRef;
 
 impl Stored for Point {
     ghost cells = { point_row };
+
+    ghost is_row = { is_point_row };
 
     fn read(row: &Row) -> Option<Point> {
         if row.column_count() != 5 {

@@ -2,6 +2,7 @@
 
 ghost use Rattle.std.specs.Prelude.{◌≡◌};
 ghost use Rattle.sqlite.specs.Values.{bound};
+ghost use Rattle.room_columns.specs.Readable.{is_report_row};
 ghost use Rattle.room_columns.specs.Rows.{report_row};
 
 use crate::columns::{Field, Stored, value_at};
@@ -12,6 +13,8 @@ use sqlite_value::value::ValueRef;
 
 impl Stored for Report {
     ghost cells = { report_row };
+
+    ghost is_row = { is_report_row };
 
     fn read(row: &Row) -> Option<Report> {
         if row.column_count() != 11 {

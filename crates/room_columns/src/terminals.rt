@@ -1,9 +1,10 @@
 //! Terminals as rows of SQL.
 
-ghost use Rattle.std.specs.Prelude.{◌≡◌, IfSome};
+ghost use Rattle.std.specs.Prelude.{◌≡◌, pos, is_some, IfSome};
 ghost use Rattle.sqlite.specs.Values.{bound, or_null};
 ghost use Rattle.sqlite_value.specs.Value.{owned};
-ghost use Rattle.sqlite_value.specs.declared.value.Value.TheVariants.{Text};
+ghost use Rattle.sqlite_value.specs.declared.value.Value.TheVariants.{Int, Text};
+ghost use Rattle.room_columns.specs.Readable.{is_terminal_row, is_who};
 ghost use Rattle.room_columns.specs.Rows.{terminal_row, role_of, number_of, crew_of};
 
 use crate::columns::{Field, Stored, integer, value_at};
@@ -16,6 +17,8 @@ use sqlite_value::value::ValueRef;
 
 impl Stored for Terminal {
     ghost cells = { terminal_row };
+
+    ghost is_row = { is_terminal_row };
 
     fn read(row: &Row) -> Option<Terminal> {
         if row.column_count() != 4 {
@@ -30,7 +33,8 @@ impl Stored for Terminal {
 
 // Who has this role, number and callsign; none where nobody has.
 fn who_of(role: u32, number: u32, callsign: Option<Callsign>) -> Option<Who>
-    ensures { IfSome result (λ who. (role_of who ≡ role) × (number_of who ≡ number) × (crew_of who ≡ callsign)) }
+    ensures who { IfSome result (λ who. (role_of who ≡ role) × (number_of who ≡ number) × (crew_of who ≡ callsign)) }
+    ensures has_one { is_some result ≡ is_who (Int (pos role)) (Int (pos number)) (or_null Text callsign) }
 {
     match (role, callsign) {
         (0, None) => Some(Who::Desk(Whole::new(number)?)),

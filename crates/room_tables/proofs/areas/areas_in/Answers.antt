@@ -9,5 +9,5 @@ loop-index-preserved c =
     record {
       count = grind (arith, common_steps);
       read = rw c.in_ok-push.ensures.items (areas_more c.loop-index.areas.items c.args.shown.now c.loop-index.index c.in-Some.numbered.0 c.in-Some.numbered.1 c.index-shown-index.result
-          c.loop-index.invariant.count c.loop-index.invariant.read c.loop-index-test.true c.index-shown-index.is c.in-Some.ensures place);
+          c.loop-index.invariant.count c.loop-index.invariant.read c.loop-index-test.true c.index-shown-index.is c.in-Some.ensures.row place);
     }

@@ -5,7 +5,7 @@ use Rattle.table_laws.proofs.ColumnValues.{columns_are}
 use Rattle.room_types.specs.declared.needs.Counts.{Counts}
 use Rattle.room_columns.proofs.calls.CallStored.read.Goals as goal
 
-pub returns : goal.returns
-returns c =
+pub returns-clause-row : goal.returns-clause-row
+returns-clause-row c =
     let long : length c.args.row.now ≡ 14 = search rules in
-    (λ i. c.in_ok-value_at.ensures i ∷ c.in_ok-value_at-2.ensures i ∷ c.in_ok-value_at-3.ensures i ∷ c.in_ok-value_at-4.ensures i ∷ c.in_ok-value_at-5.ensures i ∷ c.in_ok-value_at-6.ensures i ∷ c.in_ok-value_at-7.ensures i ∷ c.in_ok-value_at-8.ensures i ∷ c.in_ok-value_at-9.ensures i ∷ (ap (λ (n : Counts). number n.ambulances) c.in_ok-new.ensures.1 ∙ c.in_ok-value_at-10.ensures) i ∷ (ap (λ (n : Counts). number n.cars) c.in_ok-new.ensures.1 ∙ c.in_ok-value_at-11.ensures) i ∷ (ap (λ (n : Counts). number n.support) c.in_ok-new.ensures.1 ∙ c.in_ok-value_at-12.ensures) i ∷ c.in_ok-value_at-13.ensures i ∷ c.in_ok-value_at-14.ensures i ∷ []) ∙ columns_are 14 c.args.row.now long
+    (λ i. c.in_ok-value_at.ensures.value i ∷ c.in_ok-value_at-2.ensures.value i ∷ c.in_ok-value_at-3.ensures.value i ∷ c.in_ok-value_at-4.ensures.value i ∷ c.in_ok-value_at-5.ensures.value i ∷ c.in_ok-value_at-6.ensures.value i ∷ c.in_ok-value_at-7.ensures.value i ∷ c.in_ok-value_at-8.ensures.value i ∷ c.in_ok-value_at-9.ensures.value i ∷ (ap (λ (n : Counts). number n.ambulances) c.in_ok-new.ensures.1 ∙ c.in_ok-value_at-10.ensures.value) i ∷ (ap (λ (n : Counts). number n.cars) c.in_ok-new.ensures.1 ∙ c.in_ok-value_at-11.ensures.value) i ∷ (ap (λ (n : Counts). number n.support) c.in_ok-new.ensures.1 ∙ c.in_ok-value_at-12.ensures.value) i ∷ c.in_ok-value_at-13.ensures.value i ∷ c.in_ok-value_at-14.ensures.value i ∷ []) ∙ columns_are 14 c.args.row.now long

@@ -1,0 +1,163 @@
+-- Which columns stand for a value of the room, and which rows for a row of their table: a reader refuses all else.
+use Rattle.std.specs.Prelude.{ℕ, pos, Bool, true, false, List, length, nat_le, ◌==◌, ◌&&◌, ◌||◌}
+use Rattle.std.specs.Str.{is_utf8}
+use Rattle.sqlite_value.specs.declared.value.Value.{Value}
+use Rattle.sqlite_value.specs.declared.value.Value.TheVariants.{Null, Int, Text, Blob}
+use Rattle.sqlite_value.specs.Order.{Row, column}
+use Rattle.room_types.specs.Needs.{is_some_need}
+use Rattle.room_types.specs.Texts.{is_callsign, is_token}
+use Rattle.room_columns.specs.Columns.{number_in}
+
+-- ---- a column
+
+-- a whole number from the least to the greatest
+abbrev pub is_number : ℕ → ℕ → Value → Bool
+is_number least greatest (Int (pos n)) = nat_le least n && nat_le n greatest
+is_number least greatest v = false
+
+abbrev pub is_null : Value → Bool
+is_null Null = true
+is_null v = false
+
+abbrev pub is_or_null : (Value → Bool) → Value → Bool
+is_or_null test Null = true
+is_or_null test v = test v
+
+abbrev pub is_text : (List ℕ → Bool) → Value → Bool
+is_text test (Text t) = test t
+is_text test v = false
+
+-- UTF-8 of at most 120 bytes
+abbrev pub is_note : Value → Bool
+is_note (Blob b) = is_utf8 b && nat_le (length b) 120
+is_note v = false
+
+abbrev pub is_word : Value → Bool
+is_word v = is_number 0 4294967295 v
+
+abbrev pub is_truth : Value → Bool
+is_truth v = is_number 0 1 v
+
+abbrev pub is_division : Value → Bool
+is_division v = is_number 1 9 v
+
+-- a position, or a standby point
+abbrev pub is_post : Value → Bool
+is_post v = is_number 1 99 v
+
+abbrev pub is_class : Value → Bool
+is_class v = is_number 1 3 v
+
+-- how many vehicles of one kind are needed, or wanted at a point
+abbrev pub is_count : Value → Bool
+is_count v = is_number 0 9 v
+
+-- a number that counts calls, reports, incidents or orders, and the one that was given last
+abbrev pub is_serial : Value → Bool
+is_serial v = is_number 1 2147483647 v
+
+abbrev pub is_last : Value → Bool
+is_last v = is_number 0 2147483647 v
+
+abbrev pub is_moment : Value → Bool
+is_moment v = is_number 0 4102444799 v
+
+abbrev pub is_name : Value → Bool
+is_name v = is_text is_callsign v
+
+abbrev pub is_kind : Value → Bool
+is_kind v = is_number 1 3 v
+
+abbrev pub is_status : Value → Bool
+is_status v = is_number 0 7 v
+
+abbrev pub is_button : Value → Bool
+is_button v = is_number 0 6 v
+
+abbrev pub is_outcome : Value → Bool
+is_outcome v = is_number 0 4 v
+
+-- ---- columns that stand for one value together
+
+abbrev pub is_place : Value → Value → Bool
+is_place east north = is_number 400000 599999 east && is_number 100000 299999 north
+
+-- at least one vehicle in all
+abbrev pub is_needs : Value → Value → Value → Bool
+is_needs ambulances cars support =
+    is_count ambulances && is_count cars && is_count support
+    && is_some_need (record { ambulances = number_in ambulances; cars = number_in cars; support = number_in support })
+
+-- active or closed; or merged, into an incident
+abbrev pub is_state : Value → Value → Bool
+is_state state into = (is_number 0 1 state && is_null into) || (is_number 2 2 state && is_serial into)
+
+-- a desk with its division, a position with its number, a crew with its callsign
+abbrev pub is_who : Value → Value → Value → Bool
+is_who role n callsign =
+    (is_number 0 0 role && is_division n && is_null callsign)
+    || (is_number 1 1 role && is_post n && is_null callsign)
+    || (is_number 2 2 role && is_number 0 0 n && is_name callsign)
+
+-- ---- a row
+
+abbrev pub is_meta_row : Row → Bool
+is_meta_row r = length r == 3 && is_number 1 1 (column r 0) && is_number 2 2 (column r 1) && is_text is_utf8 (column r 2)
+
+abbrev pub is_area_row : Row → Bool
+is_area_row r =
+    length r == 6 && is_word (column r 0) && is_word (column r 1)
+    && is_word (column r 2) && is_word (column r 3) && is_word (column r 4) && is_word (column r 5)
+
+abbrev pub is_terminal_row : Row → Bool
+is_terminal_row r = length r == 4 && is_text is_token (column r 0) && is_who (column r 1) (column r 2) (column r 3)
+
+abbrev pub is_division_row : Row → Bool
+is_division_row r = length r == 2 && is_division (column r 0) && is_last (column r 1)
+
+abbrev pub is_incident_row : Row → Bool
+is_incident_row r =
+    length r == 12 && is_division (column r 0) && is_serial (column r 1) && is_place (column r 2) (column r 3) && is_class (column r 4)
+    && is_needs (column r 5) (column r 6) (column r 7) && is_moment (column r 8) && is_or_null is_moment (column r 9)
+    && is_state (column r 10) (column r 11)
+
+abbrev pub is_call_row : Row → Bool
+is_call_row r =
+    length r == 14 && is_post (column r 0) && is_serial (column r 1) && is_division (column r 2) && is_serial (column r 3)
+    && is_serial (column r 4) && is_truth (column r 5) && is_place (column r 6) (column r 7) && is_class (column r 8)
+    && is_needs (column r 9) (column r 10) (column r 11) && is_note (column r 12) && is_moment (column r 13)
+
+abbrev pub is_vehicle_row : Row → Bool
+is_vehicle_row r =
+    length r == 11 && is_name (column r 0) && is_division (column r 1) && is_division (column r 2) && is_kind (column r 3)
+    && is_place (column r 4) (column r 5) && is_status (column r 6) && is_moment (column r 7) && is_or_null is_post (column r 8)
+    && is_last (column r 9) && is_last (column r 10)
+
+abbrev pub is_turn_row : Row → Bool
+is_turn_row r =
+    length r == 12 && is_name (column r 0) && is_serial (column r 1) && is_division (column r 2) && is_serial (column r 3)
+    && is_kind (column r 4) && is_moment (column r 5) && is_or_null is_moment (column r 6) && is_or_null is_moment (column r 7)
+    && is_or_null is_moment (column r 8) && is_or_null is_moment (column r 9) && is_or_null is_moment (column r 10) && is_truth (column r 11)
+
+abbrev pub is_assignment_row : Row → Bool
+is_assignment_row r =
+    length r == 7 && is_name (column r 0) && is_division (column r 1) && is_serial (column r 2) && is_serial (column r 3)
+    && is_place (column r 4) (column r 5) && is_class (column r 6)
+
+abbrev pub is_point_row : Row → Bool
+is_point_row r = length r == 5 && is_division (column r 0) && is_post (column r 1) && is_place (column r 2) (column r 3) && is_count (column r 4)
+
+abbrev pub is_loan_row : Row → Bool
+is_loan_row r =
+    length r == 6 && is_name (column r 0) && is_division (column r 1) && is_division (column r 2)
+    && is_moment (column r 3) && is_moment (column r 4) && is_truth (column r 5)
+
+abbrev pub is_report_row : Row → Bool
+is_report_row r =
+    length r == 11 && is_name (column r 0) && is_serial (column r 1) && is_button (column r 2) && is_last (column r 3)
+    && is_place (column r 4) (column r 5) && is_moment (column r 6) && is_division (column r 7) && is_outcome (column r 8)
+    && is_status (column r 9) && is_truth (column r 10)
+
+abbrev pub is_offer_row : Row → Bool
+is_offer_row r =
+    length r == 5 && is_name (column r 0) && is_division (column r 1) && is_division (column r 2) && is_moment (column r 3) && is_moment (column r 4)
