@@ -1,5 +1,5 @@
 //! Rooms created in files, and opened again.
-use crate::samples::{call, contents, desk, plan};
+use crate::samples::{desk, plan};
 use room_schema::faults::Fault;
 use room_schema::testing::is_room;
 use room_store::creating::CreateFault;

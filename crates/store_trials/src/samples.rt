@@ -1,18 +1,10 @@
-//! A small room to keep: its plan, its terminals and vehicles, and what is asked of it.
-ghost use Rattle.std.specs.Prelude.{◌≡◌, IfErr};
-ghost use Rattle.room_types.specs.declared.refusals.Refusal.TheVariants.{Memory};
-
+//! A small room to keep: its plan, its terminals and its fleet.
 use room_place::places::Place;
 use room_place::plans::{Area, DivisionNumber, Plan, Rect};
-use room_types::answers::Answer;
-use room_types::asks::{Ask, CallForm, Event, Who};
+use room_types::asks::Who;
 use room_types::callsign::Callsign;
 use room_types::codes::Kind;
 use room_types::fleet::{FleetRow, RowFate, Terminal};
-use room_types::needs::{Counts, Needs};
-use room_types::note::Note;
-use room_types::numbers::{Class, Moment, Need, Number, PositionNumber};
-use room_types::refusals::Refusal;
 use room_types::token::Token;
 use sqlite::{Alter, Connection};
 use std::alloc::{AllocError, Global};
@@ -46,44 +38,36 @@ pub(crate) fn desk(token: &str, division: u32) -> Option<Terminal> {
     })
 }
 
-/// The desk of division 1 alone.
-pub(crate) fn one_desk() -> Option<[Terminal; 1]> {
-    Some([desk("deskone1", 1)?])
+/// The desks of both divisions.
+pub(crate) fn terminals() -> Option<[Terminal; 2]> {
+    Some([desk("deskone1", 1)?, desk("desktwo2", 2)?])
 }
 
-/// An ambulance or a car, with its crew's token, at TQ303804.
-pub(crate) fn vehicle(callsign: &str, division: u32, kind: Kind, token: &str) -> Option<FleetRow> {
+/// Three ambulances and a car of division 1, and an ambulance of division 2.
+pub(crate) fn fleet() -> [Option<FleetRow>; 5] {
+    [
+        vehicle("A1", 1, Kind::Ambulance, "TQ303804", "crewofa1"),
+        vehicle("A2", 1, Kind::Ambulance, "TQ304803", "crewofa2"),
+        vehicle("A3", 1, Kind::Ambulance, "TQ300801", "crewofa3"),
+        vehicle("B1", 2, Kind::Ambulance, "TQ600800", "crewofb1"),
+        vehicle("C1", 1, Kind::Car, "TQ300800", "crewofc1"),
+    ]
+}
+
+/// A vehicle, with its division, where it stands, and its crew's token.
+pub(crate) fn vehicle(
+    callsign: &str,
+    division: u32,
+    kind: Kind,
+    reference: &str,
+    token: &str,
+) -> Option<FleetRow> {
     Some(FleetRow {
         callsign: Callsign::parse(callsign)?,
         division: DivisionNumber::new(division)?,
         kind,
-        place: Place::parse("TQ303804").ok()?,
-        token: Token::parse(token)?,
-    })
-}
-
-/// A call that position 1 takes, of class 2, for one ambulance.
-pub(crate) fn call(serial: u32, reference: &str, note: &str, at: u32) -> Option<Event> {
-    let needs = Needs::new(Counts {
-        ambulances: Need::new(1)?,
-        cars: Need::new(0)?,
-        support: Need::new(0)?,
-    })?;
-    let form = CallForm {
-        serial: Number::new(serial)?,
         place: Place::parse(reference).ok()?,
-        class: Class::new(2)?,
-        needs,
-        note: Note::new(note)?,
-    };
-    event(Who::Position(PositionNumber::new(1)?), Ask::Call(form), at)
-}
-
-pub(crate) fn event(who: Who, ask: Ask, at: u32) -> Option<Event> {
-    Some(Event {
-        who,
-        ask,
-        at: Moment::new(at)?,
+        token: Token::parse(token)?,
     })
 }
 
@@ -94,32 +78,6 @@ pub(crate) fn all<T: Copy>(alloc: Global, samples: &[Option<T>]) -> Result<Vec<T
         all.push(sample.ok_or("a sample")?)?;
     }
     Ok(all)
-}
-
-/// The bytes of an answer in words. `Memory` is the one refusal.
-pub(crate) fn told(alloc: Global, answer: &Result<Answer, Refusal>) -> Result<Vec<u8>, Refusal>
-    ensures { IfErr result (λ refusal. refusal ≡ Memory) }
-{
-    match in_words(alloc, answer) {
-        Ok(text) => Ok(text.into_bytes()),
-        Err(_) => Err(Refusal::Memory),
-    }
-}
-
-/// An answer in words: the incident of a call, the outcome of a report, or a refusal's number.
-pub(crate) fn in_words(
-    alloc: Global,
-    answer: &Result<Answer, Refusal>,
-) -> Result<String, AllocError> {
-    match answer {
-        Ok(Answer::Called(_, number, false)) => format!(in alloc; "incident {}", number.get()),
-        Ok(Answer::Called(_, number, true)) => format!(in alloc; "linked to {}", number.get()),
-        Ok(Answer::Reported(number, outcome, status)) => {
-            format!(in alloc; "report {} {outcome:?} {status:?}", number.get())
-        }
-        Ok(_) => format!(in alloc; "done"),
-        Err(refusal) => format!(in alloc; "refused {}", refusal.number()),
-    }
 }
 
 /// What became of a row, in a word or two.
@@ -150,7 +108,8 @@ pub(crate) fn contents<S: Alter>(alloc: Global, conn: &mut Connection<S>) -> Res
     Ok(text)
 }
 
-fn rows_in_words<S: Alter>(
+/// The rows of a table, in the order of their first columns.
+pub(crate) fn rows_in_words<S: Alter>(
     alloc: Global,
     conn: &mut Connection<S>,
     table: &str,
