@@ -1,16 +1,12 @@
 -- Lemmas on tokens and terminals.
-use Rattle.std.proofs.Common.{◌≡◌, ◌∙◌, sym, refl, arith, ℕ, ◌<◌, List, [], ◌∷◌, Bool, true, false, ◌&&◌, Option, Some, None}
-use Rattle.std.specs.List.{list_all}
+use Rattle.std.proofs.Common.{◌≡◌, ◌∙◌, sym, refl, ℕ, List, Bool, true, false, Option, Some, None}
 use Rattle.std.specs.Prelude.{if◌then◌else◌, IsUtf8, option_map}
-use Rattle.std.specs.Str.{IsAscii}
-use Rattle.std.proofs.lemmas.Str.{IsUtf8-from_ascii}
-use Rattle.std.proofs.lemmas.Str.Ascii.{IsAscii-nil, IsAscii-cons}
-use Rattle.std.proofs.lemmas.Bool.Decides.{nat_tests}
 use Rattle.room_types.specs.Orders.{callsigns_total, exact_callsigns}
-use Rattle.room_types.specs.Texts.{Token, is_token, is_token_letter}
+use Rattle.room_types.specs.Texts.{Token, is_token}
 use Rattle.room_types.specs.declared.asks.Who.{Who}
 use Rattle.room_types.specs.declared.asks.Who.TheVariants.{Crew, Desk, Position}
 use Rattle.room_types.specs.declared.fleet.Terminal.{Terminal}
+use Rattle.room_types.proofs.Letters.{token_text}
 use Rattle.room_bodies.specs.Roles.{is_known}
 use Rattle.room_model.specs.Enrol.{AreTerminals, terminal_at, terminal_key, token_cmp}
 use Rattle.room_model.specs.Queries.{vehicle_at}
@@ -19,25 +15,9 @@ use Rattle.room_model.proofs.Tests.{row_key}
 use Rattle.room_http.specs.Events.{token_of}
 use Rattle.room_service.specs.Rooms.{who_at}
 
-both : (a b : Bool) → (a && b) ≡ true → (a ≡ true) × (b ≡ true)
-both true true h = (refl, refl)
-both true false h = absurd (cc)
-both false b h = absurd (cc)
-
-letter_ascii : (b : ℕ) → is_token_letter b ≡ true → b < 128
-letter_ascii b h = grind (arith, nat_tests)
-
-letters_ascii : (text : List ℕ) → list_all is_token_letter text ≡ true → IsAscii text
-letters_ascii [] h = IsAscii-nil
-letters_ascii (b ∷ more) h = let parts = both (is_token_letter b) (list_all is_token_letter more) h in IsAscii-cons b more (letter_ascii b parts.0) (letters_ascii more parts.1)
-
--- a token is text
-token_text : (text : List ℕ) → is_token text ≡ true → IsUtf8 text
-token_text text h = IsUtf8-from_ascii text (letters_ascii text (both _ (list_all is_token_letter text) h).1)
-
 -- what is no text is no token
 pub no_token : (text : List ℕ) → ¬ (IsUtf8 text) → None ≡ token_of (Some text)
-no_token text none = go (is_token text) (λ h. token_text text h)
+no_token text none = go (is_token text) (token_text text)
   where
     go : (b : Bool) → (b ≡ true → IsUtf8 text) → None ≡ (if b then Some text else None)
     go true is = absurd (none (is refl))

@@ -1,24 +1,19 @@
 -- Bytes of ASCII are text, and digits have their number.
-use Rattle.std.proofs.Common.{◌≡◌, ◌<◌, ◌^◌, ℕ, zero, suc, true, List, [], ◌∷◌, length, refl, sym, arith, inl, inr, rules, lit<}
+use Rattle.std.proofs.Common.{◌≡◌, ◌<◌, ◌^◌, ℕ, true, List, [], ◌∷◌, length, refl, sym, arith, inl, inr, rules}
 use Rattle.std.specs.Borrow.{Bor}
-use Rattle.std.specs.Prelude.{MatchResult, IsOk, Option, None, Some, Result, Ok, Err, option_map, unwrap_or, slice_index}
+use Rattle.std.specs.Prelude.{MatchResult, IsOk, Option, None, Some, Result, Ok, Err, option_map, unwrap_or}
 use Rattle.std.specs.Str.{IsUtf8}
 use Rattle.std.specs.Str.Parse.{ParsesUnsigned, digits_value}
 use Rattle.std.proofs.Math.Bool.{and-false}
 use Rattle.std.proofs.lemmas.Bool.{and_parts, cases_lt, lt-leb}
-use Rattle.std.proofs.lemmas.Str.{IsUtf8-from_ascii}
 use Rattle.std.proofs.lemmas.Str.Parse.{IsNumeralModel, numerals_by_value, parse_digits}
 use borrow.Author.Tests.{ltb-true}
-use Rattle.room_routes.specs.Parameters.{are_ascii, are_digits, is_numeral, within, whole_of}
-
-below_128 : (bytes : List ℕ) → are_ascii bytes ≡ true → (i : ℕ) → slice_index bytes i < 128
-below_128 [] all i = lit< tt
-below_128 (b ∷ bs) all zero = ltb-true _ _ (and_parts _ _ all).0
-below_128 (b ∷ bs) all (suc i) = below_128 bs (and_parts _ _ all).1 i
+use Rattle.room_types.proofs.Letters.{letters_text}
+use Rattle.room_routes.specs.Parameters.{are_ascii, are_digits, is_ascii, is_numeral, within, whole_of}
 
 -- bytes of ASCII are UTF-8
 pub ascii_is_text : (bytes : List ℕ) → are_ascii bytes ≡ true → IsUtf8 bytes
-ascii_is_text bytes all = IsUtf8-from_ascii bytes (below_128 bytes all)
+ascii_is_text = letters_text is_ascii (λ b. ltb-true b 128)
 
 -- a reading of bytes that are text does not fail
 pub reads_text : {A E : Type 0} (P : A → Type 0) (U : Type 0) (Q : E → Type 0) (r : Result A E) → MatchResult r P (λ e. ¬ U × Q e) → U → IsOk r

@@ -6,14 +6,11 @@ use Rattle.std.specs.List.{list_all}
 use Rattle.std.specs.declared.cmp.Ordering.{Ordering}
 use Rattle.std.specs.Ordering.{is_eq}
 use Rattle.std.specs.Cmp.{IsTotalOrder, Equal-is}
-use Rattle.std.proofs.lemmas.Bool.Decides.{Decides-and}
+use Rattle.std.proofs.lemmas.Bool.{and_parts}
 use Rattle.std.proofs.lemmas.Cmp.{tied_itself}
 use Rattle.std.proofs.lemmas.Map.Lookups.{CmpEqualImpliesEq}
 use Rattle.room_types.specs.Keyed.{IsBelowAll, IsKeyed, row_at}
 use Rattle.room_types.proofs.KeyedLaws.{row_below}
-
-both : {a b : Bool} → a && b ≡ true → (a ≡ true) × (b ≡ true)
-both {a} {b} h = (Decides-and a b (λ e. e, λ e. e) (λ e. e, λ e. e)).0 h
 
 module _ {R K : Type 0} (cmp : K → K → Ordering) (key : R → K) (total : IsTotalOrder cmp) (exact : CmpEqualImpliesEq cmp) where
   same_key : (k : K) (x : R) → is_eq (cmp k (key x)) ≡ true → k ≡ key x
@@ -24,8 +21,8 @@ module _ {R K : Type 0} (cmp : K → K → Ordering) (key : R → K) (total : Is
     pub at_each_key : (xs : List R) → list_all p xs ≡ true → (k : K) → IfSome (row_at cmp key xs k) (P k)
     at_each_key [] h k = tt
     at_each_key (x ∷ xs) h k = (elim (is_eq (cmp k (key x))) as (λ (b : Bool). is_eq (cmp k (key x)) ≡ b → IfSome (cond b (Some x) (row_at cmp key xs k)) (P k)) [
-      | true ↦ λ q. subst (λ j. P j x) (sym (same_key k x q)) ((decides x).0 (both h).0)
-      | false ↦ λ q. at_each_key xs (both h).1 k
+      | true ↦ λ q. subst (λ j. P j x) (sym (same_key k x q)) ((decides x).0 (and_parts _ _ h).0)
+      | false ↦ λ q. at_each_key xs (and_parts _ _ h).1 k
     ]) refl
 
     -- and back, of rows in key order

@@ -1,11 +1,11 @@
 -- The test of a division's rows tells what they agree in.
 use Rattle.std.proofs.Common.{true, ◌≡◌, ℕ, ◌≤◌, cond, Option, Some, None, refl, eq-eqb, arith}
-use Rattle.std.specs.Prelude.{◌==◌, ◌&&◌, IfSome, IsSome, is_some, nat_le}
+use Rattle.std.specs.Prelude.{◌==◌, is_some, nat_le}
 use Rattle.std.specs.List.{list_all}
 use Rattle.std.specs.Bool.{Decides}
 use Rattle.std.proofs.lemmas.Bool.{eqb-true, leb-true, le-leb}
 use Rattle.std.proofs.lemmas.Bool.Decides.{Decides-and, Decides-like}
-use Rattle.room_types.specs.Keyed.{IsKeyed, row_at}
+use Rattle.room_types.specs.Keyed.{IsKeyed}
 use Rattle.room_types.specs.Keys.{callsign_cmp, numbered_cmp, vehicle_key, turn_key, assignment_key}
 use Rattle.room_types.specs.Orders.{callsigns_total, numbered_total, exact_callsigns, exact_numbered}
 use Rattle.room_types.specs.Slices.{AreOwned, IsShare, VehicleAgrees, AssignmentAgrees, TurnAgrees, IsInTurn, IsActive, are_owned, division_at, vehicle_agrees, is_active_one, assignment_agrees, is_in_turn, turn_agrees, is_share}

@@ -1,17 +1,13 @@
 -- What a slice's rows agree in, for one that decides on them.
-use Rattle.std.proofs.Common.{false, ◌≡◌, ℕ, ◌≤◌, Bool, true, cond, List, Option, Some, None, refl, sym, ap, ◌∙◌, subst, arith}
-use Rattle.std.proofs.lemmas.Bool.{eqb-true, le-leb, leb-true}
-use Rattle.std.specs.Prelude.{IfSome, IsSome, is_none, nat_le}
-use Rattle.room_types.specs.Keyed.{keep}
-use Rattle.room_types.specs.Keys.{assignment_key, callsign_cmp, numbered_cmp, owns_assignment, owns_vehicle, turn_key, vehicle_key}
-use Rattle.room_types.specs.Orders.{callsigns_total, exact_callsigns, exact_numbered, numbered_total}
+use Rattle.std.proofs.Common.{false, ◌≡◌, ℕ, true, Some, None, subst}
+use Rattle.std.specs.Prelude.{IfSome, IsSome}
+use Rattle.room_types.specs.Keys.{callsign_cmp, vehicle_key}
+use Rattle.room_types.specs.Orders.{callsigns_total, exact_callsigns}
 use Rattle.room_types.specs.Texts.{Callsign}
 use Rattle.room_types.specs.Sent.{SentAgrees}
 use Rattle.room_types.specs.Codes.{is_busy}
-use Rattle.room_types.specs.Slices.{IsActive, IsInTurn, IsShare, assignment_at, incident_at, is_share, open_turn, turn_at, vehicle_at}
+use Rattle.room_types.specs.Slices.{IsShare, assignment_at, is_share, open_turn, vehicle_at}
 use Rattle.room_types.specs.declared.slices.DivisionRows.{DivisionRows}
-use Rattle.room_types.specs.declared.tables.Assignment.{Assignment}
-use Rattle.room_types.specs.declared.tables.Turn.{Turn}
 use Rattle.room_types.specs.declared.tables.Vehicle.{Vehicle}
 use Rattle.room_types.proofs.EachRow.{row_key}
 use Rattle.room_types.proofs.SentLaws as sent

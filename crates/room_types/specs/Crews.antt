@@ -1,5 +1,5 @@
 -- The rows of one vehicle, and what they agree in.
-use Rattle.std.specs.Prelude.{◌≡◌, ℕ, Bool, true, ◌&&◌, List, Option, Some, None, IfSome, is_none, nat_eq}
+use Rattle.std.specs.Prelude.{◌≡◌, Bool, true, ◌&&◌, Option, Some, None, IfSome, is_none}
 use Rattle.room_types.specs.Keys.{same_callsign}
 use Rattle.room_types.specs.Sent.{SentAgrees, sent_agrees}
 use Rattle.room_types.specs.declared.crews.CrewRows.{CrewRows}
