@@ -1,20 +1,20 @@
 #!/usr/bin/env python3
-"""Writes the laws of the statements of each table, and the answers that cite them, into crates/room_tables/proofs
-(or into the folder that is named). tests/generated.test finds out where they differ from what is committed."""
+"""Writes what the statements on each table say into crates/room_statements/proofs (or into the folder that is named).
+tests/generated.test finds out where it differs from what is committed."""
 import os
 import re
 import sys
 
-OUT = sys.argv[1] if len(sys.argv) > 1 else os.path.join(os.path.dirname(__file__), "..", "crates", "room_tables", "proofs")
+OUT = sys.argv[1] if len(sys.argv) > 1 else os.path.join(os.path.dirname(__file__), "..", "crates", "room_statements", "proofs")
 
 # ---- the tables, in their order
 
-# How a key is written: its order, its type, the terms that select it, its parameters and its test, and why the test is the order's tie.
-NUMBER = dict(order="nat_cmp", args="(k : ℕ)", key="k", params=["number k"], ties=["tie-numbers"])
-TEXT = dict(order="callsign_cmp", args="(k : Callsign)", key="k", params=["Text k"], ties=["tie-texts"])
+# How a key is written: its columns, its order, its type, the terms that select it, its parameters and its test, and why the test is the order's tie.
+NUMBER = dict(cells="number_cells", order="nat_cmp", args="(k : ℕ)", key="k", params=["number k"], ties=["tie-numbers"])
+TEXT = dict(cells="text_cells", order="callsign_cmp", args="(k : Callsign)", key="k", params=["Text k"], ties=["tie-texts"])
 TOKEN = dict(TEXT, order="token_cmp", args="(k : Token)")
-PAIR = dict(order="pair_cmp", args="(j k : ℕ)", key="(j, k)", params=["number j", "number k"], ties=["tie-numbers", "tie-numbers"])
-NUMBERED = dict(order="numbered_cmp", args="(j : Callsign) (k : ℕ)", key="(j, k)", params=["Text j", "number k"], ties=["tie-texts", "tie-numbers"])
+PAIR = dict(cells="pair_cells", order="pair_cmp", args="(j k : ℕ)", key="(j, k)", params=["number j", "number k"], ties=["tie-numbers", "tie-numbers"])
+NUMBERED = dict(cells="numbered_cells", order="numbered_cmp", args="(j : Callsign) (k : ℕ)", key="(j, k)", params=["Text j", "number k"], ties=["tie-texts", "tie-numbers"])
 
 
 class Table:
@@ -112,30 +112,23 @@ def home(module, names):
         HOMES[name] = module
 
 
-home("Rattle.std.proofs.Common", "◌≡◌ ◌∷◌ ◌++◌ ◌||◌ ◌&&◌ ◌==◌ ◌∙◌ ℕ ℤ pos List [] map filter not Option Ok refl sym false suc length arith ap cc_")
+home("Rattle.std.proofs.Common", "◌≡◌ ◌∷◌ ◌||◌ ◌&&◌ ◌==◌ ◌∙◌ ℕ ℤ pos List [] filter not Ok refl sym false")
 home("Rattle.std.specs.Prelude", "int_le int_lt")
-home("Rattle.std.specs.Ordering", "nat_cmp")
-home("Rattle.std.specs.Int", "w64")
-home("Rattle.std.proofs.lemmas.Int", "to_z-of_z")
-home("Rattle.std.proofs.lemmas.Result", "IfOk-weaker")
+home("Rattle.std.specs.Ordering", "nat_cmp is_eq")
 home("Rattle.sqlite_value.specs.declared.value.Value.TheVariants", "Int Text")
 home("Rattle.sqlite_value.specs.declared.keys.Collation.TheVariants", "Binary")
-home("Rattle.sqlite_value.specs.Order", "Row column")
+home("Rattle.sqlite_value.specs.Order", "column")
 home("Rattle.sqlite_sql.specs.declared.ops.CompareOp.TheVariants", "Ge Lt")
 home("Rattle.sqlite_schema.specs.Rules", "equal")
-home("Rattle.sqlite_exec.proofs.LoopsLemmas", "ok_both")
 home("Rattle.sqlite_tied.specs.Compute", "everything")
 home("Rattle.sqlite.specs.Effect", "Database")
-home("Rattle.sqlite.specs.Given", "IsPlain")
-home("Rattle.sqlite.specs.Held", "state")
 home("Rattle.sqlite.specs.Listing", "understood")
-home("Rattle.sqlite.specs.State", "State Executes HasCleanDisk")
+home("Rattle.sqlite.specs.State", "State Executes")
 home("Rattle.table_laws.specs.Outcomes", "Inside Only")
 home("Rattle.table_laws.specs.Statements", "Selects StandsAlone Upserts Deletes Stores equals equals_by_value at_least below either row_values row_update rowid_values rowid_update")
 home("Rattle.table_laws.specs.Typed", "number")
 home("Rattle.table_laws.proofs.ColumnValues", "cast-Int cast-Null cast-number_or_null")
 home("Rattle.table_laws.proofs.Comparisons", "and_then and_last is_true-Or or_else equal-by_value equal-numbers tie-numbers tie-texts conflict_of_one conflict_of_two is_eq-then compare_by")
-home("Rattle.table_laws.proofs.Refusals", "plain_here")
 home("Rattle.table_laws.proofs.Standing", "holds_still holds_none")
 home("Rattle.table_laws.proofs.StoredRows", "stores_row stores_rowid")
 home("Rattle.room_place.specs.declared.plans.Area", "Area")
@@ -150,19 +143,20 @@ home("Rattle.room_types.specs.declared.codes.State.TheVariants", "Active")
 home("Rattle.room_types.specs.declared.fleet.Terminal", "Terminal")
 for t in ROWS:
     home(f"Rattle.room_types.specs.declared.tables.{t.kind}", t.kind)
-home("Rattle.room_model.specs.Room", "Room apply_one")
+home("Rattle.room_model.specs.Room", "Room")
 home("Rattle.room_model.specs.Enrol", "token_cmp terminal_key is_crew")
 home("Rattle.room_columns.specs.Columns", "truth outcome_code")
-home("Rattle.room_columns.specs.Rows", "meta_key area_key " + " ".join(f"{t.row}_row" for t in TABLES))
+home("Rattle.room_columns.specs.Rows", "number_cells text_cells pair_cells numbered_cells meta_key area_key " + " ".join(f"{t.row}_row" for t in TABLES))
 home("Rattle.room_columns.proofs.RowLaws", " ".join(f"{t.row}_faithful" for t in TABLES))
 home("Rattle.room_schema.specs.Schema", "room_schema " + " ".join(f"{t.name}_table" for t in TABLES))
-home("Rattle.room_tables.specs.Stands", "House Stands StandsFor numbered empty_room")
+home("Rattle.room_statements.specs.Stands", "House Stands StandsFor numbered empty_room")
 home("Rattle.room_schema.specs.Definitions", "IsBlank")
-home("Rattle.room_tables.specs.Writes", "Changes Makes")
-home("Rattle.room_tables.proofs.Tests", "equal-crew equal-active equal-false at_least-integers below-integers and_three cast-text_or_null")
-home("Rattle.room_tables.proofs.Loads", "Shows ShowsRow ShowsAll chosen_rows row_of_key all_rows")
-home("Rattle.room_tables.proofs.Puts", "put_changes drop_changes")
-home("Rattle.room_tables.proofs.Kept", " ".join(f"with_{t.name}" for t in TABLES))
+home("Rattle.room_statements.specs.Writes", "Changes")
+home("Rattle.room_statements.proofs.Tests", "equal-crew equal-active equal-false at_least-integers below-integers and_three cast-text_or_null")
+home("Rattle.room_statements.specs.Tables", "IsHeld SelectsChosen PutsRow IsTable IsDropped")
+home("Rattle.room_statements.proofs.Loads", "Shows ShowsRow ShowsAll chosen_rows row_of_key all_rows")
+home("Rattle.room_statements.proofs.Puts", "put_changes")
+home("Rattle.room_statements.proofs.Kept", " ".join(f"with_{t.name}" for t in TABLES))
 OPERATORS = {"≡": "◌≡◌", "∷": "◌∷◌", "++": "◌++◌", "||": "◌||◌", "&&": "◌&&◌", "==": "◌==◌", "∙": "◌∙◌"}
 
 
@@ -220,15 +214,19 @@ def key_parts(t):
 def laws(t, at):
     n, key, places = len(t.columns), t.key_places(), t.all_places()
     more = t.places(range(len(t.key["params"]), n))
-    const = t.name.upper()
-    one = t.row.upper()
+    const, one = t.name.upper(), t.row.upper()
+    kind = t.kind if " " not in t.kind else f"({t.kind})"
     typed = f"{t.key['order']} {t.row}_key {t.row}_row"
-    held = f"{key} {more} {t.row}_faithful"
     out = f"""
-rows : House → Room → List {t.kind if ' ' not in t.kind else f'({t.kind})'}
-rows house room = {t.rows}
-""".replace("rows :", "abbrev all_of :").replace("rows house", "all_of house")
-    stands = f"all_of (λ trees house room h. h.{t.name})"
+abbrev all_of : House → Room → List {kind}
+all_of house room = {t.rows}
+
+pub {t.name}_alone : StandsAlone room_schema {at} {t.name}_table
+{t.name}_alone = record {{ is_there = refl; unreferenced = λ olds news. refl; uncounted = refl }}
+
+abbrev pub {t.name}_held : IsHeld {typed} {t.name}_table all_of
+{t.name}_held = record {{ faithful = {t.row}_faithful; others = {more}; places_are = refl; at = {at}; alone = {t.name}_alone; held = λ trees house room h. h.{t.name} }}
+"""
 
     def selects(name, text, terms):
         return f"""
@@ -237,19 +235,26 @@ unfolding understood everything
 {name}_means = record {{ names = _; command = refl; plain = (refl, refl); unlisted = refl }}
 """
 
-    out += selects(f"all_{t.name}", f"ALL_{const}", "[]")
-    out += f"""
-pub all_{t.name}_are : ShowsAll {typed} {t.tree} {places} {key} ALL_{const}.now (λ house room. {t.rows})
-all_{t.name}_are = all_rows {typed} {t.tree} {held} {stands} ALL_{const}.now all_{t.name}_means
+    def chooses(name, text, args, terms, params, chosen, test, tell, same):
+        names = " ".join(re.findall(r"\(([^:]*) :", args))
+        return selects(name, text, terms) + f"""
+pub {name}_chooses : {args} → SelectsChosen {t.name}_table {t.row}_row {text}.now ({params}) ({chosen})
+{name}_chooses {names} = record {{ terms = {terms}; selects = {name}_means; chooses = record {{ test = λ r. {test}; tells = λ r. {tell}; same = λ x. {same} }} }}
 """
-    if t in KEYED and t.name != "points":
+
+    out += selects(f"all_{t.name}", f"ALL_{const}", "[]")
+    if t not in ROWS:
+        out += f"""
+pub all_{t.name}_are : ShowsAll {typed} {t.name}_table ALL_{const}.now all_of
+all_{t.name}_are = all_rows {t.name}_held ALL_{const}.now all_{t.name}_means
+"""
+    if t in KEYED:
         terms, params, test, same = key_parts(t)
-        out += selects(f"{t.row}_at", f"{one}_AT", terms)
+        out += chooses(f"{t.row}_at", f"{one}_AT", t.key["args"], terms, params, f"λ x. is_eq ({t.key['order']} {t.key['key']} ({t.row}_key x))", test, tells(t.key["params"]), same)
+    if t.name == "terminals":
         out += f"""
 pub {t.row}_at_is : {t.key['args']} → ShowsRow {t.row}_row {one}_AT.now ({params}) (λ found house room. found ≡ row_at {t.key['order']} {t.row}_key {t.rows} {t.key['key']})
-{t.row}_at_is {' '.join(re.findall(r'[jk](?= )', t.key['args']))} =
-    row_of_key {typed} {t.tree} {held} {stands} {one}_AT.now ({terms}) {t.row}_at_means
-    ({params}) (λ r. {test}) {t.key['key']} (λ r. {tells(t.key['params'])}) (λ x. {same})
+{t.row}_at_is k = row_of_key {t.name}_held {one}_AT.now ({params}) k ({t.row}_at_chooses k)
 """
     for l in t.loads:
         if "conditions" in l:
@@ -261,16 +266,19 @@ pub {t.row}_at_is : {t.key['args']} → ShowsRow {t.row}_row {one}_AT.now ({para
             tell = tells([c["test"](t.place(c["at"])) for c in cs], last)
         else:
             terms, params, test, tell, same = l["terms"], l["params"], l["test"], l["tells"], l["same"]
-        names = " ".join(re.findall(r"\(([^:]*) :", l["args"]))
-        out += selects(l["name"], l["text"], terms)
-        out += f"""
+        out += chooses(l["name"], l["text"], l["args"], terms, params, l["chosen"], test, tell, same)
+        if l["chosen"] != f"owns_{t.row} d":
+            names = " ".join(re.findall(r"\(([^:]*) :", l["args"]))
+            out += f"""
 pub {l['name']}_are : {l['args']} → Shows {t.row}_row {l['text']}.now ({params}) (λ found house room. found ≡ filter ({l['chosen']}) {t.rows})
-{l['name']}_are {names} =
-    chosen_rows {typed} {t.tree} {held} {stands} {l['text']}.now ({terms}) {l['name']}_means
-    ({params}) (λ r. {test}) ({l['chosen']}) (λ r. {tell}) (λ x. {same})
+{l['name']}_are {names} = chosen_rows {t.name}_held {l['text']}.now ({params}) ({l['chosen']}) ({l['name']}_chooses {names})
 """
-    # writes
-    kind = "rowid" if t.has_rowid() else "row"
+    return out + writes(t, at)
+
+
+# what is stored of a row in each column, and how a conflict with the row of its key is told
+def stored(t):
+    n, key, places = len(t.columns), t.key_places(), t.all_places()
     casts = {"N": "cast-Int _", "O": "cast-number_or_null _", "T": "refl", "U": "cast-text_or_null _", "B": "refl"}
     kept = [casts[c] for c in t.columns]
     if t.has_rowid():
@@ -283,38 +291,48 @@ pub {l['name']}_are : {l['args']} → Shows {t.row}_row {l['text']}.now ({params
         tie = f"conflict_of_one (column r {t.place(0)}) ({fields[0]}) refl"
     else:
         tie = f"conflict_of_two (column r 1) (column r 2) ({fields[0]}) ({fields[1]}) refl refl"
-    if t.has_rowid():
-        tail = {"meta": "number 2 ∷ Text x ∷ []",
-                "areas": "number x.1.division ∷ number x.1.rect.west ∷ number x.1.rect.south ∷ number x.1.rect.east ∷ number x.1.rect.north ∷ []",
-                "divisions": "number x.last_incident ∷ []"}[t.name]
-        stores = f"stores_rowid room_schema {t.name}_table {places} {key} {n} (pos {t.fields[0]}) ({tail})\n    {nested} refl refl (λ r. {tie}) (λ r. refl) (λ r. refl)"
-    else:
-        stores = f"stores_row room_schema {t.name}_table {places} {key} {n} ({t.row}_row x)\n    {nested} refl (λ id. refl) (λ id r. {tie}) (λ id r. refl) (λ id r. refl)"
-    out += f"""
-pub {t.name}_alone : StandsAlone room_schema {at} {t.name}_table
-{t.name}_alone = record {{ is_there = refl; unreferenced = λ olds news. refl; uncounted = refl }}
+    if not t.has_rowid():
+        return f"stores_row room_schema {t.name}_table {places} {key} {n} ({t.row}_row x)\n    {nested} refl (λ id. refl) (λ id r. {tie}) (λ id r. refl) (λ id r. refl)"
+    tail = {"meta": "number 2 ∷ Text x ∷ []",
+            "areas": "number x.1.division ∷ number x.1.rect.west ∷ number x.1.rect.south ∷ number x.1.rect.east ∷ number x.1.rect.north ∷ []",
+            "divisions": "number x.last_incident ∷ []"}[t.name]
+    return f"stores_rowid room_schema {t.name}_table {places} {key} {n} (pos {t.fields[0]}) ({tail})\n    {nested} refl refl (λ r. {tie}) (λ r. refl) (λ r. refl)"
 
+
+def writes(t, at):
+    n, key, one = len(t.columns), t.key_places(), t.row.upper()
+    typed = f"{t.key['order']} {t.row}_key {t.row}_row"
+    kind = "rowid" if t.has_rowid() else "row"
+    after = f"with_{t.name} old new house room h only _ is"
+    out = f"""
 pub put_{t.row}_means : Upserts room_schema PUT_{one}.now {at} {t.name}_table {key} {n} ({kind}_values {n}) ({kind}_update {n})
 unfolding understood everything
 put_{t.row}_means = record {{ command = refl; plain = (refl, refl) }}
 
-pub {t.row}_stores : (x : {t.kind}) → Stores room_schema {t.name}_table {places} {key} {n} ({kind}_values {n}) ({kind}_update {n}) ({t.row}_row x)
+pub {t.row}_stores : (x : {t.kind}) → Stores room_schema {t.name}_table {t.all_places()} {key} {n} ({kind}_values {n}) ({kind}_update {n}) ({t.row}_row x)
 unfolding Rattle.sqlite_value.specs.Keys.first_key
-{t.row}_stores x = {stores}
+{t.row}_stores x = {stored(t)}
+
+pub {t.row}_puts : PutsRow {t.name}_table {t.row}_row {at} PUT_{one}.now
+{t.row}_puts = record {{ columns = {n}; values = {kind}_values {n}; update = {kind}_update {n}; upserts = put_{t.row}_means; stores = {t.row}_stores }}
 """
-    if t.name in ("meta", "areas"):
-        return out
-    house, room = "λ house. house", f"λ room. apply_one room (Put{t.kind} x)"
-    if t.of == "house":
-        house, room = "λ house. record house { terminals = put_row token_cmp terminal_key house.terminals x }", "λ room. room"
-    goal = f"Makes old new (Put{t.kind} x)" if t.of == "room" else f"Changes old new ({house}) ({room})"
-    write_head = "(old new : State) (count : ℕ) → old.now.schema ≡ room_schema → Inside old new → Executes"
-    leads = f"(λ old new house room h only is. with_{t.name} old new house room h only _ is)"
-    out += f"""
-pub put_{t.row}_makes : (x : {t.kind}) {write_head} PUT_{one}.now ({t.row}_row x) old new (Ok count) → {goal}
-put_{t.row}_makes x =
-    put_changes {typed} {at} {t.name}_table {held} {t.name}_alone {stands} PUT_{one}.now {n} ({kind}_values {n}) ({kind}_update {n}) put_{t.row}_means x ({t.row}_stores x)
-    ({house}) ({room}) {leads}
+    if t.name == "terminals":
+        out += f"""
+pub put_{t.row}_makes : (x : {t.kind}) (old new : State) (count : ℕ) → old.now.schema ≡ room_schema → Inside old new → Executes PUT_{one}.now ({t.row}_row x) old new (Ok count)
+    → Changes old new (λ house. record house {{ terminals = put_row token_cmp terminal_key house.terminals x }}) (λ room. room)
+put_{t.row}_makes x = put_changes {t.name}_held PUT_{one}.now {t.row}_puts x (λ house. record house {{ terminals = put_row token_cmp terminal_key house.terminals x }}) (λ room. room) (λ old new house room h only is. {after})
+"""
+    if t in ROWS:
+        key_args = "k.0 k.1" if len(t.key["params"]) == 2 else "k"
+        out += f"""
+pub {t.name}_are : IsTable {typed} {t.key['cells']} {t.name}_table (λ room. {t.rows}) Put{t.kind} (record {{ all = ALL_{t.name.upper()}.now; at = {one}_AT.now; put = PUT_{one}.now }})
+{t.name}_are = record {{
+  is_held = {t.name}_held;
+  selects_all = all_{t.name}_means;
+  selects_at = λ k. {t.row}_at_chooses {key_args};
+  puts = {t.row}_puts;
+  leads = λ old new house room x h only is. {after};
+}}
 """
     if t.drops:
         terms, params, test, same = key_parts(t)
@@ -323,18 +341,20 @@ pub drop_{t.row}_means : Deletes room_schema DROP_{one}.now {at} {t.name}_table 
 unfolding understood everything
 drop_{t.row}_means = record {{ command = refl; plain = (refl, refl) }}
 
-pub drop_{t.row}_makes : {t.key['args']} {write_head} DROP_{one}.now ({params}) old new (Ok count) → Makes old new (Drop{t.kind} k)
-drop_{t.row}_makes k =
-    drop_changes {typed} {at} {t.name}_table {held} {t.name}_alone {stands} DROP_{one}.now ({terms}) drop_{t.row}_means
-    ({params}) (λ r. {test}) k (λ r. {tells(t.key['params'])}) (λ x. {same})
-    (λ house. house) (λ room. apply_one room (Drop{t.kind} k)) {leads}
+pub {t.name}_dropped : IsDropped {typed} {t.key['cells']} {t.name}_table (λ room. {t.rows}) Drop{t.kind} DROP_{one}.now
+{t.name}_dropped = record {{
+  at = {at};
+  alone = {t.name}_alone;
+  deletes = λ k. record {{ terms = {terms}; deletes = drop_{t.row}_means; chooses = record {{ test = λ r. {test}; tells = λ r. {tells(t.key['params'])}; same = λ x. {same} }} }};
+  leads = λ old new house room k h only is. {after};
+}}
 """
     return out
 
 
 def constants(t):
     names = [f"ALL_{t.name.upper()}", f"{t.row.upper()}_AT", f"PUT_{t.row.upper()}", f"DROP_{t.row.upper()}"] + [l["text"] for l in t.loads]
-    return {name: f"Rattle.room_tables.specs.declared.{t.name}.TheConstants" for name in names}
+    return {name: f"Rattle.room_statements.specs.declared.{t.name}.TheConstants" for name in names}
 
 
 def table_file(t):
@@ -369,91 +389,10 @@ def kept():
     return out + "    }\n"
 
 
-# ---- answers
-
-
-def answer(t, function, body, first):
-    home_of = dict(constants(t))
-    for name in re.findall(r"\b(\w+_(?:means|are|is|makes))\b", body):
-        home_of[name] = f"Rattle.room_tables.proofs.{table_file(t)}"
-    body = f"use Rattle.room_tables.proofs.{t.name}.{function}.Goals as goal\n" + body
-    write(f"{t.name}/{function}/Answers.antt", first, body, home_of.items())
-
-
-def plain(call, text, means):
-    return f"""
-pub {call}-requires : goal.{call}-requires
-{call}-requires g c clean = plain_here room_schema _ {text}.now (c.requires clean) {means}.plain
-"""
-
-
-EARLY = """    let old = state g.S.Store c.args.conn.now in
-    let early : HasCleanDisk old = omega (arith, c.CALL.ensures.survives.clean) in
-"""
-
-
-def load_answer(t, function, call, clause, text, law, args, facts, found="found"):
-    body = plain(call, text, f"{function}_means") + f"""
-pub returns-clause-{clause} : goal.returns-clause-{clause}
-returns-clause-{clause} g c clean =
-{EARLY.replace('CALL', call)}    IfOk-weaker c.{call}.result _ _ (λ found shown. {law} {args} old (state g.S.Store c.{call}.new.conn) {found} (c.requires early) (rw ({facts}) at shown)) (c.{call}.ensures.shown clean)
-"""
-    answer(t, function, body, "What was shown is what was asked for.")
-
-
-def all_answer(t):
-    function = f"all_{t.name}"
-    body = plain("load", f"ALL_{t.name.upper()}", f"{function}_means")
-    for clause, part in (("rows", "1"), ("found", "0")):
-        body += f"""
-pub returns-clause-{clause} : goal.returns-clause-{clause}
-returns-clause-{clause} g c clean =
-{EARLY.replace('CALL', 'load')}    IfOk-weaker c.load.result _ _ (λ found read. ({function}_are old (state g.S.Store c.load.new.conn) found (c.requires early) read.0 read.1).{part}) (ok_both c.load.result _ _ (c.load.ensures.shown clean) c.load.ensures.keyed)
-"""
-    answer(t, function, body, "What was shown is the whole table.")
-
-
-def write_answer(t, function, law, arg, fact):
-    body = f"""
-pub returns-clause-ok : goal.returns-clause-ok
-returns-clause-ok g c clean =
-    let early : HasCleanDisk (state g.S.Store c.args.tx.now.conn.now) = omega (arith, c.write.ensures.survives.clean) in
-    {law} {arg} _ _ _ (c.requires.schema early) (c.in_ok-write.ensures.ok clean) (rw {fact} at (c.in_ok-write.ensures.ran clean))
-"""
-    answer(t, function, body, "What ran is the change.")
-
-
-def stores(count):
-    return ", ".join(f"c.store{'' if i == 0 else f'-{i + 1}'}.ensures" for i in range(count))
-
-
-# what a load passes on of its parameters, and which facts tell them
-KEY_ARGS = {"divisions": "c.args.number", "incidents": "c.args.division c.args.number", "calls": "c.args.position c.args.serial", "terminals": "c.args.token.now",
-            "turns": "c.args.callsign.now c.args.order", "reports": "c.args.callsign.now c.args.number"}
-LOAD_ARGS = {"active_incidents": ("c.args.division", "c.store.ensures, c.store-2.ensures, c.number-active.ensures"),
-             "incidents_opened": ("c.args.from c.args.to c.args.division", "c.second.ensures, to_z-of_z w64 c.args.from c.ranges.from, c.second-2.ensures, to_z-of_z w64 c.args.to c.ranges.to, c.store.ensures"),
-             "calls_of": ("c.args.division c.args.incident", stores(2)), "turns_of": ("c.args.division c.args.incident", stores(2)),
-             "uncleared_reports": ("c.args.outcome c.args.division", stores(3)), "crew_terminals": ("c.args.callsign.now", stores(1))}
-
-
 def main():
     write("Kept.antt", "Where one table alone changed, the tables stand for the room with that table's rows.", kept())
     for at, t in enumerate(TABLES):
-        write(f"{table_file(t)}.antt", f"What the statements on the table {t.name} make of a room.", laws(t, at), constants(t).items())
-        if t.name not in ("meta", "areas"):
-            write_answer(t, f"put_{t.row}", f"put_{t.row}_makes", f"c.args.{t.row}.now", f"c.{t.row}_columns.ensures")
-        if t.drops:
-            write_answer(t, f"drop_{t.row}", f"drop_{t.row}_makes", "c.args.callsign.now", "c.store.ensures")
-        if t in ROWS:
-            all_answer(t)
-        if t in KEYED and t.name != "points":
-            load_answer(t, f"{t.row}_at", "find", "row", f"{t.row.upper()}_AT", f"{t.row}_at_is", KEY_ARGS.get(t.name, "c.args.callsign.now"), stores(len(t.key["params"])))
-        for l in t.loads:
-            args, facts = LOAD_ARGS.get(l["name"], ("c.args.division", stores(1)))
-            if t in ROWS:
-                load_answer(t, l["name"], "load", "rows", l["text"], f"{l['name']}_are", args, facts)
-            else:
-                load_answer(t, l["name"], "list", "terminals", l["text"], f"{l['name']}_are", args, facts, "found.items")
+        write(f"{table_file(t)}.antt", f"What the statements on the table {t.name} say, and what they make of a room.", laws(t, at), constants(t).items())
 
 
 if __name__ == "__main__":

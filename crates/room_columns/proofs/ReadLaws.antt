@@ -1,15 +1,13 @@
 -- What a reader tells of numbers, of the numbers of codes, and of texts.
-use Rattle.std.proofs.Common.{◌≡◌, ◌<◌, ◌&&◌, ◌||◌, ◌∙◌, not, nat_eq, ℕ, zero, suc, List, [], ◌∷◌, Bool, true, false, Option, Some, None, Result, Ok, Err, MatchResult, is_some, is_ok, refl, sym, ap, arith}
-use Rattle.std.specs.List.{list_all}
-use Rattle.std.specs.Str.{IsAscii, IsUtf8, is_utf8}
+use Rattle.std.proofs.Common.{◌≡◌, ◌<◌, ◌&&◌, ◌||◌, ◌∙◌, not, nat_eq, ℕ, zero, suc, List, Bool, true, false, Option, Some, None, Result, Ok, Err, MatchResult, is_some, is_ok, refl, sym, ap, arith}
+use Rattle.std.specs.Str.{IsUtf8, is_utf8}
+use Rattle.std.proofs.lemmas.Bool.{and_parts}
 use Rattle.std.proofs.lemmas.Bool.Decides.{nat_tests}
-use Rattle.std.proofs.lemmas.Str.{IsUtf8-from_ascii, is_utf8-from_IsUtf8, IsUtf8-from_is_utf8}
-use Rattle.std.proofs.lemmas.Str.Ascii.{IsAscii-nil, IsAscii-cons}
+use Rattle.std.proofs.lemmas.Str.{is_utf8-from_IsUtf8, IsUtf8-from_is_utf8}
 use Rattle.sqlite_value.specs.declared.value.Value.{Value}
 use Rattle.sqlite_value.specs.declared.value.Value.TheVariants.{Null, Int, Real, Text, Blob}
 use Rattle.table_laws.specs.Typed.{number, number_or_null}
 use Rattle.room_types.specs.Codes.{Decodes, kind_number, status_number, button_number, outcome_number, state_columns, state_number, merged_into}
-use Rattle.room_types.specs.Texts.{is_callsign, is_callsign_letter, is_token, is_token_letter}
 use Rattle.room_types.specs.declared.codes.Kind.{Kind}
 use Rattle.room_types.specs.declared.codes.Kind.TheVariants.{Ambulance, Car, Support}
 use Rattle.room_types.specs.declared.codes.Status.{Status}
@@ -28,11 +26,6 @@ taken e = cc
 
 -- ---- codes
 
-both : (a b : Bool) → (a && b) ≡ true → (a ≡ true) × (b ≡ true)
-both true true h = (refl, refl)
-both true false h = absurd (cc)
-both false b h = absurd (cc)
-
 -- what passes for each number below a bound
 abbrev all_below : ℕ → (ℕ → Bool) → Bool
 all_below zero test = true
@@ -41,7 +34,7 @@ all_below (suc n) test = test n && all_below n test
 passes_below : (bound : ℕ) (test : ℕ → Bool) → all_below bound test ≡ true → (n : ℕ) → n < bound → test n ≡ true
 passes_below zero test all n below = absurd (omega arith)
 passes_below (suc k) test all n below =
-    let here = both (test k) (all_below k test) all in
+    let here = and_parts (test k) (all_below k test) all in
     go (nat_eq n k) refl here.0 (λ less. passes_below k test here.1 n less)
   where
     go : (b : Bool) → nat_eq n k ≡ b → test k ≡ true → (n < k → test n ≡ true) → test n ≡ true
@@ -138,32 +131,12 @@ state_read state into n o read h is_state_column is_into_column fits =
 
 -- ---- texts
 
-letters_are_text : (test : ℕ → Bool) → ((b : ℕ) → test b ≡ true → b < 128) → (text : List ℕ) → list_all test text ≡ true → is_utf8 text ≡ true
-letters_are_text test low text all = is_utf8-from_IsUtf8 text (IsUtf8-from_ascii text (ascii text all))
-  where
-    ascii : (l : List ℕ) → list_all test l ≡ true → IsAscii l
-    ascii [] h = IsAscii-nil
-    ascii (b ∷ l) h = let parts = both (test b) (list_all test l) h in IsAscii-cons b l (low b parts.0) (ascii l parts.1)
-
-callsign_letter : (b : ℕ) → is_callsign_letter b ≡ true → b < 128
-callsign_letter b h = grind (arith, nat_tests)
-
-token_letter : (b : ℕ) → is_token_letter b ≡ true → b < 128
-token_letter b h = grind (arith, nat_tests)
-
--- callsigns and tokens are texts
-pub callsign_is_text : (text : List ℕ) → is_callsign text ≡ true → is_utf8 text ≡ true
-callsign_is_text text is = letters_are_text is_callsign_letter callsign_letter text (both _ (list_all is_callsign_letter text) is).1
-
-pub token_is_text : (text : List ℕ) → is_token text ≡ true → is_utf8 text ≡ true
-token_is_text text is = letters_are_text is_token_letter token_letter text (both _ (list_all is_token_letter text) is).1
-
 -- no text, no callsign and no token
-pub no_letters : (test : List ℕ → Bool) → ((text : List ℕ) → test text ≡ true → is_utf8 text ≡ true) → (v : Value) → false ≡ is_text is_utf8 v → false ≡ is_text test v
+pub no_letters : (test : List ℕ → Bool) → ((text : List ℕ) → test text ≡ true → IsUtf8 text) → (v : Value) → false ≡ is_text is_utf8 v → false ≡ is_text test v
 no_letters test texts (Text t) none = go (test t) (texts t)
   where
-    go : (b : Bool) → (b ≡ true → is_utf8 t ≡ true) → false ≡ b
-    go true is = none ∙ is refl
+    go : (b : Bool) → (b ≡ true → IsUtf8 t) → false ≡ b
+    go true is = none ∙ is_utf8-from_IsUtf8 t (is refl)
     go false is = refl
 no_letters test texts Null none = refl
 no_letters test texts (Int n) none = refl

@@ -41,9 +41,13 @@ is_truth v = is_number 0 1 v
 abbrev pub is_division : Value → Bool
 is_division v = is_number 1 9 v
 
--- a position, or a standby point
-abbrev pub is_post : Value → Bool
-is_post v = is_number 1 99 v
+-- a call taker's position
+abbrev pub is_position : Value → Bool
+is_position v = is_number 1 99 v
+
+-- a standby point of a division, or the one where a vehicle is posted
+abbrev pub is_point : Value → Bool
+is_point v = is_number 1 99 v
 
 abbrev pub is_class : Value → Bool
 is_class v = is_number 1 3 v
@@ -96,7 +100,7 @@ is_state state into = (is_number 0 1 state && is_null into) || (is_number 2 2 st
 abbrev pub is_who : Value → Value → Value → Bool
 is_who role n callsign =
     (is_number 0 0 role && is_division n && is_null callsign)
-    || (is_number 1 1 role && is_post n && is_null callsign)
+    || (is_number 1 1 role && is_position n && is_null callsign)
     || (is_number 2 2 role && is_number 0 0 n && is_name callsign)
 
 -- ---- a row
@@ -123,14 +127,14 @@ is_incident_row r =
 
 abbrev pub is_call_row : Row → Bool
 is_call_row r =
-    length r == 14 && is_post (column r 0) && is_serial (column r 1) && is_division (column r 2) && is_serial (column r 3)
+    length r == 14 && is_position (column r 0) && is_serial (column r 1) && is_division (column r 2) && is_serial (column r 3)
     && is_serial (column r 4) && is_truth (column r 5) && is_place (column r 6) (column r 7) && is_class (column r 8)
     && is_needs (column r 9) (column r 10) (column r 11) && is_note (column r 12) && is_moment (column r 13)
 
 abbrev pub is_vehicle_row : Row → Bool
 is_vehicle_row r =
     length r == 11 && is_name (column r 0) && is_division (column r 1) && is_division (column r 2) && is_kind (column r 3)
-    && is_place (column r 4) (column r 5) && is_status (column r 6) && is_moment (column r 7) && is_or_null is_post (column r 8)
+    && is_place (column r 4) (column r 5) && is_status (column r 6) && is_moment (column r 7) && is_or_null is_point (column r 8)
     && is_last (column r 9) && is_last (column r 10)
 
 abbrev pub is_turn_row : Row → Bool
@@ -145,7 +149,7 @@ is_assignment_row r =
     && is_place (column r 4) (column r 5) && is_class (column r 6)
 
 abbrev pub is_point_row : Row → Bool
-is_point_row r = length r == 5 && is_division (column r 0) && is_post (column r 1) && is_place (column r 2) (column r 3) && is_count (column r 4)
+is_point_row r = length r == 5 && is_division (column r 0) && is_point (column r 1) && is_place (column r 2) (column r 3) && is_count (column r 4)
 
 abbrev pub is_loan_row : Row → Bool
 is_loan_row r =

@@ -1,4 +1,4 @@
--- The columns of each row, in the order of its table, and the row that columns stand for.
+-- The columns of each row and of its key, in the order of its table, and the row that columns stand for.
 use Rattle.std.specs.Prelude.{ℕ, List, [], ◌∷◌, Option, Some, None, if◌then◌else◌, ◌==◌}
 use Rattle.sqlite_value.specs.declared.value.Value.TheVariants.{Text, Blob}
 use Rattle.sqlite_value.specs.Order.{Row, column}
@@ -230,3 +230,21 @@ offer_in r = record {
   since = number_in (column r 3);
   until = number_in (column r 4);
 }
+
+-- ---- the columns of a key, in the order of its table
+
+-- a key of one number
+abbrev pub number_cells : ℕ → Row
+number_cells k = number k ∷ []
+
+-- a key of one text
+abbrev pub text_cells : List ℕ → Row
+text_cells k = Text k ∷ []
+
+-- a key of two numbers
+abbrev pub pair_cells : ℕ × ℕ → Row
+pair_cells k = number k.0 ∷ number k.1 ∷ []
+
+-- a key of a callsign and a number
+abbrev pub numbered_cells : Callsign × ℕ → Row
+numbered_cells k = Text k.0 ∷ number k.1 ∷ []

@@ -1,15 +1,14 @@
 //! Assignments as rows of SQL.
 
-ghost use Rattle.std.specs.Prelude.{◌≡◌};
-ghost use Rattle.sqlite.specs.Values.{bound};
 ghost use Rattle.room_columns.specs.Readable.{is_assignment_row};
-ghost use Rattle.room_columns.specs.Rows.{assignment_row};
+ghost use Rattle.room_columns.specs.Rows.{assignment_row, text_cells};
 
 use crate::columns::{Field, Stored, value_at};
+use crate::rows::{Columns, StoredRow};
 use room_place::places::Place;
+use room_types::callsign::Callsign;
 use room_types::tables::Assignment;
 use sqlite::Row;
-use sqlite_value::value::ValueRef;
 
 impl Stored for Assignment {
     ghost cells = { assignment_row };
@@ -34,17 +33,22 @@ impl Stored for Assignment {
     }
 }
 
-/// The columns of an assignment.
-pub fn assignment_columns(assignment: &Assignment) -> [ValueRef<'_>; 7]
-    ensures { bound result ≡ assignment_row assignment.now }
-{
-    [
-        assignment.callsign.store(),
-        assignment.division.store(),
-        assignment.incident.store(),
-        assignment.order.store(),
-        assignment.place.east.store(),
-        assignment.place.north.store(),
-        assignment.class.store(),
-    ]
+impl StoredRow for Assignment {
+    ghost key_cells = { text_cells };
+
+    fn columns(&self) -> Columns<'_> {
+        Columns::of(&[
+            self.callsign.store(),
+            self.division.store(),
+            self.incident.store(),
+            self.order.store(),
+            self.place.east.store(),
+            self.place.north.store(),
+            self.class.store(),
+        ])
+    }
+
+    fn key_columns(key: &Callsign) -> Columns<'_> {
+        Columns::of(&[key.store()])
+    }
 }

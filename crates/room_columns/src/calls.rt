@@ -1,16 +1,15 @@
 //! Calls as rows of SQL.
 
-ghost use Rattle.std.specs.Prelude.{◌≡◌};
-ghost use Rattle.sqlite.specs.Values.{bound};
 ghost use Rattle.room_columns.specs.Readable.{is_call_row};
-ghost use Rattle.room_columns.specs.Rows.{call_row};
+ghost use Rattle.room_columns.specs.Rows.{call_row, pair_cells};
 
 use crate::columns::{Field, Stored, integer, value_at};
+use crate::rows::{Columns, StoredRow};
 use room_place::places::Place;
 use room_types::needs::{Counts, Needs};
+use room_types::numbers::{Number, PositionNumber};
 use room_types::tables::Call;
 use sqlite::Row;
-use sqlite_value::value::ValueRef;
 
 impl Stored for Call {
     ghost cells = { call_row };
@@ -44,25 +43,30 @@ impl Stored for Call {
     }
 }
 
-/// The columns of a call.
-pub fn call_columns(call: &Call) -> [ValueRef<'_>; 14]
-    ensures { bound result ≡ call_row call.now }
-{
-    let counts = call.needs.counts();
-    [
-        call.position.store(),
-        call.serial.store(),
-        call.division.store(),
-        call.incident.store(),
-        call.given.store(),
-        call.linked.store(),
-        call.place.east.store(),
-        call.place.north.store(),
-        call.class.store(),
-        integer(counts.ambulances.get()),
-        integer(counts.cars.get()),
-        integer(counts.support.get()),
-        call.note.store(),
-        call.at.store(),
-    ]
+impl StoredRow for Call {
+    ghost key_cells = { pair_cells };
+
+    fn columns(&self) -> Columns<'_> {
+        let counts = self.needs.counts();
+        Columns::of(&[
+            self.position.store(),
+            self.serial.store(),
+            self.division.store(),
+            self.incident.store(),
+            self.given.store(),
+            self.linked.store(),
+            self.place.east.store(),
+            self.place.north.store(),
+            self.class.store(),
+            integer(counts.ambulances.get()),
+            integer(counts.cars.get()),
+            integer(counts.support.get()),
+            self.note.store(),
+            self.at.store(),
+        ])
+    }
+
+    fn key_columns(key: &(PositionNumber, Number)) -> Columns<'_> {
+        Columns::of(&[key.0.store(), key.1.store()])
+    }
 }

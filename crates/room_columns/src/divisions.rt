@@ -1,14 +1,13 @@
 //! Divisions as rows of SQL.
 
-ghost use Rattle.std.specs.Prelude.{◌≡◌};
-ghost use Rattle.sqlite.specs.Values.{bound};
 ghost use Rattle.room_columns.specs.Readable.{is_division_row};
-ghost use Rattle.room_columns.specs.Rows.{division_row};
+ghost use Rattle.room_columns.specs.Rows.{division_row, number_cells};
 
 use crate::columns::{Field, Stored, value_at};
+use crate::rows::{Columns, StoredRow};
+use room_place::plans::DivisionNumber;
 use room_types::tables::Division;
 use sqlite::Row;
-use sqlite_value::value::ValueRef;
 
 impl Stored for Division {
     ghost cells = { division_row };
@@ -26,9 +25,14 @@ impl Stored for Division {
     }
 }
 
-/// The columns of a division.
-pub fn division_columns(division: &Division) -> [ValueRef<'_>; 2]
-    ensures { bound result ≡ division_row division.now }
-{
-    [division.number.store(), division.last_incident.store()]
+impl StoredRow for Division {
+    ghost key_cells = { number_cells };
+
+    fn columns(&self) -> Columns<'_> {
+        Columns::of(&[self.number.store(), self.last_incident.store()])
+    }
+
+    fn key_columns(key: &DivisionNumber) -> Columns<'_> {
+        Columns::of(&[key.store()])
+    }
 }

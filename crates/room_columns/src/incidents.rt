@@ -1,17 +1,19 @@
 //! Incidents as rows of SQL.
 
 ghost use Rattle.std.specs.Prelude.{◌≡◌};
-ghost use Rattle.sqlite.specs.Values.{bound};
 ghost use Rattle.sqlite_value.specs.Value.{owned};
 ghost use Rattle.table_laws.specs.Typed.{number, number_or_null};
 ghost use Rattle.room_types.specs.Codes.{state_number, merged_into};
 ghost use Rattle.room_columns.specs.Readable.{is_incident_row};
-ghost use Rattle.room_columns.specs.Rows.{incident_row};
+ghost use Rattle.room_columns.specs.Rows.{incident_row, pair_cells};
 
 use crate::columns::{Field, Stored, integer, value_at};
+use crate::rows::{Columns, StoredRow};
 use room_place::places::Place;
+use room_place::plans::DivisionNumber;
 use room_types::codes::State;
 use room_types::needs::{Counts, Needs};
+use room_types::numbers::Number;
 use room_types::tables::Incident;
 use sqlite::Row;
 use sqlite_value::value::ValueRef;
@@ -45,25 +47,30 @@ impl Stored for Incident {
     }
 }
 
-/// The columns of an incident.
-pub fn incident_columns(incident: &Incident) -> [ValueRef<'_>; 12]
-    ensures { bound result ≡ incident_row incident.now }
-{
-    let counts = incident.needs.counts();
-    [
-        incident.division.store(),
-        incident.number.store(),
-        incident.place.east.store(),
-        incident.place.north.store(),
-        incident.class.store(),
-        integer(counts.ambulances.get()),
-        integer(counts.cars.get()),
-        integer(counts.support.get()),
-        incident.opened.store(),
-        incident.first_order.store(),
-        state_code(incident.state),
-        merged_code(incident.state),
-    ]
+impl StoredRow for Incident {
+    ghost key_cells = { pair_cells };
+
+    fn columns(&self) -> Columns<'_> {
+        let counts = self.needs.counts();
+        Columns::of(&[
+            self.division.store(),
+            self.number.store(),
+            self.place.east.store(),
+            self.place.north.store(),
+            self.class.store(),
+            integer(counts.ambulances.get()),
+            integer(counts.cars.get()),
+            integer(counts.support.get()),
+            self.opened.store(),
+            self.first_order.store(),
+            state_code(self.state),
+            merged_code(self.state),
+        ])
+    }
+
+    fn key_columns(key: &(DivisionNumber, Number)) -> Columns<'_> {
+        Columns::of(&[key.0.store(), key.1.store()])
+    }
 }
 
 // The number of a state.

@@ -13,6 +13,7 @@ pub mod meta;
 pub mod offers;
 pub mod points;
 pub mod reports;
+pub mod rows;
 pub mod terminals;
 pub mod turns;
 pub mod vehicles;

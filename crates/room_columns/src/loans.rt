@@ -1,14 +1,13 @@
 //! Loans as rows of SQL.
 
-ghost use Rattle.std.specs.Prelude.{◌≡◌};
-ghost use Rattle.sqlite.specs.Values.{bound};
 ghost use Rattle.room_columns.specs.Readable.{is_loan_row};
-ghost use Rattle.room_columns.specs.Rows.{loan_row};
+ghost use Rattle.room_columns.specs.Rows.{loan_row, text_cells};
 
 use crate::columns::{Field, Stored, value_at};
+use crate::rows::{Columns, StoredRow};
+use room_types::callsign::Callsign;
 use room_types::tables::Loan;
 use sqlite::Row;
-use sqlite_value::value::ValueRef;
 
 impl Stored for Loan {
     ghost cells = { loan_row };
@@ -30,16 +29,21 @@ impl Stored for Loan {
     }
 }
 
-/// The columns of a loan.
-pub fn loan_columns(loan: &Loan) -> [ValueRef<'_>; 6]
-    ensures { bound result ≡ loan_row loan.now }
-{
-    [
-        loan.callsign.store(),
-        loan.lender.store(),
-        loan.borrower.store(),
-        loan.since.store(),
-        loan.until.store(),
-        loan.recalled.store(),
-    ]
+impl StoredRow for Loan {
+    ghost key_cells = { text_cells };
+
+    fn columns(&self) -> Columns<'_> {
+        Columns::of(&[
+            self.callsign.store(),
+            self.lender.store(),
+            self.borrower.store(),
+            self.since.store(),
+            self.until.store(),
+            self.recalled.store(),
+        ])
+    }
+
+    fn key_columns(key: &Callsign) -> Columns<'_> {
+        Columns::of(&[key.store()])
+    }
 }

@@ -1,14 +1,13 @@
 //! Offers as rows of SQL.
 
-ghost use Rattle.std.specs.Prelude.{◌≡◌};
-ghost use Rattle.sqlite.specs.Values.{bound};
 ghost use Rattle.room_columns.specs.Readable.{is_offer_row};
-ghost use Rattle.room_columns.specs.Rows.{offer_row};
+ghost use Rattle.room_columns.specs.Rows.{offer_row, text_cells};
 
 use crate::columns::{Field, Stored, value_at};
+use crate::rows::{Columns, StoredRow};
+use room_types::callsign::Callsign;
 use room_types::tables::Offer;
 use sqlite::Row;
-use sqlite_value::value::ValueRef;
 
 impl Stored for Offer {
     ghost cells = { offer_row };
@@ -29,15 +28,20 @@ impl Stored for Offer {
     }
 }
 
-/// The columns of an offer.
-pub fn offer_columns(offer: &Offer) -> [ValueRef<'_>; 5]
-    ensures { bound result ≡ offer_row offer.now }
-{
-    [
-        offer.callsign.store(),
-        offer.lender.store(),
-        offer.borrower.store(),
-        offer.since.store(),
-        offer.until.store(),
-    ]
+impl StoredRow for Offer {
+    ghost key_cells = { text_cells };
+
+    fn columns(&self) -> Columns<'_> {
+        Columns::of(&[
+            self.callsign.store(),
+            self.lender.store(),
+            self.borrower.store(),
+            self.since.store(),
+            self.until.store(),
+        ])
+    }
+
+    fn key_columns(key: &Callsign) -> Columns<'_> {
+        Columns::of(&[key.store()])
+    }
 }

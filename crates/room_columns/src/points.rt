@@ -1,15 +1,15 @@
 //! Points as rows of SQL.
 
-ghost use Rattle.std.specs.Prelude.{◌≡◌};
-ghost use Rattle.sqlite.specs.Values.{bound};
 ghost use Rattle.room_columns.specs.Readable.{is_point_row};
-ghost use Rattle.room_columns.specs.Rows.{point_row};
+ghost use Rattle.room_columns.specs.Rows.{point_row, pair_cells};
 
 use crate::columns::{Field, Stored, value_at};
+use crate::rows::{Columns, StoredRow};
 use room_place::places::Place;
+use room_place::plans::DivisionNumber;
+use room_types::numbers::PointNumber;
 use room_types::tables::Point;
 use sqlite::Row;
-use sqlite_value::value::ValueRef;
 
 impl Stored for Point {
     ghost cells = { point_row };
@@ -32,15 +32,20 @@ impl Stored for Point {
     }
 }
 
-/// The columns of a point.
-pub fn point_columns(point: &Point) -> [ValueRef<'_>; 5]
-    ensures { bound result ≡ point_row point.now }
-{
-    [
-        point.division.store(),
-        point.number.store(),
-        point.place.east.store(),
-        point.place.north.store(),
-        point.cover.store(),
-    ]
+impl StoredRow for Point {
+    ghost key_cells = { pair_cells };
+
+    fn columns(&self) -> Columns<'_> {
+        Columns::of(&[
+            self.division.store(),
+            self.number.store(),
+            self.place.east.store(),
+            self.place.north.store(),
+            self.cover.store(),
+        ])
+    }
+
+    fn key_columns(key: &(DivisionNumber, PointNumber)) -> Columns<'_> {
+        Columns::of(&[key.0.store(), key.1.store()])
+    }
 }

@@ -1,15 +1,15 @@
 //! Reports as rows of SQL.
 
-ghost use Rattle.std.specs.Prelude.{◌≡◌};
-ghost use Rattle.sqlite.specs.Values.{bound};
 ghost use Rattle.room_columns.specs.Readable.{is_report_row};
-ghost use Rattle.room_columns.specs.Rows.{report_row};
+ghost use Rattle.room_columns.specs.Rows.{report_row, numbered_cells};
 
 use crate::columns::{Field, Stored, value_at};
+use crate::rows::{Columns, StoredRow};
 use room_place::places::Place;
+use room_types::callsign::Callsign;
+use room_types::numbers::Number;
 use room_types::tables::Report;
 use sqlite::Row;
-use sqlite_value::value::ValueRef;
 
 impl Stored for Report {
     ghost cells = { report_row };
@@ -38,21 +38,26 @@ impl Stored for Report {
     }
 }
 
-/// The columns of a report.
-pub fn report_columns(report: &Report) -> [ValueRef<'_>; 11]
-    ensures { bound result ≡ report_row report.now }
-{
-    [
-        report.callsign.store(),
-        report.number.store(),
-        report.button.store(),
-        report.order.store(),
-        report.place.east.store(),
-        report.place.north.store(),
-        report.at.store(),
-        report.division.store(),
-        report.outcome.store(),
-        report.status.store(),
-        report.cleared.store(),
-    ]
+impl StoredRow for Report {
+    ghost key_cells = { numbered_cells };
+
+    fn columns(&self) -> Columns<'_> {
+        Columns::of(&[
+            self.callsign.store(),
+            self.number.store(),
+            self.button.store(),
+            self.order.store(),
+            self.place.east.store(),
+            self.place.north.store(),
+            self.at.store(),
+            self.division.store(),
+            self.outcome.store(),
+            self.status.store(),
+            self.cleared.store(),
+        ])
+    }
+
+    fn key_columns(key: &(Callsign, Number)) -> Columns<'_> {
+        Columns::of(&[key.0.store(), key.1.store()])
+    }
 }

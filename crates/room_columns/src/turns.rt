@@ -1,14 +1,14 @@
 //! Turns as rows of SQL.
 
-ghost use Rattle.std.specs.Prelude.{◌≡◌};
-ghost use Rattle.sqlite.specs.Values.{bound};
 ghost use Rattle.room_columns.specs.Readable.{is_turn_row};
-ghost use Rattle.room_columns.specs.Rows.{turn_row};
+ghost use Rattle.room_columns.specs.Rows.{turn_row, numbered_cells};
 
 use crate::columns::{Field, Stored, value_at};
+use crate::rows::{Columns, StoredRow};
+use room_types::callsign::Callsign;
+use room_types::numbers::Number;
 use room_types::tables::Turn;
 use sqlite::Row;
-use sqlite_value::value::ValueRef;
 
 impl Stored for Turn {
     ghost cells = { turn_row };
@@ -36,22 +36,27 @@ impl Stored for Turn {
     }
 }
 
-/// The columns of a turn.
-pub fn turn_columns(turn: &Turn) -> [ValueRef<'_>; 12]
-    ensures { bound result ≡ turn_row turn.now }
-{
-    [
-        turn.callsign.store(),
-        turn.order.store(),
-        turn.division.store(),
-        turn.incident.store(),
-        turn.kind.store(),
-        turn.ordered.store(),
-        turn.acknowledged.store(),
-        turn.scene.store(),
-        turn.left.store(),
-        turn.hospital.store(),
-        turn.ended.store(),
-        turn.stood_down.store(),
-    ]
+impl StoredRow for Turn {
+    ghost key_cells = { numbered_cells };
+
+    fn columns(&self) -> Columns<'_> {
+        Columns::of(&[
+            self.callsign.store(),
+            self.order.store(),
+            self.division.store(),
+            self.incident.store(),
+            self.kind.store(),
+            self.ordered.store(),
+            self.acknowledged.store(),
+            self.scene.store(),
+            self.left.store(),
+            self.hospital.store(),
+            self.ended.store(),
+            self.stood_down.store(),
+        ])
+    }
+
+    fn key_columns(key: &(Callsign, Number)) -> Columns<'_> {
+        Columns::of(&[key.0.store(), key.1.store()])
+    }
 }

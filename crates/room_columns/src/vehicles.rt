@@ -1,15 +1,14 @@
 //! Vehicles as rows of SQL.
 
-ghost use Rattle.std.specs.Prelude.{◌≡◌};
-ghost use Rattle.sqlite.specs.Values.{bound};
 ghost use Rattle.room_columns.specs.Readable.{is_vehicle_row};
-ghost use Rattle.room_columns.specs.Rows.{vehicle_row};
+ghost use Rattle.room_columns.specs.Rows.{vehicle_row, text_cells};
 
 use crate::columns::{Field, Stored, value_at};
+use crate::rows::{Columns, StoredRow};
 use room_place::places::Place;
+use room_types::callsign::Callsign;
 use room_types::tables::Vehicle;
 use sqlite::Row;
-use sqlite_value::value::ValueRef;
 
 impl Stored for Vehicle {
     ghost cells = { vehicle_row };
@@ -38,21 +37,26 @@ impl Stored for Vehicle {
     }
 }
 
-/// The columns of a vehicle.
-pub fn vehicle_columns(vehicle: &Vehicle) -> [ValueRef<'_>; 11]
-    ensures { bound result ≡ vehicle_row vehicle.now }
-{
-    [
-        vehicle.callsign.store(),
-        vehicle.home.store(),
-        vehicle.holder.store(),
-        vehicle.kind.store(),
-        vehicle.place.east.store(),
-        vehicle.place.north.store(),
-        vehicle.status.store(),
-        vehicle.shift_end.store(),
-        vehicle.post.store(),
-        vehicle.last_order.store(),
-        vehicle.last_report.store(),
-    ]
+impl StoredRow for Vehicle {
+    ghost key_cells = { text_cells };
+
+    fn columns(&self) -> Columns<'_> {
+        Columns::of(&[
+            self.callsign.store(),
+            self.home.store(),
+            self.holder.store(),
+            self.kind.store(),
+            self.place.east.store(),
+            self.place.north.store(),
+            self.status.store(),
+            self.shift_end.store(),
+            self.post.store(),
+            self.last_order.store(),
+            self.last_report.store(),
+        ])
+    }
+
+    fn key_columns(key: &Callsign) -> Columns<'_> {
+        Columns::of(&[key.store()])
+    }
 }

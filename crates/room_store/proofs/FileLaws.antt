@@ -12,7 +12,7 @@ use Rattle.room_model.specs.Enrol.{AreTerminals}
 use Rattle.room_model.specs.Room.{Room}
 use Rattle.room_model.specs.WellFormed.{IsWellFormed}
 use Rattle.room_schema.specs.Schema.{room_tables}
-use Rattle.room_tables.proofs.OneRoom.{one_house, one_room}
+use Rattle.room_statements.proofs.OneRoom.{one_house, one_room}
 use Rattle.room_tables.specs.Stands.{House, Stands}
 use Rattle.room_store.specs.Keeping.{house_of}
 use Rattle.room_store.specs.Opening.{HoldsRoom, KeepsRoom, StandsAs}

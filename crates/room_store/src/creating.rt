@@ -21,7 +21,7 @@ use room_schema::faults::Fault;
 use room_schema::making::make;
 use room_schema::testing::is_empty;
 use room_tables::areas::put_area;
-use room_tables::divisions::put_division;
+use room_tables::changing::put;
 use room_tables::meta::put_meta;
 use room_tables::terminals::put_terminal;
 use room_types::asks::Who;
@@ -285,7 +285,7 @@ fn put_new_division<S: Alter>(
     if !plan.has(number) {
         return Ok(());
     }
-    put_division(
+    put(
         tx,
         &Division {
             number,

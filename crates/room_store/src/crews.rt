@@ -11,16 +11,11 @@ ghost use Rattle.room_tables.specs.Stands.{House, Stands};
 ghost use Rattle.room_store.specs.CrewParts.{IsSent, IsLent, IsCrewOf};
 
 use room_schema::faults::Fault;
-use room_tables::assignments::assignment_at;
-use room_tables::loans::loan_at;
-use room_tables::offers::offer_at;
-use room_tables::reports::report_at;
-use room_tables::turns::turn_at;
-use room_tables::vehicles::vehicle_at;
+use room_tables::loading::row_at;
 use room_types::callsign::Callsign;
 use room_types::crews::CrewRows;
 use room_types::numbers::Number;
-use room_types::tables::{Assignment, Loan, Offer, Turn, Vehicle};
+use room_types::tables::{Assignment, Loan, Offer, Report, Turn, Vehicle};
 use sqlite::{Alter, Connection};
 
 /// The rows of a vehicle, and of its reports that of one number; none where there is no such
@@ -37,12 +32,12 @@ pub fn load_crew<S: Alter>(
     ensures mode { conn.old.in_transaction ≡ false → conn.new.in_transaction ≡ false }
     ensures survives { Survives (state S.Store conn.old) (state S.Store conn.new) (λ _. ⊥) }
 {
-    let found = vehicle_at(conn, callsign)?;
+    let found = row_at::<Vehicle, S>(conn, callsign)?;
     match found {
         Some(vehicle) => {
             let sent = load_sent(conn, &vehicle)?;
             let lent = load_lent(conn, callsign)?;
-            let report = report_at(conn, callsign, number)?;
+            let report = row_at::<Report, S>(conn, &(*callsign, number))?;
             Ok(Some(CrewRows {
                 vehicle,
                 assignment: sent.assignment,
@@ -71,10 +66,10 @@ fn load_sent<S: Alter>(conn: &mut Connection<S>, vehicle: &Vehicle) -> Result<Se
     ensures mode { conn.old.in_transaction ≡ false → conn.new.in_transaction ≡ false }
     ensures survives { Survives (state S.Store conn.old) (state S.Store conn.new) (λ _. ⊥) }
 {
-    let assignment = assignment_at(conn, &vehicle.callsign)?;
+    let assignment = row_at::<Assignment, S>(conn, &vehicle.callsign)?;
     match Number::new(vehicle.last_order.get()) {
         Some(order) => {
-            let last = turn_at(conn, &vehicle.callsign, order)?;
+            let last = row_at::<Turn, S>(conn, &(vehicle.callsign, order))?;
             Ok(Sent {
                 assignment,
                 turn: not_ended(last),
@@ -111,7 +106,7 @@ fn load_lent<S: Alter>(conn: &mut Connection<S>, callsign: &Callsign) -> Result<
     ensures mode { conn.old.in_transaction ≡ false → conn.new.in_transaction ≡ false }
     ensures survives { Survives (state S.Store conn.old) (state S.Store conn.new) (λ _. ⊥) }
 {
-    let loan = loan_at(conn, callsign)?;
-    let offer = offer_at(conn, callsign)?;
+    let loan = row_at::<Loan, S>(conn, callsign)?;
+    let offer = row_at::<Offer, S>(conn, callsign)?;
     Ok(Lent { loan, offer })
 }

@@ -24,13 +24,14 @@ use room_core::decisions::Decision;
 use room_core::desks::decide_desk;
 use room_place::plans::{DivisionNumber, Plan};
 use room_schema::faults::Fault;
-use room_tables::calls::call_at;
+use room_tables::loading::row_at;
 use room_types::asks::{Ask, CallForm, Event, NewCall, Who};
 use room_types::callsign::Callsign;
 use room_types::crews::CrewSlice;
 use room_types::numbers::{Moment, PositionNumber};
 use room_types::refusals::Refusal;
 use room_types::slices::Slice;
+use room_types::tables::Call;
 use sqlite::{Alter, Connection};
 use std::alloc::Global;
 
@@ -146,7 +147,7 @@ fn for_call<S: Alter>(
     ensures survives { Survives (state S.Store conn.old) (state S.Store conn.new) (λ _. ⊥) }
 {
     let new = new_call(position, form, at);
-    let found = call_at(conn, position, form.serial)?;
+    let found = row_at::<Call, S>(conn, &(position, form.serial))?;
     match found {
         Some(kept) => Ok(decide_again(alloc, &kept, &new)),
         None => match plan.division_of(form.place) {

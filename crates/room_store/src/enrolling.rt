@@ -18,8 +18,9 @@ ghost use Rattle.room_store.specs.Keeping.{IsReady, IsRoom, house_of};
 use crate::store::Store;
 use room_place::plans::Plan;
 use room_schema::faults::Fault;
+use room_tables::changing::put;
+use room_tables::loading::row_at;
 use room_tables::terminals::{put_terminal, terminal_at};
-use room_tables::vehicles::{put_vehicle, vehicle_at};
 use room_types::asks::Who;
 use room_types::callsign::Callsign;
 use room_types::codes::Status;
@@ -121,7 +122,7 @@ fn find_fate<S: Alter>(
     ensures mode { conn.old.in_transaction ≡ false → conn.new.in_transaction ≡ false }
     ensures survives { Survives (state S.Store conn.old) (state S.Store conn.new) (λ _. ⊥) }
 {
-    let vehicle = vehicle_at(conn, &row.callsign)?;
+    let vehicle = row_at::<Vehicle, S>(conn, &row.callsign)?;
     let terminal = terminal_at(conn, &row.token)?;
     if plan.has(row.division) {
         Ok(fate_by(vehicle, terminal, row))
@@ -201,7 +202,7 @@ fn put_row<S: Alter>(tx: &mut Transaction<'_, S>, row: &FleetRow) -> Result<(), 
     ensures kept { HasCleanDisk (state S.Store tx.new.conn.now) → KeepsCommit (state S.Store tx.old.conn.now) (state S.Store tx.new.conn.now) }
     ensures survives { Survives (state S.Store tx.old.conn.now) (state S.Store tx.new.conn.now) (λ _. ⊥) }
 {
-    put_vehicle(tx, &new_vehicle(row))?;
+    put(tx, &new_vehicle(row))?;
     put_terminal(tx, &new_terminal(row))?;
     Ok(())
 }

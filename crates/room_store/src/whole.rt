@@ -16,19 +16,10 @@ use crate::opening::OpenFault;
 use room_place::plans::{Area, Plan, PlanFault};
 use room_schema::faults::Fault;
 use room_tables::areas::all_areas;
-use room_tables::assignments::all_assignments;
-use room_tables::calls::all_calls;
-use room_tables::divisions::all_divisions;
-use room_tables::incidents::all_incidents;
-use room_tables::loans::all_loans;
+use room_tables::loading::all_rows;
 use room_tables::meta::zone;
 use room_tables::numbering::are_numbered;
-use room_tables::offers::all_offers;
-use room_tables::points::all_points;
-use room_tables::reports::all_reports;
 use room_tables::terminals::all_terminals;
-use room_tables::turns::all_turns;
-use room_tables::vehicles::all_vehicles;
 use room_types::fleet::Terminal;
 use room_types::rows::Rows;
 use room_types::slices::DivisionRows;
@@ -147,9 +138,9 @@ fn read_fleet<S: Alter>(alloc: Global, conn: &mut Connection<S>) -> Result<Fleet
     ensures mode { conn.old.in_transaction ≡ false → conn.new.in_transaction ≡ false }
     ensures survives { Survives (state S.Store conn.old) (state S.Store conn.new) (λ _. ⊥) }
 {
-    let divisions = all_divisions(alloc, conn)?;
-    let vehicles = all_vehicles(alloc, conn)?;
-    let assignments = all_assignments(alloc, conn)?;
+    let divisions = all_rows::<Division, S>(alloc, conn)?;
+    let vehicles = all_rows::<Vehicle, S>(alloc, conn)?;
+    let assignments = all_rows::<Assignment, S>(alloc, conn)?;
     Ok(Fleet {
         divisions,
         vehicles,
@@ -172,9 +163,9 @@ fn read_lending<S: Alter>(alloc: Global, conn: &mut Connection<S>) -> Result<Len
     ensures mode { conn.old.in_transaction ≡ false → conn.new.in_transaction ≡ false }
     ensures survives { Survives (state S.Store conn.old) (state S.Store conn.new) (λ _. ⊥) }
 {
-    let points = all_points(alloc, conn)?;
-    let loans = all_loans(alloc, conn)?;
-    let offers = all_offers(alloc, conn)?;
+    let points = all_rows::<Point, S>(alloc, conn)?;
+    let loans = all_rows::<Loan, S>(alloc, conn)?;
+    let offers = all_rows::<Offer, S>(alloc, conn)?;
     Ok(Lending {
         points,
         loans,
@@ -198,10 +189,10 @@ fn read_work<S: Alter>(alloc: Global, conn: &mut Connection<S>) -> Result<Work, 
     ensures mode { conn.old.in_transaction ≡ false → conn.new.in_transaction ≡ false }
     ensures survives { Survives (state S.Store conn.old) (state S.Store conn.new) (λ _. ⊥) }
 {
-    let incidents = all_incidents(alloc, conn)?;
-    let calls = all_calls(alloc, conn)?;
-    let turns = all_turns(alloc, conn)?;
-    let reports = all_reports(alloc, conn)?;
+    let incidents = all_rows::<Incident, S>(alloc, conn)?;
+    let calls = all_rows::<Call, S>(alloc, conn)?;
+    let turns = all_rows::<Turn, S>(alloc, conn)?;
+    let reports = all_rows::<Report, S>(alloc, conn)?;
     Ok(Work {
         incidents,
         calls,

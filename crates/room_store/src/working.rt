@@ -20,16 +20,11 @@ use crate::naming::{named_day, named_incidents, named_report};
 use crate::unions::{add_all, add_found};
 use room_place::plans::DivisionNumber;
 use room_schema::faults::Fault;
-use room_tables::assignments::assignments_of;
 use room_tables::calls::calls_of;
-use room_tables::divisions::division_at;
-use room_tables::incidents::{active_incidents, incident_at, incidents_opened};
-use room_tables::loans::loans_of;
-use room_tables::offers::offers_of;
-use room_tables::points::points_of;
-use room_tables::reports::{report_at, uncleared_reports};
+use room_tables::incidents::{active_incidents, incidents_opened};
+use room_tables::loading::{row_at, rows_owned_by};
+use room_tables::reports::uncleared_reports;
 use room_tables::turns::turns_of;
-use room_tables::vehicles::vehicles_held;
 use room_types::asks::Ask;
 use room_types::codes::Outcome;
 use room_types::numbers::Number;
@@ -117,9 +112,9 @@ fn load_fleet<S: Alter>(
     ensures mode { conn.old.in_transaction ≡ false → conn.new.in_transaction ≡ false }
     ensures survives { Survives (state S.Store conn.old) (state S.Store conn.new) (λ _. ⊥) }
 {
-    let row = division_at(conn, division)?;
-    let vehicles = vehicles_held(alloc, conn, division)?;
-    let assignments = assignments_of(alloc, conn, division)?;
+    let row = row_at::<Division, S>(conn, &division)?;
+    let vehicles = rows_owned_by::<Vehicle, S>(alloc, conn, division)?;
+    let assignments = rows_owned_by::<Assignment, S>(alloc, conn, division)?;
     let mut divisions = Rows::new(alloc);
     add_found(&mut divisions, row)?;
     Ok(Fleet {
@@ -149,9 +144,9 @@ fn load_loans<S: Alter>(
     ensures mode { conn.old.in_transaction ≡ false → conn.new.in_transaction ≡ false }
     ensures survives { Survives (state S.Store conn.old) (state S.Store conn.new) (λ _. ⊥) }
 {
-    let points = points_of(alloc, conn, division)?;
-    let loans = loans_of(alloc, conn, division)?;
-    let offers = offers_of(alloc, conn, division)?;
+    let points = rows_owned_by::<Point, S>(alloc, conn, division)?;
+    let loans = rows_owned_by::<Loan, S>(alloc, conn, division)?;
+    let offers = rows_owned_by::<Offer, S>(alloc, conn, division)?;
     Ok(Loans {
         points,
         loans,
@@ -177,7 +172,7 @@ fn load_reports<S: Alter>(
     let named = named_report(ask);
     match &named {
         Some((callsign, number)) => {
-            let found = report_at(conn, callsign, *number)?;
+            let found = row_at::<Report, S>(conn, &(*callsign, *number))?;
             add_found(&mut reports, own_report(found, division))?;
             Ok(reports)
         }
@@ -306,7 +301,7 @@ fn add_named<S: Alter>(
 {
     match number {
         Some(number) => {
-            let found = incident_at(conn, division, number)?;
+            let found = row_at::<Incident, S>(conn, &(division, number))?;
             add_found(incidents, found)?;
             Ok(())
         }

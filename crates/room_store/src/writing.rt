@@ -10,16 +10,7 @@ ghost use Rattle.room_tables.specs.Writes.{Makes};
 ghost use Rattle.room_store.specs.Acting.{Commits, IsSettled, Leaves, MakesAll};
 
 use room_schema::faults::Fault;
-use room_tables::assignments::{drop_assignment, put_assignment};
-use room_tables::calls::put_call;
-use room_tables::divisions::put_division;
-use room_tables::incidents::put_incident;
-use room_tables::loans::{drop_loan, put_loan};
-use room_tables::offers::{drop_offer, put_offer};
-use room_tables::points::put_point;
-use room_tables::reports::put_report;
-use room_tables::turns::put_turn;
-use room_tables::vehicles::{put_vehicle, settle};
+use room_tables::changing::apply;
 use room_types::changes::Change;
 use sqlite::{Alter, Connection, Transaction};
 
@@ -65,33 +56,7 @@ fn put_each<S: Alter>(tx: &mut Transaction<'_, S>, changes: &[Change]) -> Result
     ensures survives { Survives (state S.Store tx.old.conn.now) (state S.Store tx.new.conn.now) (λ _. ⊥) }
 {
     for change in changes {
-        put(tx, change)?;
+        apply(tx, change)?;
     }
     Ok(())
-}
-
-fn put<S: Alter>(tx: &mut Transaction<'_, S>, change: &Change) -> Result<(), Fault>
-    requires schema { HasCleanDisk (state S.Store tx.old.conn.now) → (state S.Store tx.old.conn.now).now.schema ≡ room_schema }
-    requires inside { HasCleanDisk (state S.Store tx.old.conn.now) → IsTrue (state S.Store tx.old.conn.now).in_transaction }
-    ensures same_reference { tx.new.conn.ghost_name ≡ tx.old.conn.ghost_name }
-    ensures ok { HasCleanDisk (state S.Store tx.new.conn.now) → OnOk result (Makes (state S.Store tx.old.conn.now) (state S.Store tx.new.conn.now) change.now) }
-    ensures err { HasCleanDisk (state S.Store tx.new.conn.now) → OnErr result (Keeps (state S.Store tx.old.conn.now) (state S.Store tx.new.conn.now)) }
-    ensures survives { Survives (state S.Store tx.old.conn.now) (state S.Store tx.new.conn.now) (λ _. ⊥) }
-{
-    match change {
-        Change::PutDivision(division) => put_division(tx, division),
-        Change::PutIncident(incident) => put_incident(tx, incident),
-        Change::PutCall(call) => put_call(tx, call),
-        Change::PutVehicle(vehicle) => put_vehicle(tx, vehicle),
-        Change::PutTurn(turn) => put_turn(tx, turn),
-        Change::PutAssignment(assignment) => put_assignment(tx, assignment),
-        Change::PutPoint(point) => put_point(tx, point),
-        Change::PutLoan(loan) => put_loan(tx, loan),
-        Change::PutOffer(offer) => put_offer(tx, offer),
-        Change::PutReport(report) => put_report(tx, report),
-        Change::DropAssignment(callsign) => drop_assignment(tx, callsign),
-        Change::DropLoan(callsign) => drop_loan(tx, callsign),
-        Change::DropOffer(callsign) => drop_offer(tx, callsign),
-        Change::Settle(callsign, division) => settle(tx, callsign, *division),
-    }
 }

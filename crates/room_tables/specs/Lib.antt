@@ -1,11 +1,10 @@
--- Which room the tables stand for, and what reads and writes make of it.
--- a table that stands for a list, and the tables that stand for a room
-pub mod Stands
--- files of other versions
-pub mod Versions
+-- Whether the tables number their rows, and what a fault tells; and, for callers, which room the tables stand for and what writes make of it.
 -- whether all rows are numbered
 pub mod Numbering
--- what is found
-pub mod Finds
--- what a write leaves
-pub mod Writes
+-- what a fault tells
+pub mod Failures
+pub use Rattle.room_statements.specs.Stands
+pub use Rattle.room_statements.specs.Tables
+pub use Rattle.room_statements.specs.Versions
+pub use Rattle.room_statements.specs.Finds
+pub use Rattle.room_statements.specs.Writes

@@ -1,6 +1,6 @@
 //! The areas of the plan in their table.
 
-ghost use Rattle.std.specs.Prelude.{◌≡◌, false, map, IsTrue, IfOk, OnOk, OnErr};
+ghost use Rattle.std.specs.Prelude.{◌≡◌, false, map, IsTrue, IfOk, OnOk, OnErr, IfErr, []};
 ghost use Rattle.sqlite.specs.Held.{state};
 ghost use Rattle.sqlite.specs.State.{HasCleanDisk, IsUnchanged, Survives};
 ghost use Rattle.table_laws.specs.Outcomes.{Keeps};
@@ -8,23 +8,20 @@ ghost use Rattle.table_laws.specs.Tables.{AreNumbered};
 ghost use Rattle.room_model.specs.Room.{Room};
 ghost use Rattle.room_columns.specs.Rows.{area_row};
 ghost use Rattle.room_schema.specs.Schema.{room_schema, areas_table};
-ghost use Rattle.room_tables.specs.Stands.{House, Stands, StandsFor, numbered};
-ghost use Rattle.room_tables.specs.Writes.{AppendsArea};
+ghost use Rattle.room_statements.specs.Stands.{House, Stands, StandsFor, numbered};
+ghost use Rattle.room_statements.specs.Writes.{AppendsArea};
+ghost use Rattle.room_statements.specs.declared.areas.TheConstants.{ALL_AREAS, PUT_AREA};
+ghost use Rattle.room_tables.specs.Failures.{AreNoPlan, FailsToRead, FailsToWrite, IfStorage};
 
 use room_columns::areas::area_columns;
 use room_columns::columns::Stored;
 use room_place::plans::Area;
 use room_schema::faults::Fault;
+use room_statements::areas::{ALL_AREAS, PUT_AREA};
 use sqlite::{Alter, Connection, Row, Transaction};
 use std::alloc::Global;
 use table_laws::reading::select;
 use table_laws::writing::write;
-
-const ALL_AREAS: &str = "SELECT n, division, west, south, east, north FROM areas ORDER BY n";
-
-const PUT_AREA: &str = "INSERT INTO areas VALUES (?1, ?2, ?3, ?4, ?5, ?6) ON CONFLICT (n) \
-    DO UPDATE SET n = excluded.n, division = excluded.division, west = excluded.west, \
-    south = excluded.south, east = excluded.east, north = excluded.north";
 
 /// The areas of the plan, in its order. Rows that are not numbered from 1 on are `Storage`.
 pub fn all_areas<S: Alter>(alloc: Global, conn: &mut Connection<S>) -> Result<Vec<Area>, Fault>
@@ -33,6 +30,7 @@ pub fn all_areas<S: Alter>(alloc: Global, conn: &mut Connection<S>) -> Result<Ve
     ensures found { HasCleanDisk (state S.Store conn.new) → IfOk result (λ areas. AreNumbered ((state S.Store conn.old).now.trees areas_table.tree) → StandsFor (state S.Store conn.old).now.trees areas_table area_row (numbered 1 areas.items)) }
     ensures ok { HasCleanDisk (state S.Store conn.new) → OnOk result (IsUnchanged (state S.Store conn.old) (state S.Store conn.new)) }
     ensures err { HasCleanDisk (state S.Store conn.new) → OnErr result (Keeps (state S.Store conn.old) (state S.Store conn.new)) }
+    ensures why { HasCleanDisk (state S.Store conn.new) → IfErr result (IfStorage (FailsToRead ALL_AREAS.now [] (state S.Store conn.old) (state S.Store conn.new) (AreNoPlan))) }
     ensures mode { conn.old.in_transaction ≡ false → conn.new.in_transaction ≡ false }
     ensures survives { Survives (state S.Store conn.old) (state S.Store conn.new) (λ _. ⊥) }
 {
@@ -42,7 +40,8 @@ pub fn all_areas<S: Alter>(alloc: Global, conn: &mut Connection<S>) -> Result<Ve
 
 // The areas of rows that are numbered from 1 on.
 fn areas_in(alloc: Global, shown: &[Row]) -> Result<Vec<Area>, Fault>
-    ensures { IfOk result (λ areas. map area_row (numbered 1 areas.items) ≡ shown.now) }
+    ensures areas { IfOk result (λ areas. map area_row (numbered 1 areas.items) ≡ shown.now) }
+    ensures why { IfErr result (IfStorage (AreNoPlan shown.now)) }
 {
     let mut areas = Vec::new(alloc);
     for (index, columns) in shown.iter().enumerate() {
@@ -63,6 +62,7 @@ pub fn put_area<S: Alter>(tx: &mut Transaction<'_, S>, at: u32, area: &Area) -> 
     requires inside { HasCleanDisk (state S.Store tx.old.conn.now) → IsTrue (state S.Store tx.old.conn.now).in_transaction }
     ensures ok { HasCleanDisk (state S.Store tx.new.conn.now) → OnOk result (AppendsArea (state S.Store tx.old.conn.now) (state S.Store tx.new.conn.now) at area.now) }
     ensures err { HasCleanDisk (state S.Store tx.new.conn.now) → OnErr result (Keeps (state S.Store tx.old.conn.now) (state S.Store tx.new.conn.now)) }
+    ensures why { HasCleanDisk (state S.Store tx.new.conn.now) → IfErr result (IfStorage (FailsToWrite PUT_AREA.now (area_row (at, area.now)) (state S.Store tx.old.conn.now) (state S.Store tx.new.conn.now))) }
     ensures survives { Survives (state S.Store tx.old.conn.now) (state S.Store tx.new.conn.now) (λ _. ⊥) }
     ensures same_reference { tx.new.conn.ghost_name ≡ tx.old.conn.ghost_name }
 {

@@ -1,15 +1,17 @@
-//! The room in its tables: loads, puts and drops of rows, and the room that the tables stand for.
+//! The room in its tables: loads, puts and drops of rows.
 //!
 //! A load gives the rows that the tables stand for; a put, a drop or a settling makes one change of
-//! them. Loads run on a connection, also outside a transaction; changes inside one.
+//! them. Loads run on a connection, also outside a transaction; changes inside one. What is the same
+//! for each table is said and proved once, of any `Table`.
 #![tactic(auto)]
 
 pub mod areas;
 pub mod assignments;
 pub mod calls;
+pub mod changing;
 pub mod divisions;
 pub mod incidents;
-pub mod laws;
+pub mod loading;
 pub mod loans;
 pub mod meta;
 pub mod numbering;
@@ -17,6 +19,7 @@ pub mod offers;
 pub mod points;
 mod reading;
 pub mod reports;
+pub mod tables;
 pub mod terminals;
 pub mod turns;
 pub mod vehicles;

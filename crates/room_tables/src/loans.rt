@@ -1,114 +1,52 @@
 //! Loans in their table.
 
-ghost use Rattle.std.specs.Prelude.{◌≡◌, false, IsTrue, IfOk, OnOk, OnErr, filter};
-ghost use Rattle.sqlite.specs.Held.{state};
-ghost use Rattle.sqlite.specs.State.{HasCleanDisk, IsUnchanged, Survives};
-ghost use Rattle.table_laws.specs.Outcomes.{Keeps};
-ghost use Rattle.table_laws.specs.Tables.{AreNumbered};
-ghost use Rattle.room_types.specs.Keyed.{row_at};
-ghost use Rattle.room_types.specs.Keys.{callsign_cmp, loan_key, owns_loan};
 ghost use Rattle.room_types.specs.declared.changes.Change.TheVariants as change;
-ghost use Rattle.room_model.specs.Room.{Room};
-ghost use Rattle.room_columns.specs.Rows.{loan_row};
-ghost use Rattle.room_schema.specs.Schema.{room_schema, loans_table};
-ghost use Rattle.room_tables.specs.Stands.{House, Stands, StandsFor};
-ghost use Rattle.room_tables.specs.Writes.{Makes};
+ghost use Rattle.room_schema.specs.Schema.{loans_table};
+ghost use Rattle.room_statements.specs.declared.loans.TheConstants.{ALL_LOANS, DROP_LOAN, LOANS_OF, LOAN_AT, PUT_LOAN};
+ghost use Rattle.room_statements.proofs.LoansTable.{loans_are, loans_of_chooses, loans_dropped};
 
-use crate::reading::{find, load};
-use room_columns::columns::Field;
-use room_columns::loans::loan_columns;
-use room_place::plans::DivisionNumber;
-use room_schema::faults::Fault;
-use room_types::callsign::Callsign;
-use room_types::rows::Rows;
+use crate::tables::{Dropped, Owned, Statements, Table};
+use room_statements::loans::{ALL_LOANS, DROP_LOAN, LOAN_AT, LOANS_OF, PUT_LOAN};
 use room_types::tables::Loan;
-use sqlite::{Alter, Connection, Transaction};
-use std::alloc::Global;
-use table_laws::writing::write;
 
-const ALL_LOANS: &str =
-    "SELECT callsign, lender, borrower, since, until, recalled FROM loans ORDER BY callsign";
+impl Table for Loan {
+    ghost table = { loans_table };
 
-const LOAN_AT: &str = "SELECT callsign, lender, borrower, since, until, recalled FROM loans \
-    WHERE callsign = ?1 ORDER BY callsign";
+    ghost rows = { λ room. room.loans };
 
-const LOANS_OF: &str = "SELECT callsign, lender, borrower, since, until, recalled FROM loans \
-    WHERE lender = ?1 OR borrower = ?1 ORDER BY callsign";
+    ghost put = { change.PutLoan };
 
-const PUT_LOAN: &str = "INSERT INTO loans VALUES (?1, ?2, ?3, ?4, ?5, ?6) \
-    ON CONFLICT (callsign) \
-    DO UPDATE SET callsign = excluded.callsign, lender = excluded.lender, \
-    borrower = excluded.borrower, since = excluded.since, until = excluded.until, \
-    recalled = excluded.recalled";
+    ghost texts = { record { all = ALL_LOANS.now; at = LOAN_AT.now; put = PUT_LOAN.now } };
 
-const DROP_LOAN: &str = "DELETE FROM loans WHERE callsign = ?1";
+    ghost is_table = { loans_are };
 
-/// All loans.
-pub fn all_loans<S: Alter>(alloc: Global, conn: &mut Connection<S>) -> Result<Rows<Loan>, Fault>
-    requires { HasCleanDisk (state S.Store conn.old) → (state S.Store conn.old).now.schema ≡ room_schema }
-    ensures rows { HasCleanDisk (state S.Store conn.new) → IfOk result (λ rows. (house : House) (room : Room) → Stands (state S.Store conn.old).now.trees house room → rows ≡ room.loans) }
-    ensures found { HasCleanDisk (state S.Store conn.new) → IfOk result (λ rows. AreNumbered ((state S.Store conn.old).now.trees loans_table.tree) → StandsFor (state S.Store conn.old).now.trees loans_table loan_row rows) }
-    ensures ok { HasCleanDisk (state S.Store conn.new) → OnOk result (IsUnchanged (state S.Store conn.old) (state S.Store conn.new)) }
-    ensures err { HasCleanDisk (state S.Store conn.new) → OnErr result (Keeps (state S.Store conn.old) (state S.Store conn.new)) }
-    ensures mode { conn.old.in_transaction ≡ false → conn.new.in_transaction ≡ false }
-    ensures survives { Survives (state S.Store conn.old) (state S.Store conn.new) (λ _. ⊥) }
-{
-    load(alloc, conn, ALL_LOANS, &[])
+    fn statements() -> Statements {
+        Statements {
+            all: ALL_LOANS,
+            at: LOAN_AT,
+            put: PUT_LOAN,
+        }
+    }
 }
 
-/// The loan of a vehicle.
-pub fn loan_at<S: Alter>(
-    conn: &mut Connection<S>,
-    callsign: &Callsign,
-) -> Result<Option<Loan>, Fault>
-    requires { HasCleanDisk (state S.Store conn.old) → (state S.Store conn.old).now.schema ≡ room_schema }
-    ensures row { HasCleanDisk (state S.Store conn.new) → IfOk result (λ row. (house : House) (room : Room) → Stands (state S.Store conn.old).now.trees house room → row ≡ row_at callsign_cmp loan_key room.loans callsign.now) }
-    ensures ok { HasCleanDisk (state S.Store conn.new) → OnOk result (IsUnchanged (state S.Store conn.old) (state S.Store conn.new)) }
-    ensures err { HasCleanDisk (state S.Store conn.new) → OnErr result (Keeps (state S.Store conn.old) (state S.Store conn.new)) }
-    ensures mode { conn.old.in_transaction ≡ false → conn.new.in_transaction ≡ false }
-    ensures survives { Survives (state S.Store conn.old) (state S.Store conn.new) (λ _. ⊥) }
-{
-    find(conn, LOAN_AT, &[callsign.store()])
+impl Owned for Loan {
+    ghost owned_text = { LOANS_OF.now };
+
+    ghost selects_owned = { loans_of_chooses };
+
+    fn select_owned() -> &'static str {
+        LOANS_OF
+    }
 }
 
-/// The loans in which a division is lender or borrower.
-pub fn loans_of<S: Alter>(
-    alloc: Global,
-    conn: &mut Connection<S>,
-    division: DivisionNumber,
-) -> Result<Rows<Loan>, Fault>
-    requires { HasCleanDisk (state S.Store conn.old) → (state S.Store conn.old).now.schema ≡ room_schema }
-    ensures rows { HasCleanDisk (state S.Store conn.new) → IfOk result (λ rows. (house : House) (room : Room) → Stands (state S.Store conn.old).now.trees house room → rows ≡ filter (owns_loan division) room.loans) }
-    ensures ok { HasCleanDisk (state S.Store conn.new) → OnOk result (IsUnchanged (state S.Store conn.old) (state S.Store conn.new)) }
-    ensures err { HasCleanDisk (state S.Store conn.new) → OnErr result (Keeps (state S.Store conn.old) (state S.Store conn.new)) }
-    ensures mode { conn.old.in_transaction ≡ false → conn.new.in_transaction ≡ false }
-    ensures survives { Survives (state S.Store conn.old) (state S.Store conn.new) (λ _. ⊥) }
-{
-    load(alloc, conn, LOANS_OF, &[division.store()])
-}
+impl Dropped for Loan {
+    ghost drop = { change.DropLoan };
 
-/// Puts a loan in its key's place.
-pub fn put_loan<S: Alter>(tx: &mut Transaction<'_, S>, loan: &Loan) -> Result<(), Fault>
-    requires schema { HasCleanDisk (state S.Store tx.old.conn.now) → (state S.Store tx.old.conn.now).now.schema ≡ room_schema }
-    requires inside { HasCleanDisk (state S.Store tx.old.conn.now) → IsTrue (state S.Store tx.old.conn.now).in_transaction }
-    ensures ok { HasCleanDisk (state S.Store tx.new.conn.now) → OnOk result (Makes (state S.Store tx.old.conn.now) (state S.Store tx.new.conn.now) (change.PutLoan loan.now)) }
-    ensures err { HasCleanDisk (state S.Store tx.new.conn.now) → OnErr result (Keeps (state S.Store tx.old.conn.now) (state S.Store tx.new.conn.now)) }
-    ensures survives { Survives (state S.Store tx.old.conn.now) (state S.Store tx.new.conn.now) (λ _. ⊥) }
-    ensures same_reference { tx.new.conn.ghost_name ≡ tx.old.conn.ghost_name }
-{
-    write(tx, PUT_LOAN, &loan_columns(loan))?;
-    Ok(())
-}
+    ghost drop_text = { DROP_LOAN.now };
 
-/// Drops the loan of a vehicle, if there is one.
-pub fn drop_loan<S: Alter>(tx: &mut Transaction<'_, S>, callsign: &Callsign) -> Result<(), Fault>
-    requires schema { HasCleanDisk (state S.Store tx.old.conn.now) → (state S.Store tx.old.conn.now).now.schema ≡ room_schema }
-    requires inside { HasCleanDisk (state S.Store tx.old.conn.now) → IsTrue (state S.Store tx.old.conn.now).in_transaction }
-    ensures ok { HasCleanDisk (state S.Store tx.new.conn.now) → OnOk result (Makes (state S.Store tx.old.conn.now) (state S.Store tx.new.conn.now) (change.DropLoan callsign.now)) }
-    ensures err { HasCleanDisk (state S.Store tx.new.conn.now) → OnErr result (Keeps (state S.Store tx.old.conn.now) (state S.Store tx.new.conn.now)) }
-    ensures survives { Survives (state S.Store tx.old.conn.now) (state S.Store tx.new.conn.now) (λ _. ⊥) }
-    ensures same_reference { tx.new.conn.ghost_name ≡ tx.old.conn.ghost_name }
-{
-    write(tx, DROP_LOAN, &[callsign.store()])?;
-    Ok(())
+    ghost is_dropped = { loans_dropped };
+
+    fn drop_statement() -> &'static str {
+        DROP_LOAN
+    }
 }

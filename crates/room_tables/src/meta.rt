@@ -1,30 +1,29 @@
 //! The version and the zone of the room in their table.
 
-ghost use Rattle.std.specs.Prelude.{◌≡◌, ◌↔◌, false, [], ◌∷◌, string_bytes, IsTrue, IfOk, OnOk, OnErr};
+ghost use Rattle.std.specs.Prelude.{◌≡◌, ◌↔◌, false, [], ◌∷◌, string_bytes, IsTrue, IfOk, OnOk, OnErr, IfErr};
 ghost use Rattle.sqlite.specs.Held.{state};
 ghost use Rattle.sqlite.specs.State.{HasCleanDisk, IsUnchanged, Survives};
 ghost use Rattle.table_laws.specs.Outcomes.{Keeps};
 ghost use Rattle.table_laws.specs.Tables.{AreNumbered};
 ghost use Rattle.room_model.specs.Room.{Room};
+ghost use Rattle.room_columns.specs.Readable.{is_meta_row};
 ghost use Rattle.room_columns.specs.Rows.{meta_row};
 ghost use Rattle.room_schema.specs.Definitions.{IsBlank};
 ghost use Rattle.room_schema.specs.Schema.{room_schema, meta_table};
 ghost use Rattle.room_schema.specs.Versions.{BeginsAsRoom};
-ghost use Rattle.room_tables.specs.Stands.{House, Stands, StandsFor, empty_room};
-ghost use Rattle.room_tables.specs.Versions.{IsOfFirstVersion, OneTells};
-ghost use Rattle.room_tables.specs.Writes.{Changes};
+ghost use Rattle.room_statements.specs.Stands.{House, Stands, StandsFor, empty_room};
+ghost use Rattle.room_statements.specs.Versions.{IsOfFirstVersion, OneTells};
+ghost use Rattle.room_statements.specs.Writes.{Changes};
+ghost use Rattle.room_statements.specs.declared.meta.TheConstants.{ALL_META, PUT_META};
+ghost use Rattle.room_tables.specs.Failures.{AreNotJustOne, FailsToRead, FailsToWrite, IfStorage};
 
 use room_columns::meta::{FIRST_VERSION, is_of_version, meta_columns, zone_of};
 use room_schema::faults::Fault;
+use room_statements::meta::{ALL_META, PUT_META};
 use sqlite::{Alter, Connection, Row, Transaction};
 use std::alloc::Global;
 use table_laws::reading::select;
 use table_laws::writing::write;
-
-const ALL_META: &str = "SELECT id, version, zone FROM meta ORDER BY id";
-
-const PUT_META: &str = "INSERT INTO meta VALUES (?1, ?2, ?3) ON CONFLICT (id) \
-    DO UPDATE SET id = excluded.id, version = excluded.version, zone = excluded.zone";
 
 /// The zone in which the days of the room begin. Anything but one row of this version is `Storage`.
 pub fn zone<S: Alter>(alloc: Global, conn: &mut Connection<S>) -> Result<String, Fault>
@@ -33,6 +32,7 @@ pub fn zone<S: Alter>(alloc: Global, conn: &mut Connection<S>) -> Result<String,
     ensures found { HasCleanDisk (state S.Store conn.new) → IfOk result (λ zone. AreNumbered ((state S.Store conn.old).now.trees meta_table.tree) → StandsFor (state S.Store conn.old).now.trees meta_table meta_row (string_bytes zone ∷ [])) }
     ensures ok { HasCleanDisk (state S.Store conn.new) → OnOk result (IsUnchanged (state S.Store conn.old) (state S.Store conn.new)) }
     ensures err { HasCleanDisk (state S.Store conn.new) → OnErr result (Keeps (state S.Store conn.old) (state S.Store conn.new)) }
+    ensures why { HasCleanDisk (state S.Store conn.new) → IfErr result (IfStorage (FailsToRead ALL_META.now [] (state S.Store conn.old) (state S.Store conn.new) (AreNotJustOne is_meta_row))) }
     ensures mode { conn.old.in_transaction ≡ false → conn.new.in_transaction ≡ false }
     ensures survives { Survives (state S.Store conn.old) (state S.Store conn.new) (λ _. ⊥) }
 {
@@ -46,6 +46,7 @@ pub fn is_of_first_version<S: Alter>(conn: &mut Connection<S>) -> Result<bool, F
     ensures version { HasCleanDisk (state S.Store conn.new) → IfOk result (λ yes. IsTrue yes ↔ IsOfFirstVersion (state S.Store conn.old).now.trees) }
     ensures ok { HasCleanDisk (state S.Store conn.new) → OnOk result (IsUnchanged (state S.Store conn.old) (state S.Store conn.new)) }
     ensures err { HasCleanDisk (state S.Store conn.new) → OnErr result (Keeps (state S.Store conn.old) (state S.Store conn.new)) }
+    ensures why { HasCleanDisk (state S.Store conn.new) → IfErr result (IfStorage (FailsToRead ALL_META.now [] (state S.Store conn.old) (state S.Store conn.new) (λ _. ⊥))) }
     ensures mode { conn.old.in_transaction ≡ false → conn.new.in_transaction ≡ false }
     ensures survives { Survives (state S.Store conn.old) (state S.Store conn.new) (λ _. ⊥) }
 {
@@ -66,7 +67,8 @@ fn one_tells(shown: &[Row], version: u32) -> bool
 
 // The zone of the one row.
 fn zone_in(alloc: Global, shown: &[Row]) -> Result<String, Fault>
-    ensures { IfOk result (λ zone. meta_row (string_bytes zone) ∷ [] ≡ shown.now) }
+    ensures zone { IfOk result (λ zone. meta_row (string_bytes zone) ∷ [] ≡ shown.now) }
+    ensures why { IfErr result (IfStorage (AreNotJustOne is_meta_row shown.now)) }
 {
     match shown {
         [row] => match zone_of(row) {
@@ -87,6 +89,7 @@ pub fn put_meta<S: Alter>(tx: &mut Transaction<'_, S>, zone: &str) -> Result<(),
     ensures begun { HasCleanDisk (state S.Store tx.new.conn.now) → OnOk result (IsBlank (state S.Store tx.old.conn.now).now.trees
         → Stands (state S.Store tx.new.conn.now).now.trees (record { zone = zone.now; terminals = [] }) empty_room) }
     ensures err { HasCleanDisk (state S.Store tx.new.conn.now) → OnErr result (Keeps (state S.Store tx.old.conn.now) (state S.Store tx.new.conn.now)) }
+    ensures why { HasCleanDisk (state S.Store tx.new.conn.now) → IfErr result (IfStorage (FailsToWrite PUT_META.now (meta_row zone.now) (state S.Store tx.old.conn.now) (state S.Store tx.new.conn.now))) }
     ensures survives { Survives (state S.Store tx.old.conn.now) (state S.Store tx.new.conn.now) (λ _. ⊥) }
     ensures same_reference { tx.new.conn.ghost_name ≡ tx.old.conn.ghost_name }
 {

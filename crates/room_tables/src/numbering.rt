@@ -1,13 +1,14 @@
 //! Whether the tables of a file number their rows. Tables that this program made do; of a file from
 //! elsewhere no clause says so, and it is tested.
 
-ghost use Rattle.std.specs.Prelude.{◌≡◌, ◌↔◌, ℕ, false, map, IsTrue, IfOk, OnOk, OnErr};
+ghost use Rattle.std.specs.Prelude.{◌≡◌, ◌↔◌, ℕ, false, map, IsTrue, IfOk, OnOk, OnErr, IfErr, []};
+ghost use Rattle.sqlite_trees.specs.Tree.{rowid};
 ghost use Rattle.sqlite.specs.Held.{state};
 ghost use Rattle.sqlite.specs.State.{HasCleanDisk, IsUnchanged, Survives};
-ghost use Rattle.sqlite_trees.specs.Tree.{rowid};
 ghost use Rattle.table_laws.specs.Outcomes.{Keeps};
 ghost use Rattle.table_laws.specs.Tables.{AreNumbered, RowidsRise};
 ghost use Rattle.room_schema.specs.Schema.{room_schema, room_tables};
+ghost use Rattle.room_tables.specs.Failures.{FailsToRead, IfStorage};
 ghost use Rattle.room_tables.specs.Numbering.{SelectsRowids, SelectEach, AreAllNumbered, integer_in};
 
 use room_schema::faults::Fault;
@@ -69,6 +70,7 @@ fn is_numbered<S: Alter>(conn: &mut Connection<S>, text: &str) -> Result<bool, F
     ensures numbered { HasCleanDisk (state S.Store conn.new) → IfOk result (λ yes. (tree : ℕ) → SelectsRowids text.now tree → (IsTrue yes ↔ AreNumbered ((state S.Store conn.old).now.trees tree))) }
     ensures ok { HasCleanDisk (state S.Store conn.new) → OnOk result (IsUnchanged (state S.Store conn.old) (state S.Store conn.new)) }
     ensures err { HasCleanDisk (state S.Store conn.new) → OnErr result (Keeps (state S.Store conn.old) (state S.Store conn.new)) }
+    ensures why { HasCleanDisk (state S.Store conn.new) → IfErr result (IfStorage (FailsToRead text.now [] (state S.Store conn.old) (state S.Store conn.new) (λ _. ⊥))) }
     ensures mode { conn.old.in_transaction ≡ false → conn.new.in_transaction ≡ false }
     ensures survives { Survives (state S.Store conn.old) (state S.Store conn.new) (λ _. ⊥) }
 {

@@ -1,14 +1,15 @@
 //! Selections, read as rows of the room.
 
-ghost use Rattle.std.specs.Prelude.{◌≡◌, ◌++◌, [], ◌∷◌, false, map, IsTrue, IfOk, OnOk, OnErr};
+ghost use Rattle.std.specs.Prelude.{◌≡◌, ◌++◌, ◌⊎◌, [], ◌∷◌, false, map, IsTrue, IfOk, IfErr, OnOk, OnErr};
 ghost use Rattle.sqlite.specs.Given.{IsPlain};
 ghost use Rattle.sqlite.specs.Held.{state};
 ghost use Rattle.sqlite.specs.Listing.{understood};
 ghost use Rattle.sqlite.specs.State.{HasCleanDisk, IsUnchanged, Shown, Survives};
 ghost use Rattle.sqlite.specs.Values.{bound};
-ghost use Rattle.room_types.specs.Keyed.{IsKeyed, put_row};
 ghost use Rattle.table_laws.specs.Outcomes.{Keeps};
-ghost use Rattle.room_tables.specs.Finds.{listed};
+ghost use Rattle.room_types.specs.Keyed.{IsKeyed, put_row};
+ghost use Rattle.room_statements.specs.Finds.{listed};
+ghost use Rattle.room_tables.specs.Failures.{AreNoRows, AreMoreThanOne, FailsToRead, HasStranger, IfStorage};
 
 use room_columns::columns::Stored;
 use room_schema::faults::Fault;
@@ -31,6 +32,7 @@ pub(crate) fn load<X: Stored + Row, S: Alter>(
     ensures keyed { IfOk result (IsKeyed X.Key.cmp X.key_of) }
     ensures ok { HasCleanDisk (state S.Store conn.new) → OnOk result (IsUnchanged (state S.Store conn.old) (state S.Store conn.new)) }
     ensures err { HasCleanDisk (state S.Store conn.new) → OnErr result (Keeps (state S.Store conn.old) (state S.Store conn.new)) }
+    ensures why { HasCleanDisk (state S.Store conn.new) → IfErr result (IfStorage (FailsToRead text.now (bound params.now) (state S.Store conn.old) (state S.Store conn.new) (AreNoRows X.is_row X.Key.cmp X.key_of X.cells))) }
     ensures mode { conn.old.in_transaction ≡ false → conn.new.in_transaction ≡ false }
     ensures survives { Survives (state S.Store conn.old) (state S.Store conn.new) (λ _. ⊥) }
 {
@@ -49,6 +51,7 @@ pub(crate) fn list<X: Stored, S: Alter>(
     ensures shown { HasCleanDisk (state S.Store conn.new) → IfOk result (λ found. Shown text.now (bound params.now) (state S.Store conn.old) (state S.Store conn.new) (map X.cells found.items)) }
     ensures ok { HasCleanDisk (state S.Store conn.new) → OnOk result (IsUnchanged (state S.Store conn.old) (state S.Store conn.new)) }
     ensures err { HasCleanDisk (state S.Store conn.new) → OnErr result (Keeps (state S.Store conn.old) (state S.Store conn.new)) }
+    ensures why { HasCleanDisk (state S.Store conn.new) → IfErr result (IfStorage (FailsToRead text.now (bound params.now) (state S.Store conn.old) (state S.Store conn.new) (HasStranger X.is_row))) }
     ensures mode { conn.old.in_transaction ≡ false → conn.new.in_transaction ≡ false }
     ensures survives { Survives (state S.Store conn.old) (state S.Store conn.new) (λ _. ⊥) }
 {
@@ -66,6 +69,7 @@ pub(crate) fn find<X: Stored, S: Alter>(
     ensures shown { HasCleanDisk (state S.Store conn.new) → IfOk result (λ row. Shown text.now (bound params.now) (state S.Store conn.old) (state S.Store conn.new) (map X.cells (listed row))) }
     ensures ok { HasCleanDisk (state S.Store conn.new) → OnOk result (IsUnchanged (state S.Store conn.old) (state S.Store conn.new)) }
     ensures err { HasCleanDisk (state S.Store conn.new) → OnErr result (Keeps (state S.Store conn.old) (state S.Store conn.new)) }
+    ensures why { HasCleanDisk (state S.Store conn.new) → IfErr result (IfStorage (FailsToRead text.now (bound params.now) (state S.Store conn.old) (state S.Store conn.new) (AreMoreThanOne X.is_row))) }
     ensures mode { conn.old.in_transaction ≡ false → conn.new.in_transaction ≡ false }
     ensures survives { Survives (state S.Store conn.old) (state S.Store conn.new) (λ _. ⊥) }
 {
@@ -83,6 +87,7 @@ pub(crate) fn find_inside<X: Stored, S: Alter>(
     ensures shown { HasCleanDisk (state S.Store tx.new.conn.now) → IfOk result (λ row. Shown text.now (bound params.now) (state S.Store tx.old.conn.now) (state S.Store tx.new.conn.now) (map X.cells (listed row))) }
     ensures ok { HasCleanDisk (state S.Store tx.new.conn.now) → OnOk result (IsUnchanged (state S.Store tx.old.conn.now) (state S.Store tx.new.conn.now)) }
     ensures err { HasCleanDisk (state S.Store tx.new.conn.now) → OnErr result (Keeps (state S.Store tx.old.conn.now) (state S.Store tx.new.conn.now)) }
+    ensures why { HasCleanDisk (state S.Store tx.new.conn.now) → IfErr result (IfStorage (FailsToRead text.now (bound params.now) (state S.Store tx.old.conn.now) (state S.Store tx.new.conn.now) (AreMoreThanOne X.is_row))) }
     ensures survives { Survives (state S.Store tx.old.conn.now) (state S.Store tx.new.conn.now) (λ _. ⊥) }
     ensures same_reference { tx.new.conn.ghost_name ≡ tx.old.conn.ghost_name }
 {
@@ -94,6 +99,7 @@ pub(crate) fn find_inside<X: Stored, S: Alter>(
 fn rows_of<X: Stored + Row>(alloc: Global, shown: &[sqlite::Row]) -> Result<Rows<X>, Fault>
     ensures shown { IfOk result (λ rows. map X.cells rows ≡ shown.now) }
     ensures keyed { IfOk result (IsKeyed X.Key.cmp X.key_of) }
+    ensures why { IfErr result (IfStorage (AreNoRows X.is_row X.Key.cmp X.key_of X.cells shown.now)) }
 {
     let mut rows = Rows::new(alloc);
     for columns in shown {
@@ -112,7 +118,8 @@ fn rows_of<X: Stored + Row>(alloc: Global, shown: &[sqlite::Row]) -> Result<Rows
 
 // The values that stand in columns, in their order.
 fn list_of<X: Stored>(alloc: Global, shown: &[sqlite::Row]) -> Result<Vec<X>, Fault>
-    ensures { IfOk result (λ found. map X.cells found.items ≡ shown.now) }
+    ensures shown { IfOk result (λ found. map X.cells found.items ≡ shown.now) }
+    ensures why { IfErr result (IfStorage (HasStranger X.is_row shown.now)) }
 {
     let mut found = Vec::new(alloc);
     for columns in shown {
@@ -126,7 +133,8 @@ fn list_of<X: Stored>(alloc: Global, shown: &[sqlite::Row]) -> Result<Vec<X>, Fa
 
 // Whether the key of a row is above those of these.
 fn is_next<X: Row>(rows: &Rows<X>, row: &X) -> bool
-    ensures { IsTrue result → put_row X.Key.cmp X.key_of rows.now row.now ≡ rows.now ++ row.now ∷ [] }
+    ensures next { IsTrue result → put_row X.Key.cmp X.key_of rows.now row.now ≡ rows.now ++ row.now ∷ [] }
+    ensures not { IsTrue result ⊎ ¬ (IsKeyed X.Key.cmp X.key_of (rows.now ++ row.now ∷ [])) }
 {
     match rows.as_slice().last() {
         Some(last) => last.key().cmp(&row.key()).is_lt(),
@@ -136,7 +144,8 @@ fn is_next<X: Row>(rows: &Rows<X>, row: &X) -> bool
 
 // The one row that stands in columns, or none.
 fn row_of<X: Stored>(shown: &[sqlite::Row]) -> Result<Option<X>, Fault>
-    ensures { IfOk result (λ row. map X.cells (listed row) ≡ shown.now) }
+    ensures shown { IfOk result (λ row. map X.cells (listed row) ≡ shown.now) }
+    ensures why { IfErr result (IfStorage (AreMoreThanOne X.is_row shown.now)) }
 {
     match shown {
         [] => Ok(None),

@@ -1,6 +1,7 @@
 //! Terminals in their table.
 
-ghost use Rattle.std.specs.Prelude.{◌≡◌, false, filter, IsTrue, IfOk, OnOk, OnErr};
+ghost use Rattle.std.specs.Prelude.{◌≡◌, false, filter, IsTrue, IfOk, OnOk, OnErr, IfErr, [], ◌∷◌, ◌↔◌};
+ghost use Rattle.sqlite_value.specs.declared.value.Value.TheVariants.{Text};
 ghost use Rattle.sqlite.specs.Held.{state};
 ghost use Rattle.sqlite.specs.State.{HasCleanDisk, IsUnchanged, Survives};
 ghost use Rattle.table_laws.specs.Outcomes.{Keeps};
@@ -9,32 +10,24 @@ ghost use Rattle.room_types.specs.Keyed.{IsKeyed, put_row};
 ghost use Rattle.room_model.specs.Enrol.{is_crew, terminal_at as found_terminal, terminal_key, token_cmp};
 ghost use Rattle.room_model.specs.Room.{Room};
 ghost use Rattle.room_columns.specs.Rows.{terminal_row};
+ghost use Rattle.room_columns.specs.Readable.{is_terminal_row};
 ghost use Rattle.room_schema.specs.Schema.{room_schema, terminals_table};
-ghost use Rattle.room_tables.specs.Stands.{House, Stands, StandsFor};
-ghost use Rattle.room_tables.specs.Writes.{Changes};
+ghost use Rattle.room_statements.specs.Stands.{House, Stands, StandsFor};
+ghost use Rattle.room_statements.specs.Writes.{Changes};
+ghost use Rattle.room_statements.specs.declared.terminals.TheConstants.{ALL_TERMINALS, CREW_TERMINALS, PUT_TERMINAL, TERMINAL_AT};
+ghost use Rattle.room_tables.specs.Failures.{AreNoRows, AreMoreThanOne, FailsToRead, FailsToWrite, HasStranger, IfStorage};
 
 use crate::reading::{find, list};
 use room_columns::columns::Field;
 use room_columns::terminals::terminal_columns;
 use room_schema::faults::Fault;
+use room_statements::terminals::{ALL_TERMINALS, CREW_TERMINALS, PUT_TERMINAL, TERMINAL_AT};
 use room_types::callsign::Callsign;
 use room_types::fleet::Terminal;
 use room_types::token::Token;
 use sqlite::{Alter, Connection, Transaction};
 use std::alloc::Global;
 use table_laws::writing::write;
-
-const ALL_TERMINALS: &str = "SELECT token, role, number, callsign FROM terminals ORDER BY token";
-
-const TERMINAL_AT: &str =
-    "SELECT token, role, number, callsign FROM terminals WHERE token = ?1 ORDER BY token";
-
-const CREW_TERMINALS: &str =
-    "SELECT token, role, number, callsign FROM terminals WHERE callsign = ?1 ORDER BY token";
-
-const PUT_TERMINAL: &str = "INSERT INTO terminals VALUES (?1, ?2, ?3, ?4) ON CONFLICT (token) \
-    DO UPDATE SET token = excluded.token, role = excluded.role, number = excluded.number, \
-    callsign = excluded.callsign";
 
 /// All terminals, in the order of their tokens.
 pub fn all_terminals<S: Alter>(
@@ -47,6 +40,7 @@ pub fn all_terminals<S: Alter>(
     ensures keyed { IfOk result (λ terminals. IsKeyed token_cmp terminal_key terminals.items) }
     ensures ok { HasCleanDisk (state S.Store conn.new) → OnOk result (IsUnchanged (state S.Store conn.old) (state S.Store conn.new)) }
     ensures err { HasCleanDisk (state S.Store conn.new) → OnErr result (Keeps (state S.Store conn.old) (state S.Store conn.new)) }
+    ensures why { HasCleanDisk (state S.Store conn.new) → IfErr result (IfStorage (FailsToRead ALL_TERMINALS.now [] (state S.Store conn.old) (state S.Store conn.new) (AreNoRows is_terminal_row token_cmp terminal_key terminal_row))) }
     ensures mode { conn.old.in_transaction ≡ false → conn.new.in_transaction ≡ false }
     ensures survives { Survives (state S.Store conn.old) (state S.Store conn.new) (λ _. ⊥) }
 {
@@ -60,7 +54,7 @@ pub fn all_terminals<S: Alter>(
 
 // Whether each token is below the next.
 fn are_in_order(terminals: &[Terminal]) -> bool
-    ensures { IsTrue result → IsKeyed token_cmp terminal_key terminals.now }
+    ensures { IsTrue result ↔ IsKeyed token_cmp terminal_key terminals.now }
 {
     for at in 1..terminals.len() {
         if !terminals[at - 1].token.cmp(&terminals[at].token).is_lt() {
@@ -79,6 +73,7 @@ pub fn terminal_at<S: Alter>(
     ensures row { HasCleanDisk (state S.Store conn.new) → IfOk result (λ row. (house : House) (room : Room) → Stands (state S.Store conn.old).now.trees house room → row ≡ found_terminal token.now house.terminals) }
     ensures ok { HasCleanDisk (state S.Store conn.new) → OnOk result (IsUnchanged (state S.Store conn.old) (state S.Store conn.new)) }
     ensures err { HasCleanDisk (state S.Store conn.new) → OnErr result (Keeps (state S.Store conn.old) (state S.Store conn.new)) }
+    ensures why { HasCleanDisk (state S.Store conn.new) → IfErr result (IfStorage (FailsToRead TERMINAL_AT.now (Text token.now ∷ []) (state S.Store conn.old) (state S.Store conn.new) (AreMoreThanOne is_terminal_row))) }
     ensures mode { conn.old.in_transaction ≡ false → conn.new.in_transaction ≡ false }
     ensures survives { Survives (state S.Store conn.old) (state S.Store conn.new) (λ _. ⊥) }
 {
@@ -95,6 +90,7 @@ pub fn crew_terminals<S: Alter>(
     ensures terminals { HasCleanDisk (state S.Store conn.new) → IfOk result (λ terminals. (house : House) (room : Room) → Stands (state S.Store conn.old).now.trees house room → terminals.items ≡ filter (λ t. is_crew callsign.now t.who) house.terminals) }
     ensures ok { HasCleanDisk (state S.Store conn.new) → OnOk result (IsUnchanged (state S.Store conn.old) (state S.Store conn.new)) }
     ensures err { HasCleanDisk (state S.Store conn.new) → OnErr result (Keeps (state S.Store conn.old) (state S.Store conn.new)) }
+    ensures why { HasCleanDisk (state S.Store conn.new) → IfErr result (IfStorage (FailsToRead CREW_TERMINALS.now (Text callsign.now ∷ []) (state S.Store conn.old) (state S.Store conn.new) (HasStranger is_terminal_row))) }
     ensures mode { conn.old.in_transaction ≡ false → conn.new.in_transaction ≡ false }
     ensures survives { Survives (state S.Store conn.old) (state S.Store conn.new) (λ _. ⊥) }
 {
@@ -108,6 +104,7 @@ pub fn put_terminal<S: Alter>(tx: &mut Transaction<'_, S>, terminal: &Terminal) 
     ensures ok { HasCleanDisk (state S.Store tx.new.conn.now) → OnOk result (Changes (state S.Store tx.old.conn.now) (state S.Store tx.new.conn.now)
         (λ house. record house { terminals = put_row token_cmp terminal_key house.terminals terminal.now }) (λ room. room)) }
     ensures err { HasCleanDisk (state S.Store tx.new.conn.now) → OnErr result (Keeps (state S.Store tx.old.conn.now) (state S.Store tx.new.conn.now)) }
+    ensures why { HasCleanDisk (state S.Store tx.new.conn.now) → IfErr result (IfStorage (FailsToWrite PUT_TERMINAL.now (terminal_row terminal.now) (state S.Store tx.old.conn.now) (state S.Store tx.new.conn.now))) }
     ensures survives { Survives (state S.Store tx.old.conn.now) (state S.Store tx.new.conn.now) (λ _. ⊥) }
     ensures same_reference { tx.new.conn.ghost_name ≡ tx.old.conn.ghost_name }
 {

@@ -6,9 +6,10 @@ use room_store::creating::CreateFault;
 use room_store::opening::OpenFault;
 use room_store::store::Store;
 use room_tables::areas::all_areas;
-use room_tables::divisions::all_divisions;
+use room_tables::loading::all_rows;
 use room_tables::terminals::all_terminals;
 use room_types::fleet::Terminal;
+use room_types::tables::Division;
 use sqlite::{Connection, MemStore};
 use std::process::Abort;
 use std::test::Fail;
@@ -46,7 +47,7 @@ fn rows(
     assert!(rt; is_room(conn.schema()));
     let areas = all_areas(rt.alloc(), conn)?;
     assert!(rt; is_room(conn.schema()));
-    let divisions = all_divisions(rt.alloc(), conn)?;
+    let divisions = all_rows::<Division, MemStore>(rt.alloc(), conn)?;
     assert!(rt; is_room(conn.schema()));
     let terminals = all_terminals(rt.alloc(), conn)?;
     Ok((areas.len(), divisions.as_slice().len(), terminals.len()))

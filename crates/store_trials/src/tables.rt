@@ -12,23 +12,15 @@ use room_schema::faults::Fault;
 use room_schema::making::make;
 use room_schema::testing::{is_empty, is_room};
 use room_tables::areas::{all_areas, put_area};
-use room_tables::assignments::{
-    all_assignments, assignment_at, assignments_of, drop_assignment, put_assignment,
-};
-use room_tables::calls::{all_calls, call_at, calls_of, put_call};
-use room_tables::divisions::{all_divisions, division_at, put_division};
-use room_tables::incidents::{
-    active_incidents, all_incidents, incident_at, incidents_opened, put_incident,
-};
-use room_tables::loans::{all_loans, drop_loan, loan_at, loans_of, put_loan};
+use room_tables::calls::calls_of;
+use room_tables::changing::apply;
+use room_tables::incidents::{active_incidents, incidents_opened};
+use room_tables::loading::{all_rows, row_at, rows_owned_by};
 use room_tables::meta::{put_meta, zone};
 use room_tables::numbering::are_numbered;
-use room_tables::offers::{all_offers, drop_offer, offer_at, offers_of, put_offer};
-use room_tables::points::{all_points, points_of, put_point};
-use room_tables::reports::{all_reports, put_report, report_at, uncleared_reports};
+use room_tables::reports::uncleared_reports;
 use room_tables::terminals::{all_terminals, crew_terminals, put_terminal, terminal_at};
-use room_tables::turns::{all_turns, put_turn, turn_at, turns_of};
-use room_tables::vehicles::{all_vehicles, put_vehicle, settle, vehicle_at, vehicles_held};
+use room_tables::turns::turns_of;
 use room_types::asks::Who;
 use room_types::callsign::Callsign;
 use room_types::changes::Change;
@@ -110,7 +102,7 @@ fn change<S: Alter>(conn: &mut Connection<S>, change: &Change) -> Result<(), Fau
     requires outside { conn.old.in_transaction ≡ false }
 {
     let mut tx = conn.transaction();
-    write(&mut tx, change)?;
+    apply(&mut tx, change)?;
     tx.commit()?;
     Ok(())
 }
@@ -126,28 +118,6 @@ fn change_all<S: Alter>(
         change(conn, one)?;
     }
     Ok(())
-}
-
-fn write<S: Alter>(tx: &mut Transaction<'_, S>, change: &Change) -> Result<(), Fault>
-    requires schema { HasCleanDisk (state S.Store tx.old.conn.now) → (state S.Store tx.old.conn.now).now.schema ≡ room_schema }
-    requires inside { HasCleanDisk (state S.Store tx.old.conn.now) → IsTrue (state S.Store tx.old.conn.now).in_transaction }
-{
-    match change {
-        Change::PutDivision(division) => put_division(tx, division),
-        Change::PutIncident(incident) => put_incident(tx, incident),
-        Change::PutCall(call) => put_call(tx, call),
-        Change::PutVehicle(vehicle) => put_vehicle(tx, vehicle),
-        Change::PutTurn(turn) => put_turn(tx, turn),
-        Change::PutAssignment(assignment) => put_assignment(tx, assignment),
-        Change::PutPoint(point) => put_point(tx, point),
-        Change::PutLoan(loan) => put_loan(tx, loan),
-        Change::PutOffer(offer) => put_offer(tx, offer),
-        Change::PutReport(report) => put_report(tx, report),
-        Change::DropAssignment(callsign) => drop_assignment(tx, callsign),
-        Change::DropLoan(callsign) => drop_loan(tx, callsign),
-        Change::DropOffer(callsign) => drop_offer(tx, callsign),
-        Change::Settle(callsign, division) => settle(tx, callsign, *division),
-    }
 }
 
 // The zone, an area or a terminal, in a transaction of its own.
@@ -188,16 +158,16 @@ fn count<S: Alter>(
     let alloc = rt.alloc();
     ready(rt, conn);
     match table {
-        Table::Divisions => length(all_divisions(alloc, conn)),
-        Table::Incidents => length(all_incidents(alloc, conn)),
-        Table::Calls => length(all_calls(alloc, conn)),
-        Table::Vehicles => length(all_vehicles(alloc, conn)),
-        Table::Turns => length(all_turns(alloc, conn)),
-        Table::Assignments => length(all_assignments(alloc, conn)),
-        Table::Points => length(all_points(alloc, conn)),
-        Table::Loans => length(all_loans(alloc, conn)),
-        Table::Offers => length(all_offers(alloc, conn)),
-        Table::Reports => length(all_reports(alloc, conn)),
+        Table::Divisions => length(all_rows::<Division, S>(alloc, conn)),
+        Table::Incidents => length(all_rows::<Incident, S>(alloc, conn)),
+        Table::Calls => length(all_rows::<Call, S>(alloc, conn)),
+        Table::Vehicles => length(all_rows::<Vehicle, S>(alloc, conn)),
+        Table::Turns => length(all_rows::<Turn, S>(alloc, conn)),
+        Table::Assignments => length(all_rows::<Assignment, S>(alloc, conn)),
+        Table::Points => length(all_rows::<Point, S>(alloc, conn)),
+        Table::Loans => length(all_rows::<Loan, S>(alloc, conn)),
+        Table::Offers => length(all_rows::<Offer, S>(alloc, conn)),
+        Table::Reports => length(all_rows::<Report, S>(alloc, conn)),
         Table::Areas => listed(all_areas(alloc, conn)),
         Table::Terminals => listed(all_terminals(alloc, conn)),
         Table::Meta => match zone(alloc, conn) {
@@ -216,17 +186,18 @@ fn found<S: Alter>(
 ) -> Result<usize, Fault> {
     ready(rt, conn);
     match table {
-        Table::Divisions => one(division_at(conn, keys.division)),
-        Table::Incidents => one(incident_at(conn, keys.division, keys.number)),
-        Table::Calls => one(call_at(conn, keys.position, keys.number)),
-        Table::Vehicles => one(vehicle_at(conn, &keys.callsign)),
-        Table::Turns => one(turn_at(conn, &keys.callsign, keys.number)),
-        Table::Assignments => one(assignment_at(conn, &keys.callsign)),
-        Table::Loans => one(loan_at(conn, &keys.callsign)),
-        Table::Offers => one(offer_at(conn, &keys.callsign)),
-        Table::Reports => one(report_at(conn, &keys.callsign, keys.number)),
+        Table::Divisions => one(row_at::<Division, S>(conn, &keys.division)),
+        Table::Incidents => one(row_at::<Incident, S>(conn, &(keys.division, keys.number))),
+        Table::Calls => one(row_at::<Call, S>(conn, &(keys.position, keys.number))),
+        Table::Vehicles => one(row_at::<Vehicle, S>(conn, &keys.callsign)),
+        Table::Turns => one(row_at::<Turn, S>(conn, &(keys.callsign, keys.number))),
+        Table::Assignments => one(row_at::<Assignment, S>(conn, &keys.callsign)),
+        Table::Points => one(row_at::<Point, S>(conn, &(keys.division, keys.point))),
+        Table::Loans => one(row_at::<Loan, S>(conn, &keys.callsign)),
+        Table::Offers => one(row_at::<Offer, S>(conn, &keys.callsign)),
+        Table::Reports => one(row_at::<Report, S>(conn, &(keys.callsign, keys.number))),
         Table::Terminals => one(terminal_at(conn, &keys.token)),
-        Table::Points | Table::Areas | Table::Meta => Ok(0),
+        Table::Areas | Table::Meta => Ok(0),
     }
 }
 
@@ -242,12 +213,12 @@ fn selected<S: Alter>(
     match table {
         Table::Incidents => length(active_incidents(alloc, conn, division)),
         Table::Calls => length(calls_of(alloc, conn, division, keys.number)),
-        Table::Vehicles => length(vehicles_held(alloc, conn, division)),
+        Table::Vehicles => length(rows_owned_by::<Vehicle, S>(alloc, conn, division)),
         Table::Turns => length(turns_of(alloc, conn, division, keys.number)),
-        Table::Assignments => length(assignments_of(alloc, conn, division)),
-        Table::Points => length(points_of(alloc, conn, division)),
-        Table::Loans => length(loans_of(alloc, conn, division)),
-        Table::Offers => length(offers_of(alloc, conn, division)),
+        Table::Assignments => length(rows_owned_by::<Assignment, S>(alloc, conn, division)),
+        Table::Points => length(rows_owned_by::<Point, S>(alloc, conn, division)),
+        Table::Loans => length(rows_owned_by::<Loan, S>(alloc, conn, division)),
+        Table::Offers => length(rows_owned_by::<Offer, S>(alloc, conn, division)),
         Table::Reports => length(uncleared_reports(alloc, conn, Outcome::Skipped, division)),
         Table::Terminals => listed(crew_terminals(alloc, conn, &keys.callsign)),
         Table::Divisions | Table::Areas | Table::Meta => Ok(0),
@@ -300,7 +271,7 @@ fn settled<S: Alter>(
     ready(rt, conn);
     change(conn, &Change::Settle(*callsign, holder))?;
     ready(rt, conn);
-    vehicle_at(conn, callsign)
+    row_at::<Vehicle, S>(conn, callsign)
 }
 
 // Whether each table numbers its rows.
@@ -309,13 +280,14 @@ fn is_numbered<S: Alter>(rt: &impl Abort, conn: &mut Connection<S>) -> Result<bo
     are_numbered(conn)
 }
 
-// What names the rows below: division 1, vehicle A1, number 1 of all that is counted.
+// What names the rows below: division 1, vehicle A1, point 7, number 1 of all that is counted.
 #[derive(Clone, Copy)]
 struct Keys {
     division: DivisionNumber,
     position: PositionNumber,
     number: Number,
     callsign: Callsign,
+    point: PointNumber,
     token: Token,
 }
 
@@ -325,6 +297,7 @@ fn of_a1() -> Option<Keys> {
         position: PositionNumber::new(1)?,
         number: Number::new(1)?,
         callsign: Callsign::parse("A1")?,
+        point: PointNumber::new(7)?,
         token: Token::parse("crewofa1")?,
     })
 }
@@ -339,7 +312,7 @@ fn vehicle(keys: &Keys) -> Option<Vehicle> {
         place: Place::new(530_000, 180_000)?,
         status: Status::Mobilised,
         shift_end: Moment::new(50_000)?,
-        post: PointNumber::new(7),
+        post: Some(keys.point),
         last_order: last,
         last_report: last,
     })
@@ -473,7 +446,7 @@ fn incident_rows(keys: &Keys) -> Option<[Change; 4]> {
         }),
         Change::PutPoint(Point {
             division,
-            number: PointNumber::new(7)?,
+            number: keys.point,
             place,
             cover: Cover::new(2)?,
         }),
@@ -496,7 +469,7 @@ fn rows_are_put_found_and_dropped(rt: HostRuntime) -> Result<(), Fail> {
         (Table::Vehicles, 1, 1),
         (Table::Turns, 1, 1),
         (Table::Assignments, 1, 1),
-        (Table::Points, 0, 1),
+        (Table::Points, 1, 1),
         (Table::Loans, 1, 1),
         (Table::Offers, 1, 1),
         (Table::Reports, 1, 1),

@@ -13,10 +13,10 @@ returns-in-None-clause-rows g c clean house room h formed = sym (c.in_ok-found.e
 pub returns-in_ok-report-in-Some-clause-rows : goal.returns-in_ok-report-in-Some-clause-rows
 returns-in_ok-report-in-Some-clause-rows g c clean house room h formed =
     let first = state g.S.Store c.args.conn.now in
-    let second = state g.S.Store c.vehicle_at.new.conn in
+    let second = state g.S.Store c.row_at.new.conn in
     let third = state g.S.Store c.load_sent.new.conn in
     let fourth = state g.S.Store c.load_lent.new.conn in
-    let clean_fourth : HasCleanDisk fourth = omega (arith, c.report_at.ensures.survives.clean) in
+    let clean_fourth : HasCleanDisk fourth = omega (arith, c.row_at-in-Some.ensures.survives.clean) in
     let clean_third : HasCleanDisk third = omega (arith, clean_fourth, c.load_lent.ensures.survives.clean) in
     let clean_second : HasCleanDisk second = omega (arith, clean_third, c.load_sent.ensures.survives.clean) in
     let in_second = kept first second (c.in_ok-found.ensures.ok clean_second) house room h in

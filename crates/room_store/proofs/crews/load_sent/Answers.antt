@@ -8,8 +8,8 @@ use Rattle.room_store.proofs.crews.load_sent.Goals as goal
 pub returns-in_ok-last-in-Some-clause-rows : goal.returns-in_ok-last-in-Some-clause-rows
 returns-in_ok-last-in-Some-clause-rows g c clean house room h formed =
     let first = state g.S.Store c.args.conn.now in
-    let second = state g.S.Store c.assignment_at.new.conn in
-    let clean_second : HasCleanDisk second = omega (arith, c.turn_at.ensures.survives.clean) in
+    let second = state g.S.Store c.row_at.new.conn in
+    let clean_second : HasCleanDisk second = omega (arith, c.row_at-in-Some.ensures.survives.clean) in
     let in_second = kept first second (c.in_ok-assignment.ensures.ok clean_second) house room h in
     let v = c.args.vehicle.now in
     let order : c.in-Some.order ≡ v.last_order = search rules in

@@ -18,7 +18,7 @@ returns-in-Some-clause-decided g c clean house room h formed planned =
 pub returns-in-Some-division_of-clause-decided : goal.returns-in-Some-division_of-clause-decided
 returns-in-Some-division_of-clause-decided g c clean =
     let first = state g.S.Store c.args.conn.now in
-    let second = state g.S.Store c.call_at.new.conn in
+    let second = state g.S.Store c.row_at.new.conn in
     let new = new_call c.args.position c.args.form.now c.args.at in
     let early : HasCleanDisk second = omega (arith, c.for_new_call.ensures.survives.clean) in
     IfOk-weaker c.for_new_call.result _ _ (λ x told house room h formed planned.

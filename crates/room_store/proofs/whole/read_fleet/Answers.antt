@@ -10,10 +10,10 @@ use Rattle.room_store.proofs.whole.read_fleet.Goals as goal
 
 pub returns-clause-found : goal.returns-clause-found
 returns-clause-found g c clean all =
-    let second = state g.S.Store c.all_divisions.new.conn in
-    let third = state g.S.Store c.all_vehicles.new.conn in
-    let clean_third : HasCleanDisk third = omega (arith, c.all_assignments.ensures.survives.clean) in
-    let clean_second : HasCleanDisk second = omega (arith, clean_third, c.all_vehicles.ensures.survives.clean) in
+    let second = state g.S.Store c.all_rows.new.conn in
+    let third = state g.S.Store c.all_rows-2.new.conn in
+    let clean_third : HasCleanDisk third = omega (arith, c.all_rows-3.ensures.survives.clean) in
+    let clean_second : HasCleanDisk second = omega (arith, clean_third, c.all_rows-2.ensures.survives.clean) in
     let to_second = (c.in_ok-divisions.ensures.ok clean_second).0.now_is in
     let to_third = (c.in_ok-vehicles.ensures.ok clean_third).0.now_is ∙ to_second in
     record {

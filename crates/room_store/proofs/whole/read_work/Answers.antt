@@ -10,12 +10,12 @@ use Rattle.room_store.proofs.whole.read_work.Goals as goal
 
 pub returns-clause-found : goal.returns-clause-found
 returns-clause-found g c clean all =
-    let second = state g.S.Store c.all_incidents.new.conn in
-    let third = state g.S.Store c.all_calls.new.conn in
-    let fourth = state g.S.Store c.all_turns.new.conn in
-    let clean_fourth : HasCleanDisk fourth = omega (arith, c.all_reports.ensures.survives.clean) in
-    let clean_third : HasCleanDisk third = omega (arith, clean_fourth, c.all_turns.ensures.survives.clean) in
-    let clean_second : HasCleanDisk second = omega (arith, clean_third, c.all_calls.ensures.survives.clean) in
+    let second = state g.S.Store c.all_rows.new.conn in
+    let third = state g.S.Store c.all_rows-2.new.conn in
+    let fourth = state g.S.Store c.all_rows-3.new.conn in
+    let clean_fourth : HasCleanDisk fourth = omega (arith, c.all_rows-4.ensures.survives.clean) in
+    let clean_third : HasCleanDisk third = omega (arith, clean_fourth, c.all_rows-3.ensures.survives.clean) in
+    let clean_second : HasCleanDisk second = omega (arith, clean_third, c.all_rows-2.ensures.survives.clean) in
     let to_second = (c.in_ok-incidents.ensures.ok clean_second).0.now_is in
     let to_third = (c.in_ok-calls.ensures.ok clean_third).0.now_is ∙ to_second in
     let to_fourth = (c.in_ok-turns.ensures.ok clean_fourth).0.now_is ∙ to_third in

@@ -8,11 +8,11 @@ use Rattle.room_store.proofs.working.load_fleet.Goals as goal
 pub returns-clause-rows : goal.returns-clause-rows
 returns-clause-rows g c clean house room h in_order =
     let first = state g.S.Store c.args.conn.now in
-    let second = state g.S.Store c.division_at.new.conn in
-    let third = state g.S.Store c.vehicles_held.new.conn in
+    let second = state g.S.Store c.row_at.new.conn in
+    let third = state g.S.Store c.rows_owned_by.new.conn in
     let d = c.args.division in
-    let clean_third : HasCleanDisk third = omega (arith, c.assignments_of.ensures.survives.clean) in
-    let clean_second : HasCleanDisk second = omega (arith, c.assignments_of.ensures.survives.clean, c.vehicles_held.ensures.survives.clean) in
+    let clean_third : HasCleanDisk third = omega (arith, c.rows_owned_by-2.ensures.survives.clean) in
+    let clean_second : HasCleanDisk second = omega (arith, c.rows_owned_by-2.ensures.survives.clean, c.rows_owned_by.ensures.survives.clean) in
     let in_second = kept first second (c.in_ok-row.ensures.ok clean_second) house room h in
     let in_third = kept second third (c.in_ok-vehicles.ensures.ok clean_third) house room in_second in
     let row = c.in_ok-row.ensures.row clean_second house room h in

@@ -7,10 +7,10 @@ use Rattle.room_store.proofs.working.load_loans.Goals as goal
 pub returns-clause-rows : goal.returns-clause-rows
 returns-clause-rows g c clean house room h in_order =
     let first = state g.S.Store c.args.conn.now in
-    let second = state g.S.Store c.points_of.new.conn in
-    let third = state g.S.Store c.loans_of.new.conn in
-    let clean_third : HasCleanDisk third = omega (arith, c.offers_of.ensures.survives.clean) in
-    let clean_second : HasCleanDisk second = omega (arith, c.offers_of.ensures.survives.clean, c.loans_of.ensures.survives.clean) in
+    let second = state g.S.Store c.rows_owned_by.new.conn in
+    let third = state g.S.Store c.rows_owned_by-2.new.conn in
+    let clean_third : HasCleanDisk third = omega (arith, c.rows_owned_by-3.ensures.survives.clean) in
+    let clean_second : HasCleanDisk second = omega (arith, c.rows_owned_by-3.ensures.survives.clean, c.rows_owned_by-2.ensures.survives.clean) in
     let in_second = kept first second (c.in_ok-points.ensures.ok clean_second) house room h in
     let in_third = kept second third (c.in_ok-loans.ensures.ok clean_third) house room in_second in
     record {

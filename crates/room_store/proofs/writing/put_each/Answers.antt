@@ -11,17 +11,17 @@ pub loop-change-preserved : goal.loop-change-preserved
 loop-change-preserved g c =
     let old = state g.S.Store c.args.tx.now.conn.now in
     let mid = state g.S.Store c.loop-change.tx.conn.now in
-    let new = state g.S.Store c.put.new.tx.conn.now in
+    let new = state g.S.Store c.apply.new.tx.conn.now in
     let before = c.loop-change.invariant in
-    let early = λ (clean : HasCleanDisk new). let e : HasCleanDisk mid = omega (arith, c.put.ensures.survives.clean) in e in
+    let early = λ (clean : HasCleanDisk new). let e : HasCleanDisk mid = omega (arith, c.apply.ensures.survives.clean) in e in
     let changes = c.args.changes.now in
     let at = c.loop-change.change-index in
     let item = c.change-item.result in
     let more : drop at changes ≡ item ∷ drop (at + 1) changes = rw c.change-item.is (drop_more changes at _ c.loop-change-test.true) in
-    let made = λ (clean : HasCleanDisk new). c.in_ok-put.ensures.ok clean in
+    let made = λ (clean : HasCleanDisk new). c.in_ok-apply.ensures.ok clean in
     record {
-      same = c.put.ensures.same_reference ∙ before.same;
-      survives = survives_then old mid new (λ _. ⊥) (λ _. ⊥) (λ _. ⊥) (λ _ db none. none) (λ _ db none. none) before.survives c.put.ensures.survives;
+      same = c.apply.ensures.same_reference ∙ before.same;
+      survives = survives_then old mid new (λ _. ⊥) (λ _. ⊥) (λ _. ⊥) (λ _ db none. none) (λ _ db none. none) before.survives c.apply.ensures.survives;
       schema = λ clean. (made clean).schema;
       inside = λ clean. (made clean).inside.mode;
       kept = λ clean.

@@ -4,9 +4,9 @@ use Rattle.sqlite.specs.Held.{state}
 use Rattle.sqlite.specs.State.{HasCleanDisk}
 use Rattle.table_laws.proofs.Refusals.{plain_here}
 use Rattle.room_schema.specs.Schema.{room_schema}
-use Rattle.room_tables.specs.declared.areas.TheConstants.{ALL_AREAS}
-use Rattle.room_tables.proofs.AreasTable.{all_areas_means}
-use Rattle.room_tables.proofs.Starts.{areas_found, areas_are}
+use Rattle.room_statements.specs.declared.areas.TheConstants.{ALL_AREAS}
+use Rattle.room_statements.proofs.AreasTable.{all_areas_means}
+use Rattle.room_statements.proofs.Starts.{areas_found, areas_are}
 use Rattle.room_tables.proofs.areas.all_areas.Goals as goal
 
 pub select-requires : goal.select-requires
@@ -16,10 +16,10 @@ pub returns-clause-areas : goal.returns-clause-areas
 returns-clause-areas g c clean =
     let old = state g.S.Store c.args.conn.now in
     let early : HasCleanDisk old = omega (arith, c.select.ensures.survives.clean) in
-    IfOk-weaker c.areas_in.result _ _ (λ areas is. areas_are areas.items old _ _ (c.requires early) (c.in_ok-shown.ensures.shown clean) (is ∙ c.as_slice.ensures.value)) c.areas_in.ensures
+    IfOk-weaker c.areas_in.result _ _ (λ areas is. areas_are areas.items old _ _ (c.requires early) (c.in_ok-shown.ensures.shown clean) (is ∙ c.as_slice.ensures.value)) c.areas_in.ensures.areas
 
 pub returns-clause-found : goal.returns-clause-found
 returns-clause-found g c clean =
     let old = state g.S.Store c.args.conn.now in
     let early : HasCleanDisk old = omega (arith, c.select.ensures.survives.clean) in
-    IfOk-weaker c.areas_in.result _ _ (λ areas is. areas_found areas.items old _ _ (c.requires early) (c.in_ok-shown.ensures.shown clean) (is ∙ c.as_slice.ensures.value)) c.areas_in.ensures
+    IfOk-weaker c.areas_in.result _ _ (λ areas is. areas_found areas.items old _ _ (c.requires early) (c.in_ok-shown.ensures.shown clean) (is ∙ c.as_slice.ensures.value)) c.areas_in.ensures.areas

@@ -1,7 +1,7 @@
--- What was shown is what was asked for. (Written by tools/tables.py.)
+-- What was shown is what was asked for.
 use Rattle.room_schema.specs.Schema.{room_schema}
-use Rattle.room_tables.proofs.CallsTable.{calls_of_are, calls_of_means}
-use Rattle.room_tables.specs.declared.calls.TheConstants.{CALLS_OF}
+use Rattle.room_statements.proofs.CallsTable.{calls_of_are, calls_of_means}
+use Rattle.room_statements.specs.declared.calls.TheConstants.{CALLS_OF}
 use Rattle.sqlite.specs.Held.{state}
 use Rattle.sqlite.specs.State.{HasCleanDisk}
 use Rattle.std.proofs.Common.{arith}

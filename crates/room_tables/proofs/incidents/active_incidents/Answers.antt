@@ -1,7 +1,7 @@
--- What was shown is what was asked for. (Written by tools/tables.py.)
+-- What was shown is what was asked for.
 use Rattle.room_schema.specs.Schema.{room_schema}
-use Rattle.room_tables.proofs.IncidentsTable.{active_incidents_are, active_incidents_means}
-use Rattle.room_tables.specs.declared.incidents.TheConstants.{ACTIVE_INCIDENTS}
+use Rattle.room_statements.proofs.IncidentsTable.{active_incidents_are, active_incidents_means}
+use Rattle.room_statements.specs.declared.incidents.TheConstants.{ACTIVE_INCIDENTS}
 use Rattle.sqlite.specs.Held.{state}
 use Rattle.sqlite.specs.State.{HasCleanDisk}
 use Rattle.std.proofs.Common.{arith}

@@ -5,9 +5,9 @@ use Rattle.sqlite.specs.Held.{state}
 use Rattle.sqlite.specs.State.{HasCleanDisk}
 use Rattle.table_laws.proofs.Refusals.{plain_here}
 use Rattle.room_schema.specs.Schema.{room_schema}
-use Rattle.room_tables.specs.declared.meta.TheConstants.{ALL_META}
-use Rattle.room_tables.proofs.MetaTable.{all_meta_means}
-use Rattle.room_tables.proofs.Starts.{zone_found, zone_is}
+use Rattle.room_statements.specs.declared.meta.TheConstants.{ALL_META}
+use Rattle.room_statements.proofs.MetaTable.{all_meta_means}
+use Rattle.room_statements.proofs.Starts.{zone_found, zone_is}
 use Rattle.room_tables.proofs.meta.zone.Goals as goal
 
 pub select-requires : goal.select-requires
@@ -17,10 +17,10 @@ pub returns-clause-zone : goal.returns-clause-zone
 returns-clause-zone g c clean =
     let old = state g.S.Store c.args.conn.now in
     let early : HasCleanDisk old = omega (arith, c.select.ensures.survives.clean) in
-    IfOk-weaker c.zone_in.result _ _ (λ zone is. zone_is (string_bytes zone) old _ _ (c.requires early) (c.in_ok-shown.ensures.shown clean) (is ∙ c.as_slice.ensures.value)) c.zone_in.ensures
+    IfOk-weaker c.zone_in.result _ _ (λ zone is. zone_is (string_bytes zone) old _ _ (c.requires early) (c.in_ok-shown.ensures.shown clean) (is ∙ c.as_slice.ensures.value)) c.zone_in.ensures.zone
 
 pub returns-clause-found : goal.returns-clause-found
 returns-clause-found g c clean =
     let old = state g.S.Store c.args.conn.now in
     let early : HasCleanDisk old = omega (arith, c.select.ensures.survives.clean) in
-    IfOk-weaker c.zone_in.result _ _ (λ zone is. zone_found (string_bytes zone) old _ _ (c.requires early) (c.in_ok-shown.ensures.shown clean) (is ∙ c.as_slice.ensures.value)) c.zone_in.ensures
+    IfOk-weaker c.zone_in.result _ _ (λ zone is. zone_found (string_bytes zone) old _ _ (c.requires early) (c.in_ok-shown.ensures.shown clean) (is ∙ c.as_slice.ensures.value)) c.zone_in.ensures.zone

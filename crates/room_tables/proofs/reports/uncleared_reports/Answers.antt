@@ -1,7 +1,7 @@
--- What was shown is what was asked for. (Written by tools/tables.py.)
+-- What was shown is what was asked for.
 use Rattle.room_schema.specs.Schema.{room_schema}
-use Rattle.room_tables.proofs.ReportsTable.{uncleared_reports_are, uncleared_reports_means}
-use Rattle.room_tables.specs.declared.reports.TheConstants.{UNCLEARED_REPORTS}
+use Rattle.room_statements.proofs.ReportsTable.{uncleared_reports_are, uncleared_reports_means}
+use Rattle.room_statements.specs.declared.reports.TheConstants.{UNCLEARED_REPORTS}
 use Rattle.sqlite.specs.Held.{state}
 use Rattle.sqlite.specs.State.{HasCleanDisk}
 use Rattle.std.proofs.Common.{arith}

@@ -1,7 +1,7 @@
--- What was shown is what was asked for. (Written by tools/tables.py.)
+-- What was shown is what was asked for.
 use Rattle.room_schema.specs.Schema.{room_schema}
-use Rattle.room_tables.proofs.TerminalsTable.{crew_terminals_are, crew_terminals_means}
-use Rattle.room_tables.specs.declared.terminals.TheConstants.{CREW_TERMINALS}
+use Rattle.room_statements.proofs.TerminalsTable.{crew_terminals_are, crew_terminals_means}
+use Rattle.room_statements.specs.declared.terminals.TheConstants.{CREW_TERMINALS}
 use Rattle.sqlite.specs.Held.{state}
 use Rattle.sqlite.specs.State.{HasCleanDisk}
 use Rattle.std.proofs.Common.{arith}

@@ -1,7 +1,7 @@
--- What was shown is what was asked for. (Written by tools/tables.py.)
+-- What was shown is what was asked for.
 use Rattle.room_schema.specs.Schema.{room_schema}
-use Rattle.room_tables.proofs.TerminalsTable.{terminal_at_is, terminal_at_means}
-use Rattle.room_tables.specs.declared.terminals.TheConstants.{TERMINAL_AT}
+use Rattle.room_statements.proofs.TerminalsTable.{terminal_at_is, terminal_at_means}
+use Rattle.room_statements.specs.declared.terminals.TheConstants.{TERMINAL_AT}
 use Rattle.sqlite.specs.Held.{state}
 use Rattle.sqlite.specs.State.{HasCleanDisk}
 use Rattle.std.proofs.Common.{arith}

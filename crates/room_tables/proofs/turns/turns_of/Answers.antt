@@ -1,7 +1,7 @@
--- What was shown is what was asked for. (Written by tools/tables.py.)
+-- What was shown is what was asked for.
 use Rattle.room_schema.specs.Schema.{room_schema}
-use Rattle.room_tables.proofs.TurnsTable.{turns_of_are, turns_of_means}
-use Rattle.room_tables.specs.declared.turns.TheConstants.{TURNS_OF}
+use Rattle.room_statements.proofs.TurnsTable.{turns_of_are, turns_of_means}
+use Rattle.room_statements.specs.declared.turns.TheConstants.{TURNS_OF}
 use Rattle.sqlite.specs.Held.{state}
 use Rattle.sqlite.specs.State.{HasCleanDisk}
 use Rattle.std.proofs.Common.{arith}

@@ -1,0 +1,12 @@
+-- What ran is the change.
+use Rattle.std.proofs.Common.{arith}
+use Rattle.sqlite.specs.Held.{state}
+use Rattle.sqlite.specs.State.{HasCleanDisk}
+use Rattle.room_statements.proofs.Puts.{drop_makes}
+use Rattle.room_tables.proofs.changing.drop_at.Goals as goal
+
+pub returns-clause-ok : goal.returns-clause-ok
+returns-clause-ok g c clean =
+    let early : HasCleanDisk (state g.S.Store c.args.tx.now.conn.now) = omega (arith, c.write.ensures.survives.clean) in
+    drop_makes g.met.X.Table.is_table _ _ g.met.X.Dropped.is_dropped c.args.key.now _ _ _ (c.requires.schema early) (c.in_ok-write.ensures.ok clean)
+    (rw (c.drop_statement.ensures, c.as_slice.ensures, c.key_columns.ensures) at (c.in_ok-write.ensures.ran clean))

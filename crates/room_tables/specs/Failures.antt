@@ -1,0 +1,55 @@
+-- What a fault tells. Memory may run out at any time; storage is told for a cause.
+use Rattle.std.specs.Prelude.{◌≡◌, ◌≤◌, ◌++◌, ◌⊎◌, ⊤, ℕ, suc, List, ◌∷◌, map, length, Bool, false, Err}
+use Rattle.std.specs.declared.cmp.Ordering.{Ordering}
+use Rattle.sqlite_value.specs.Order.{Row}
+use Rattle.sqlite.specs.State.{ExecutesInside, FailsToQuery, Shown, State}
+use Rattle.sqlite.specs.declared.error.Error.{Error}
+use Rattle.room_place.specs.declared.plans.Area.{Area}
+use Rattle.room_types.specs.Keyed.{IsKeyed}
+use Rattle.room_columns.specs.Readable.{is_area_row}
+use Rattle.room_columns.specs.Rows.{area_row}
+use Rattle.room_schema.specs.Faults.{fault_of}
+use Rattle.room_schema.specs.declared.faults.Fault.{Fault}
+use Rattle.room_schema.specs.declared.faults.Fault.TheVariants.{Memory, Storage}
+
+-- where storage is told, this is so
+abbrev pub IfStorage : Type 0 → Fault → Type 0
+IfStorage IsSo Memory = ⊤
+IfStorage IsSo Storage = IsSo
+
+module _ (text : List ℕ) (params : Row) (old new : State) where
+  -- The query failed, and not for want of memory; or what it showed is none of what is read.
+  abbrev pub FailsToRead : (List Row → Type 0) → Type 0
+  FailsToRead AreNone = ((e : Error) × FailsToQuery text params old new e × (fault_of e ≡ Storage)) ⊎ ((shown : List Row) × Shown text params old new shown × AreNone shown)
+
+  -- The statement failed, and not for want of memory.
+  abbrev pub FailsToWrite : Type 0
+  FailsToWrite = (e : Error) × ExecutesInside 0 text params old new (Err e) × (fault_of e ≡ Storage)
+
+-- one of them is none of the table's rows
+abbrev pub HasStranger : (Row → Bool) → List Row → Type 0
+HasStranger is_row shown = (before : List Row) × (r : Row) × (after : List Row) × (before ++ r ∷ after ≡ shown) × (is_row r ≡ false)
+
+-- they begin with rows whose keys don't rise
+abbrev pub AreOutOfOrder : {X K : Type 0} → (K → K → Ordering) → (X → K) → (X → Row) → List Row → Type 0
+AreOutOfOrder {X} order key row shown = (xs : List X) × (after : List Row) × (map row xs ++ after ≡ shown) × ¬ (IsKeyed order key xs)
+
+-- they are no rows of the table in the order of their keys
+abbrev pub AreNoRows : {X K : Type 0} → (Row → Bool) → (K → K → Ordering) → (X → K) → (X → Row) → List Row → Type 0
+AreNoRows is_row order key row shown = HasStranger is_row shown ⊎ AreOutOfOrder order key row shown
+
+-- one is no row of the table, or there are more than one
+abbrev pub AreMoreThanOne : (Row → Bool) → List Row → Type 0
+AreMoreThanOne is_row shown = HasStranger is_row shown ⊎ (2 ≤ length shown)
+
+-- one is no row of the table, or there is not just one
+abbrev pub AreNotJustOne : (Row → Bool) → List Row → Type 0
+AreNotJustOne is_row shown = HasStranger is_row shown ⊎ ¬ (length shown ≡ 1)
+
+-- an area has another number than its place
+abbrev pub HasMisnumbered : List Row → Type 0
+HasMisnumbered shown = (before : List Row) × (area : ℕ × Area) × (after : List Row) × (before ++ area_row area ∷ after ≡ shown) × ¬ (area.0 ≡ suc (length before))
+
+-- they are not the areas of a plan, numbered from 1 on
+abbrev pub AreNoPlan : List Row → Type 0
+AreNoPlan shown = HasStranger is_area_row shown ⊎ HasMisnumbered shown

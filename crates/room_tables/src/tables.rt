@@ -1,0 +1,71 @@
+//! What a table of the room's rows is, and the statements that it has.
+
+ghost use Rattle.std.specs.Prelude.{◌≡◌, ℕ, List, [], ◌∷◌};
+ghost use Rattle.sqlite_schema.specs.declared.schema.Table.{Table as SchemaTable};
+ghost use Rattle.table_laws.specs.Typed.{number};
+ghost use Rattle.room_types.specs.declared.changes.Change.{Change};
+ghost use Rattle.room_model.specs.Room.{Room};
+ghost use Rattle.room_statements.specs.Tables.{IsDropped, IsTable, SelectsChosen, Texts};
+
+use room_columns::rows::StoredRow;
+
+/// The texts of the statements that every table has.
+#[derive(Clone, Copy)]
+pub struct Statements {
+    /// Selects all rows, in the order of their keys.
+    pub all: &'static str,
+    /// Selects the row of a key.
+    pub at: &'static str,
+    /// Puts a row in its key's place.
+    pub put: &'static str,
+}
+
+/// A table of the room's rows.
+///
+/// Its law: the schema has the table, the room's rows are what it holds, and its statements say what
+/// their names say.
+pub trait Table: StoredRow {
+    /// The table as the schema has it.
+    ghost table: { SchemaTable };
+
+    /// The rows of a room that stand in it.
+    ghost rows: { Room → List Self };
+
+    /// The change that a put makes.
+    ghost put: { Self → Change };
+
+    ghost texts: { Texts };
+
+    /// Its statements.
+    fn statements() -> Statements
+        ensures all { result.all.now ≡ texts.all }
+        ensures at { result.at.now ≡ texts.at }
+        ensures put { result.put.now ≡ texts.put };
+
+    ghost is_table: { IsTable Self.Key.cmp Self.key_of Self.cells Self.key_cells table rows put texts };
+}
+
+/// A table whose rows are found by the division that owns them.
+pub trait Owned: Table {
+    ghost owned_text: { List ℕ };
+
+    /// Selects the rows that a division owns.
+    fn select_owned() -> &'static str
+        ensures { result.now ≡ owned_text };
+
+    ghost selects_owned: { (d : ℕ) → SelectsChosen Self.table Self.cells owned_text (number d ∷ []) (Self.owned d) };
+}
+
+/// A table that rows are dropped from.
+pub trait Dropped: Table {
+    /// The change that a drop makes.
+    ghost drop: { Self.Key → Change };
+
+    ghost drop_text: { List ℕ };
+
+    /// Drops the row of a key.
+    fn drop_statement() -> &'static str
+        ensures { result.now ≡ drop_text };
+
+    ghost is_dropped: { IsDropped Self.Key.cmp Self.key_of Self.cells Self.key_cells Self.table Self.rows drop drop_text };
+}
