@@ -11,6 +11,9 @@ use clap::error::ErrorKind;
 use std::alloc::Global;
 use std::io::Write;
 
+/// The exit status of a mistake in the words of the command line.
+pub const USAGE: u8 = 2;
+
 /// Does what the words of a command line ask for, the program's name first. What a command gives goes
 /// to `out`, and why it fails to `err`. Gives the exit status: 0 done, or help asked for; 1 refused input; 2
 /// usage; 3 storage; 4 network; 5 memory.
@@ -23,7 +26,11 @@ pub fn command<O: Write, E: Write>(
 ) -> u8 {
     let done = match words::read(alloc, words) {
         Ok(task) => perform(rt, alloc, &task, out),
-        Err(error) => return advise(&error, out, err),
+        Err(error) if is_mistake(&error) => {
+            let _ = write!(err, "{error}");
+            return USAGE;
+        }
+        Err(error) => help(&error, out),
     };
     match done {
         Ok(done) => done.status(),
@@ -52,19 +59,18 @@ fn perform<O: Write>(
     }
 }
 
-// Tells help where it was asked for, and else what is wrong with the words.
-fn advise<O: Write, E: Write>(error: &Error, out: &mut O, err: &mut E) -> u8 {
+// Whether an error of the words is a mistake in them, and neither help that was asked for nor want of memory.
+fn is_mistake(error: &Error) -> bool {
+    error.use_stderr() && error.kind() != ErrorKind::OutOfMemory
+}
+
+// Writes the help that was asked for.
+fn help<O: Write>(error: &Error, out: &mut O) -> Result<Done, Fault> {
     if error.kind() == ErrorKind::OutOfMemory {
-        let _ = writeln!(err, "{}", Fault::Memory);
-        return Fault::Memory.status();
+        return Err(Fault::Memory);
     }
-    if error.use_stderr() {
-        let _ = write!(err, "{error}");
-        2
-    } else {
-        match write!(out, "{error}") {
-            Ok(()) => 0,
-            Err(_) => Fault::Network.status(),
-        }
+    match write!(out, "{error}") {
+        Ok(()) => Ok(Done::Whole),
+        Err(_) => Err(Fault::Network),
     }
 }

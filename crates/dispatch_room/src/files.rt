@@ -28,14 +28,19 @@ pub fn connect(rt: &HostRuntime, path: &str) -> Result<Connection<FileStore<File
     }
 }
 
-/// A connection to the file of a room, which has to be there.
+/// A connection to the file of a room, which has to be there. An empty file is none, and stays empty: to
+/// the database it is a new one, whose first page would be written.
 pub fn connect_room(rt: &HostRuntime, path: &str) -> Result<Connection<FileStore<File>>, Fault>
     ensures { IfOk result (λ conn. conn.in_transaction ≡ false) }
 {
-    match fs::exists(rt, path) {
-        Ok(true) => connect(rt, path),
-        Ok(false) => Err(Fault::File),
-        Err(_) => Err(Fault::Storage),
+    match fs::metadata(rt, path) {
+        Ok(found) if found.len() > 0 => connect(rt, path),
+        Ok(_) => Err(Fault::File),
+        Err(error) => Err(match error.kind() {
+            ErrorKind::NotFound => Fault::File,
+            ErrorKind::OutOfMemory => Fault::Memory,
+            _ => Fault::Storage,
+        }),
     }
 }
 

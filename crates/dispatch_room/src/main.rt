@@ -12,7 +12,7 @@ mod serving;
 mod timing;
 mod words;
 
-use crate::commands::command;
+use crate::commands::{USAGE, command};
 use crate::dry_run::dry_run;
 use crate::endings::{Fault, ended};
 use room_message::wires::Wire;
@@ -29,6 +29,10 @@ fn main(rt: HostRuntime) -> ExitCode {
             &mut rt.stdout(),
             &mut rt.stderr(),
         ),
+        Err(error) if error.kind() == io::ErrorKind::InvalidData => {
+            let _ = eprintln!(rt; "error: invalid UTF-8 was detected in one or more arguments");
+            USAGE
+        }
         Err(_) => tell(&rt, Fault::Memory),
     };
     ExitCode::from(status)
