@@ -1,7 +1,7 @@
 //! The commands over a room's file: what they write, and the exit status.
 
 use crate::creating::init;
-use crate::endings::{Done, Fault};
+use room_endings::endings::{Done, Fault};
 use crate::importing::import;
 use crate::serving::serve_file;
 use crate::timing::times;

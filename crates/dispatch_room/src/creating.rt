@@ -1,6 +1,6 @@
 //! `init`: a room is created in a file, by a plan.
 
-use crate::endings::{Done, Fault};
+use room_endings::endings::{Done, Fault};
 use crate::files::{close, connect, read_text};
 use room_files::plans::read_plan;
 use room_place::plans::{DivisionNumber, Plan};

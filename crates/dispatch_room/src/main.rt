@@ -4,8 +4,6 @@
 
 mod commands;
 mod creating;
-mod dry_run;
-mod endings;
 mod files;
 mod importing;
 mod serving;
@@ -13,15 +11,18 @@ mod timing;
 mod words;
 
 use crate::commands::{USAGE, command};
-use crate::dry_run::dry_run;
-use crate::endings::{Fault, ended};
+use room_endings::endings::{Fault, ended};
+use room_example::dry_run::dry_run;
 use room_message::wires::Wire;
 use std::process::ExitCode;
 use std::{env, io};
 
 fn main(rt: HostRuntime) -> ExitCode {
     let status = match arguments(&rt) {
-        Ok(words) if words.len() <= 1 => dry(&rt),
+        Ok(words) if words.len() <= 1 => match dry(&rt) {
+            Ok(()) => 0,
+            Err(fault) => tell(&rt, fault),
+        },
         Ok(words) => command(
             &rt,
             rt.alloc(),
@@ -44,13 +45,10 @@ fn arguments(rt: &HostRuntime) -> io::Result<Vec<String>> {
 }
 
 // The dry run over standard input and output.
-fn dry(rt: &HostRuntime) -> u8 {
+fn dry(rt: &HostRuntime) -> Result<(), Fault> {
     let mut reader = Wire::new(rt.stdin());
     let mut writer = Wire::new(rt.stdout());
-    match ended(dry_run(rt.alloc(), &mut reader, &mut writer)) {
-        Ok(()) => 0,
-        Err(fault) => tell(rt, fault),
-    }
+    ended(dry_run(rt.alloc(), &mut reader, &mut writer)?)
 }
 
 // Tells a fault on standard error, and gives its status.

@@ -1,6 +1,6 @@
 //! `serve`: a room is served over TCP, one connection after another.
 
-use crate::endings::{Done, Fault};
+use room_endings::endings::{Done, Fault};
 use crate::files::{close, connect_room, open_room};
 use room_days::zones::Zone;
 use room_http::serving::{ServeEnd, serve};

@@ -3,7 +3,7 @@ ghost use Rattle.std.specs.Prelude.{◌≡◌, IfErr};
 ghost use Rattle.room_types.specs.declared.refusals.Refusal.TheVariants.{Memory};
 ghost use Rattle.room_store.specs.Keeping.{IsReady};
 
-use crate::endings::{Done, Fault, refused};
+use room_endings::endings::{Done, Fault, refused};
 use crate::files::{close, connect_room, open_room};
 use room_days::zones::Zone;
 use room_files::reports::day_report;

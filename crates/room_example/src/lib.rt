@@ -1,6 +1,7 @@
-//! The example room of the documents, in memory, and a connection that it serves.
+//! The example room of the documents, in memory, and a connection that it serves; the dry run is one.
 #![tactic(auto)]
 
+pub mod dry_run;
 mod example;
 pub mod laws;
 pub mod rooms;

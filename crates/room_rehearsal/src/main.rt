@@ -2,23 +2,27 @@
 //! tells the moments, and the messages follow it. The answers go to standard output.
 #![tactic(auto)]
 
-mod endings;
 mod moments;
 mod rehearsal;
 
-use crate::endings::ended;
 use crate::rehearsal::rehearse;
+use room_endings::endings::{Fault, ended};
 use room_message::wires::Wire;
 use std::process::ExitCode;
 
 fn main(rt: HostRuntime) -> ExitCode {
-    let mut reader = Wire::new(rt.stdin());
-    let mut writer = Wire::new(rt.stdout());
-    match ended(rehearse(rt.alloc(), &mut reader, &mut writer)) {
+    match perform(&rt) {
         Ok(()) => ExitCode::SUCCESS,
         Err(fault) => {
             let _ = eprintln!(rt; "{fault}");
             ExitCode::from(fault.status())
         }
     }
+}
+
+// The rehearsal over standard input and output.
+fn perform(rt: &HostRuntime) -> Result<(), Fault> {
+    let mut reader = Wire::new(rt.stdin());
+    let mut writer = Wire::new(rt.stdout());
+    ended(rehearse(rt.alloc(), &mut reader, &mut writer)?)
 }

@@ -3,7 +3,7 @@ ghost use Rattle.std.specs.Prelude.{◌≡◌, ◌∷◌, ◌++◌, [], false, I
 ghost use Rattle.std.specs.Io.KnownBytes.{Consumes};
 ghost use Rattle.room_rehearsal.specs.Lines.{IsNumeral, ReadsLine};
 
-use crate::endings::Fault;
+use room_endings::endings::Fault;
 use room_message::sources::Source;
 use std::alloc::Global;
 
@@ -32,7 +32,7 @@ fn read_line<R: Source>(alloc: Global, reader: &mut R) -> Result<Vec<u8>, Fault>
             byte => line.push(byte)?,
         }
     }
-    Err(Fault::Moments)
+    Err(Fault::Input)
 }
 
 fn read_byte<R: Source>(reader: &mut R) -> Result<u8, Fault>
@@ -43,7 +43,7 @@ fn read_byte<R: Source>(reader: &mut R) -> Result<u8, Fault>
     let mut byte = [0u8; 1];
     match reader.read(&mut byte) {
         Ok(1) => Ok(byte[0]),
-        Ok(_) => Err(Fault::Moments),
+        Ok(_) => Err(Fault::Input),
         Err(_) => Err(Fault::Network),
     }
 }
@@ -53,7 +53,7 @@ fn moments_in(alloc: Global, line: &[u8]) -> Result<Vec<u64>, Fault> {
     for word in line.split(|byte| *byte == b' ') {
         match moment_of(word) {
             Some(moment) => moments.push(moment)?,
-            None => return Err(Fault::Moments),
+            None => return Err(Fault::Input),
         }
     }
     Ok(moments)

@@ -4,8 +4,8 @@ ghost use Rattle.std.specs.Prelude.{◌≡◌, ℕ, Bool, List, Option, false, [
 ghost use Rattle.room_example.specs.Example.{IsExampleTalk};
 ghost use Rattle.room_rehearsal.specs.Lines.{ReadsLine, most_reads};
 
-use crate::endings::Fault;
 use crate::moments::read_moments;
+use room_endings::endings::Fault;
 use room_example::talks::serve_example;
 use room_http::serving::ServeEnd;
 use room_message::clocks::ListClock;

@@ -1,4 +1,4 @@
-//! Tests of the tables and of the store, over their public functions alone.
+//! Tests of the store, over its public functions alone.
 #![tactic(auto)]
 
 #[cfg(test)]
@@ -29,7 +29,5 @@ mod samples;
 mod scripts;
 #[cfg(test)]
 mod stops;
-#[cfg(test)]
-mod tables;
 #[cfg(test)]
 mod wanted;

@@ -1,4 +1,4 @@
--- How the program ends.
+-- How a program ends.
 use Rattle.std.specs.Prelude.{ℕ, Result, Ok, Err}
 use Rattle.room_http.specs.declared.serving.ServeEnd.{ServeEnd}
 use Rattle.room_http.specs.declared.serving.ServeEnd.TheVariants as end
@@ -12,10 +12,10 @@ use Rattle.room_files.specs.declared.fleets.FleetFileFault.{FleetFileFault}
 use Rattle.room_files.specs.declared.fleets.FleetFileFault.TheVariants as fleet
 use Rattle.room_types.specs.declared.refusals.Refusal.{Refusal}
 use Rattle.room_types.specs.declared.refusals.Refusal.TheVariants as refusal
-use Rattle.dispatch_room.specs.declared.endings.Done.{Done}
-use Rattle.dispatch_room.specs.declared.endings.Done.TheVariants.{Whole, InPart}
-use Rattle.dispatch_room.specs.declared.endings.Fault.{Fault}
-use Rattle.dispatch_room.specs.declared.endings.Fault.TheVariants.{PlanRow, Input, File, Version, Division, Day, Connection, Storage, Network, Memory}
+use Rattle.room_endings.specs.declared.endings.Done.{Done}
+use Rattle.room_endings.specs.declared.endings.Done.TheVariants.{Whole, InPart}
+use Rattle.room_endings.specs.declared.endings.Fault.{Fault}
+use Rattle.room_endings.specs.declared.endings.Fault.TheVariants.{PlanRow, Input, File, Version, Division, Day, Connection, Storage, Network, Memory}
 
 -- the exit status of a command that was done
 abbrev pub status_done : Done → ℕ
@@ -35,19 +35,15 @@ status_of Storage = 3
 status_of Network = 4
 status_of Memory = 5
 
--- the dry run is done where its connection closed, and else fails
-abbrev pub ended : Result ServeEnd CreateFault → Result (Unit {0}) Fault
-ended (Ok end.Closed) = Ok tt
-ended (Ok end.Cut) = Err Connection
-ended (Ok end.ReadFault) = Err Network
-ended (Ok end.WriteFault) = Err Network
-ended (Ok end.ClockFault) = Err Connection
-ended (Ok end.Turns) = Err Connection
-ended (Ok end.Memory) = Err Memory
-ended (Err create.NotEmpty) = Err Storage
-ended (Err create.BadTerminal) = Err Storage
-ended (Err create.Memory) = Err Memory
-ended (Err create.Storage) = Err Storage
+-- a program that serves one connection is done where it closed, and else fails
+abbrev pub ended : ServeEnd → Result (Unit {0}) Fault
+ended end.Closed = Ok tt
+ended end.Cut = Err Connection
+ended end.ReadFault = Err Network
+ended end.WriteFault = Err Network
+ended end.ClockFault = Err Connection
+ended end.Turns = Err Connection
+ended end.Memory = Err Memory
 
 -- what each fault of a plan's file is to the program
 abbrev pub plan_fault : PlanFileFault → Fault

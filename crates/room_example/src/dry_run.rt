@@ -3,9 +3,9 @@ ghost use Rattle.std.specs.Prelude.{◌≡◌, ◌⊎◌, ℕ, Bool, false, [], 
 ghost use Rattle.room_store.specs.declared.creating.CreateFault.TheVariants.{Memory, Storage};
 ghost use Rattle.room_http.specs.Serving.{ReadsAtMost};
 ghost use Rattle.room_example.specs.Example.{IsExampleTalk};
-ghost use Rattle.dispatch_room.specs.DryRun.{example_moment, most_reads};
+ghost use Rattle.room_example.specs.DryRun.{example_moment, most_reads};
 
-use room_example::talks::serve_example;
+use crate::talks::serve_example;
 use room_http::serving::ServeEnd;
 use room_message::clocks::FixedClock;
 use room_message::sinks::Sink;

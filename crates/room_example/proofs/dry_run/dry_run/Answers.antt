@@ -1,4 +1,4 @@
-use Rattle.dispatch_room.proofs.dry_run.dry_run.Goals as goal
+use Rattle.room_example.proofs.dry_run.dry_run.Goals as goal
 
 pub returns-clause-talk : goal.returns-clause-talk
 returns-clause-talk g c =

@@ -1,6 +1,7 @@
-//! How the program ends: why it fails, what it says of that, and its exit status.
+//! How a program ends: how much it did, or why it fails, what it says of that, and its exit status.
 ghost use Rattle.std.specs.Prelude.{◌≡◌};
-ghost use Rattle.dispatch_room.specs.Endings.{ended, refused};
+ghost use Rattle.room_endings.specs.Endings.{ended, refused};
+ghost use Rattle.room_endings.specs.declared.endings.Fault.TheVariants.{Memory};
 
 use room_files::fleets::FleetFileFault;
 use room_files::plans::PlanFileFault;
@@ -8,6 +9,7 @@ use room_http::serving::ServeEnd;
 use room_store::creating::CreateFault;
 use room_store::opening::OpenFault;
 use room_types::refusals::Refusal;
+use std::alloc::AllocFailed;
 use thiserror::Error;
 
 /// How much of a command was done.
@@ -21,7 +23,7 @@ pub enum Done {
 
 impl Done {
     ghost use Rattle.std.specs.Prelude.{◌≡◌};
-    ghost use Rattle.dispatch_room.specs.Endings.{status_done};
+    ghost use Rattle.room_endings.specs.Endings.{status_done};
 
     /// The exit status of the program.
     pub fn status(self) -> u8
@@ -40,7 +42,7 @@ pub enum Fault {
     /// A row of a plan, from 1 after the header; 0 for the plan as a whole.
     #[error("refused: plan row {0}")]
     PlanRow(u64),
-    /// A text file can't be read, or is no such file.
+    /// A text can't be read, or is none of its form.
     #[error("refused: input")]
     Input,
     /// The room's file is not there, or is no room; or a room was to be created, and the file is not empty.
@@ -71,7 +73,7 @@ pub enum Fault {
 
 impl Fault {
     ghost use Rattle.std.specs.Prelude.{◌≡◌};
-    ghost use Rattle.dispatch_room.specs.Endings.{status_of};
+    ghost use Rattle.room_endings.specs.Endings.{status_of};
 
     /// The exit status of the program.
     pub fn status(self) -> u8
@@ -92,8 +94,16 @@ impl Fault {
     }
 }
 
+impl<T: Drop> From<AllocFailed<T>> for Fault {
+    ghost from_gives = { λ _ fault. fault ≡ Memory };
+
+    fn from(_: AllocFailed<T>) -> Fault {
+        Fault::Memory
+    }
+}
+
 impl From<PlanFileFault> for Fault {
-    ghost use Rattle.dispatch_room.specs.Endings.{plan_fault};
+    ghost use Rattle.room_endings.specs.Endings.{plan_fault};
 
     ghost from_gives = { λ fault told. told ≡ plan_fault fault };
 
@@ -107,7 +117,7 @@ impl From<PlanFileFault> for Fault {
 }
 
 impl From<FleetFileFault> for Fault {
-    ghost use Rattle.dispatch_room.specs.Endings.{fleet_fault};
+    ghost use Rattle.room_endings.specs.Endings.{fleet_fault};
 
     ghost from_gives = { λ fault told. told ≡ fleet_fault fault };
 
@@ -120,7 +130,7 @@ impl From<FleetFileFault> for Fault {
 }
 
 impl From<CreateFault> for Fault {
-    ghost use Rattle.dispatch_room.specs.Endings.{create_fault};
+    ghost use Rattle.room_endings.specs.Endings.{create_fault};
 
     ghost from_gives = { λ fault told. told ≡ create_fault fault };
 
@@ -136,7 +146,7 @@ impl From<CreateFault> for Fault {
 }
 
 impl From<OpenFault> for Fault {
-    ghost use Rattle.dispatch_room.specs.Endings.{open_fault};
+    ghost use Rattle.room_endings.specs.Endings.{open_fault};
 
     ghost from_gives = { λ fault told. told ≡ open_fault fault };
 
@@ -160,15 +170,14 @@ pub fn refused(refusal: Refusal) -> Fault
     }
 }
 
-/// What the end of the dry run is to the program.
-pub fn ended(run: Result<ServeEnd, CreateFault>) -> Result<(), Fault>
-    ensures { result ≡ ended run }
+/// What the end of serving one connection is to a program that served no more.
+pub fn ended(end: ServeEnd) -> Result<(), Fault>
+    ensures { result ≡ ended end }
 {
-    match run {
-        Ok(ServeEnd::Closed) => Ok(()),
-        Ok(ServeEnd::Cut | ServeEnd::ClockFault | ServeEnd::Turns) => Err(Fault::Connection),
-        Ok(ServeEnd::ReadFault | ServeEnd::WriteFault) => Err(Fault::Network),
-        Ok(ServeEnd::Memory) | Err(CreateFault::Memory) => Err(Fault::Memory),
-        Err(_) => Err(Fault::Storage),
+    match end {
+        ServeEnd::Closed => Ok(()),
+        ServeEnd::Cut | ServeEnd::ClockFault | ServeEnd::Turns => Err(Fault::Connection),
+        ServeEnd::ReadFault | ServeEnd::WriteFault => Err(Fault::Network),
+        ServeEnd::Memory => Err(Fault::Memory),
     }
 }

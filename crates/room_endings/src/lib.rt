@@ -1,0 +1,4 @@
+//! How a program over a room ends: why it fails, what it says of that, and its exit status.
+#![tactic(auto)]
+
+pub mod endings;
