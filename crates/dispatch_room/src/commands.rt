@@ -1,13 +1,13 @@
 //! The commands over a room's file: what they write, and the exit status.
 
 use crate::creating::init;
-use room_endings::endings::{Done, Fault};
 use crate::importing::import;
 use crate::serving::serve_file;
 use crate::timing::times;
 use crate::words::{self, Task};
 use clap::Error;
 use clap::error::ErrorKind;
+use room_endings::endings::{Done, Fault};
 use std::alloc::Global;
 use std::io::Write;
 

@@ -1,7 +1,7 @@
 //! `init`: a room is created in a file, by a plan.
 
-use room_endings::endings::{Done, Fault};
 use crate::files::{close, connect, read_text};
+use room_endings::endings::{Done, Fault};
 use room_files::plans::read_plan;
 use room_place::plans::{DivisionNumber, Plan};
 use room_store::store::Store;

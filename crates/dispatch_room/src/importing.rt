@@ -1,8 +1,8 @@
 //! `import`: the rows of a fleet are enrolled in a room.
 ghost use Rattle.room_store.specs.Keeping.{IsReady};
 
-use room_endings::endings::{Done, Fault, refused};
 use crate::files::{close, connect_room, open_room, read_text};
+use room_endings::endings::{Done, Fault, refused};
 use room_files::fleets::{FleetLine, read_fleet};
 use room_store::store::Store;
 use room_types::fleet::{FleetRow, RowFate};

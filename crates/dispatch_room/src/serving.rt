@@ -1,8 +1,8 @@
 //! `serve`: a room is served over TCP, one connection after another.
 
-use room_endings::endings::{Done, Fault};
 use crate::files::{close, connect_room, open_room};
 use room_days::zones::Zone;
+use room_endings::endings::{Done, Fault};
 use room_http::serving::{ServeEnd, serve};
 use room_message::clocks::MachineClock;
 use room_message::wires::Wire;

@@ -3,9 +3,9 @@ ghost use Rattle.std.specs.Prelude.{◌≡◌, IfErr};
 ghost use Rattle.room_types.specs.declared.refusals.Refusal.TheVariants.{Memory};
 ghost use Rattle.room_store.specs.Keeping.{IsReady};
 
-use room_endings::endings::{Done, Fault, refused};
 use crate::files::{close, connect_room, open_room};
 use room_days::zones::Zone;
+use room_endings::endings::{Done, Fault, refused};
 use room_files::reports::day_report;
 use room_place::plans::DivisionNumber;
 use room_routes::days::Day;
