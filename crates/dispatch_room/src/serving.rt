@@ -16,7 +16,7 @@ use std::time::Duration;
 const MOST_READS: u32 = 100_000;
 
 /// Where a room is served, and how much.
-#[derive(Clone, Copy, Debug)]
+#[derive(Clone, Copy)]
 pub struct Service<'a> {
     /// Where it listens.
     pub address: &'a str,

@@ -7,7 +7,7 @@ use room_place::plans::DivisionNumber;
 use std::alloc::{AllocError, Global};
 
 /// What the command line asks for. Files are named by their paths.
-#[derive(Clone, Copy, Debug)]
+#[derive(Clone, Copy)]
 pub enum Task<'a> {
     /// A room is created in a file.
     Init {

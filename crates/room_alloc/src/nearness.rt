@@ -3,14 +3,14 @@ use room_types::callsign::Callsign;
 use room_types::tables::Vehicle;
 
 /// How near a vehicle is: by distance in whole metres, and then by callsign.
-#[derive(Clone, Copy, Debug, PartialEq, Eq, PartialOrd, Ord)]
+#[derive(Clone, Copy, PartialEq, Eq, PartialOrd, Ord)]
 pub(crate) struct Nearness {
     pub(crate) distance: u32,
     pub(crate) callsign: Callsign,
 }
 
 /// A vehicle that may be sent.
-#[derive(Clone, Copy, Debug)]
+#[derive(Clone, Copy)]
 pub(crate) struct Candidate {
     /// Of cells, round the incident's.
     pub(crate) ring: u32,

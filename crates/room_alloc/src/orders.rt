@@ -22,7 +22,7 @@ use room_types::slices::Slice;
 use room_types::tables::{Assignment, Incident, Turn, Vehicle};
 
 /// The rows of an order, as they are once it is given.
-#[derive(Clone, Copy, Debug)]
+#[derive(Clone, Copy)]
 pub struct Mobilised {
     pub incident: Incident,
     pub vehicle: Vehicle,

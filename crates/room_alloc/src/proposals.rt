@@ -29,7 +29,7 @@ use room_types::tables::{Incident, Point};
 use std::alloc::{AllocError, Global};
 
 /// How the first few of the candidates are found. Both ways find the same.
-#[derive(Clone, Copy, Debug)]
+#[derive(Clone, Copy)]
 enum Search {
     /// The least that is left, again and again.
     Walk,

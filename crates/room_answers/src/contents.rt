@@ -17,31 +17,31 @@ impl ToJson for Answer {
         let object = Object::new(alloc);
         let object = match self {
             Answer::Called(division, incident, linked) => object
-                .with("division", division)?
-                .with("incident", incident)?
-                .with("linked", linked)?,
-            Answer::Incidents(lines) => object.with("incidents", lines)?,
-            Answer::Proposals(proposals) => object.with("proposals", proposals)?,
+                .with("division", division)
+                .with("incident", incident)
+                .with("linked", linked),
+            Answer::Incidents(lines) => object.with("incidents", lines),
+            Answer::Proposals(proposals) => object.with("proposals", proposals),
             Answer::Mobilised(order, callsign) => {
-                object.with("order", order)?.with("vehicle", callsign)?
+                object.with("order", order).with("vehicle", callsign)
             }
-            Answer::Done => object.with("done", &true)?,
-            Answer::Vehicles(lines) => object.with("vehicles", lines)?,
-            Answer::Queue(entries) => object.with("queue", entries)?,
-            Answer::Points(lines) => object.with("points", lines)?,
-            Answer::Loans(loans) => object.with("loans", loans)?,
-            Answer::Offers(offers) => object.with("offers", offers)?,
+            Answer::Done => object.with("done", &true),
+            Answer::Vehicles(lines) => object.with("vehicles", lines),
+            Answer::Queue(entries) => object.with("queue", entries),
+            Answer::Points(lines) => object.with("points", lines),
+            Answer::Loans(loans) => object.with("loans", loans),
+            Answer::Offers(offers) => object.with("offers", offers),
             Answer::Times(times) => return times.to_json(alloc),
             Answer::Order(assignment, post, status) => object
-                .with("order", assignment)?
-                .with("post", post)?
-                .with("status", status)?,
+                .with("order", assignment)
+                .with("post", post)
+                .with("status", status),
             Answer::Reported(number, outcome, status) => object
-                .with("number", number)?
-                .with("outcome", outcome)?
-                .with("status", status)?,
+                .with("number", number)
+                .with("outcome", outcome)
+                .with("status", status),
         };
-        Ok(object.into_value())
+        object.into_value()
     }
 }
 
@@ -50,9 +50,9 @@ impl ToJson for Refusal {
 
     fn to_json(&self, alloc: Global) -> Result<Value, AllocError> {
         let refusal = Object::new(alloc)
-            .with("error", &self.name())?
-            .with("number", &self.number())?;
-        Ok(refusal.into_value())
+            .with("error", &self.name())
+            .with("number", &self.number());
+        refusal.into_value()
     }
 }
 

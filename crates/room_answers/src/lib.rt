@@ -8,5 +8,3 @@ pub mod laws;
 mod lines;
 mod objects;
 pub mod replies;
-#[cfg(test)]
-mod tests;

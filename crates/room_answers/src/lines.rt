@@ -15,14 +15,14 @@ impl ToJson for IncidentLine {
 
     fn to_json(&self, alloc: Global) -> Result<Value, AllocError> {
         let line = Object::new(alloc)
-            .with("calls", &self.calls)?
-            .with("class", &self.class)?
-            .with("lack", &self.lack)?
-            .with("needs", &self.needs.counts())?
-            .with("number", &self.number)?
-            .with("opened", &self.opened)?
-            .with("place", &self.place)?;
-        Ok(line.into_value())
+            .with("calls", &self.calls)
+            .with("class", &self.class)
+            .with("lack", &self.lack)
+            .with("needs", &self.needs.counts())
+            .with("number", &self.number)
+            .with("opened", &self.opened)
+            .with("place", &self.place);
+        line.into_value()
     }
 }
 
@@ -31,11 +31,11 @@ impl ToJson for Proposal {
 
     fn to_json(&self, alloc: Global) -> Result<Value, AllocError> {
         let proposal = Object::new(alloc)
-            .with("breaks", &self.breaks)?
-            .with("distance", &self.distance)?
-            .with("kind", &self.kind)?
-            .with("vehicle", &self.callsign)?;
-        Ok(proposal.into_value())
+            .with("breaks", &self.breaks)
+            .with("distance", &self.distance)
+            .with("kind", &self.kind)
+            .with("vehicle", &self.callsign);
+        proposal.into_value()
     }
 }
 
@@ -44,15 +44,15 @@ impl ToJson for VehicleLine {
 
     fn to_json(&self, alloc: Global) -> Result<Value, AllocError> {
         let line = Object::new(alloc)
-            .with("home", &self.home)?
-            .with("incident", &self.incident)?
-            .with("kind", &self.kind)?
-            .with("place", &self.place)?
-            .with("post", &self.post)?
-            .with("shift_end", &self.shift_end)?
-            .with("status", &self.status)?
-            .with("vehicle", &self.callsign)?;
-        Ok(line.into_value())
+            .with("home", &self.home)
+            .with("incident", &self.incident)
+            .with("kind", &self.kind)
+            .with("place", &self.place)
+            .with("post", &self.post)
+            .with("shift_end", &self.shift_end)
+            .with("status", &self.status)
+            .with("vehicle", &self.callsign);
+        line.into_value()
     }
 }
 
@@ -65,11 +65,11 @@ impl ToJson for Entry {
             None => "",
         };
         let entry = Object::new(alloc)
-            .with("number", &self.number)?
-            .with("rank", &self.rank)?
-            .with("since", &self.since)?
-            .with("vehicle", &vehicle)?;
-        Ok(entry.into_value())
+            .with("number", &self.number)
+            .with("rank", &self.rank)
+            .with("since", &self.since)
+            .with("vehicle", &vehicle);
+        entry.into_value()
     }
 }
 
@@ -78,11 +78,11 @@ impl ToJson for PointLine {
 
     fn to_json(&self, alloc: Global) -> Result<Value, AllocError> {
         let line = Object::new(alloc)
-            .with("cover", &self.cover)?
-            .with("held", &self.held)?
-            .with("number", &self.number)?
-            .with("place", &self.place)?;
-        Ok(line.into_value())
+            .with("cover", &self.cover)
+            .with("held", &self.held)
+            .with("number", &self.number)
+            .with("place", &self.place);
+        line.into_value()
     }
 }
 
@@ -91,13 +91,13 @@ impl ToJson for Loan {
 
     fn to_json(&self, alloc: Global) -> Result<Value, AllocError> {
         let loan = Object::new(alloc)
-            .with("borrower", &self.borrower)?
-            .with("lender", &self.lender)?
-            .with("recalled", &self.recalled)?
-            .with("since", &self.since)?
-            .with("until", &self.until)?
-            .with("vehicle", &self.callsign)?;
-        Ok(loan.into_value())
+            .with("borrower", &self.borrower)
+            .with("lender", &self.lender)
+            .with("recalled", &self.recalled)
+            .with("since", &self.since)
+            .with("until", &self.until)
+            .with("vehicle", &self.callsign);
+        loan.into_value()
     }
 }
 
@@ -106,12 +106,12 @@ impl ToJson for Offer {
 
     fn to_json(&self, alloc: Global) -> Result<Value, AllocError> {
         let offer = Object::new(alloc)
-            .with("borrower", &self.borrower)?
-            .with("lender", &self.lender)?
-            .with("since", &self.since)?
-            .with("until", &self.until)?
-            .with("vehicle", &self.callsign)?;
-        Ok(offer.into_value())
+            .with("borrower", &self.borrower)
+            .with("lender", &self.lender)
+            .with("since", &self.since)
+            .with("until", &self.until)
+            .with("vehicle", &self.callsign);
+        offer.into_value()
     }
 }
 
@@ -120,10 +120,10 @@ impl ToJson for TimesLine {
 
     fn to_json(&self, alloc: Global) -> Result<Value, AllocError> {
         let line = Object::new(alloc)
-            .with("activation", &self.activation)?
-            .with("number", &self.number)?
-            .with("opened", &self.opened)?;
-        Ok(line.into_value())
+            .with("activation", &self.activation)
+            .with("number", &self.number)
+            .with("opened", &self.opened);
+        line.into_value()
     }
 }
 
@@ -132,12 +132,12 @@ impl ToJson for Times {
 
     fn to_json(&self, alloc: Global) -> Result<Value, AllocError> {
         let times = Object::new(alloc)
-            .with("activated", &self.activated)?
-            .with("from", &self.from)?
-            .with("incidents", &self.lines)?
-            .with("to", &self.to)?
-            .with("within", &self.within)?;
-        Ok(times.into_value())
+            .with("activated", &self.activated)
+            .with("from", &self.from)
+            .with("incidents", &self.lines)
+            .with("to", &self.to)
+            .with("within", &self.within);
+        times.into_value()
     }
 }
 
@@ -146,11 +146,11 @@ impl ToJson for Assignment {
 
     fn to_json(&self, alloc: Global) -> Result<Value, AllocError> {
         let assignment = Object::new(alloc)
-            .with("class", &self.class)?
-            .with("division", &self.division)?
-            .with("incident", &self.incident)?
-            .with("order", &self.order)?
-            .with("place", &self.place)?;
-        Ok(assignment.into_value())
+            .with("class", &self.class)
+            .with("division", &self.division)
+            .with("incident", &self.incident)
+            .with("order", &self.order)
+            .with("place", &self.place);
+        assignment.into_value()
     }
 }

@@ -59,6 +59,3 @@ pub fn ask_of(alloc: Global, target: &Target, body: &[u8]) -> Result<Wanted, Ref
         None => Err(Refusal::BadBody),
     }
 }
-
-#[cfg(test)]
-mod tests;

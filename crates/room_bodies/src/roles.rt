@@ -6,7 +6,7 @@ use room_routes::targets::Target;
 use room_types::asks::Who;
 
 /// What a terminal is.
-#[derive(Clone, Copy, Debug, PartialEq, Eq)]
+#[derive(Clone, Copy, PartialEq, Eq)]
 pub enum Role {
     Desk,
     Position,

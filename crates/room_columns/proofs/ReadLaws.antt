@@ -1,11 +1,13 @@
 -- What a reader tells of numbers, of the numbers of codes, and of texts.
-use Rattle.std.proofs.Common.{◌≡◌, ◌<◌, ◌&&◌, ◌||◌, ◌∙◌, not, nat_eq, ℕ, zero, suc, List, Bool, true, false, Option, Some, None, Result, Ok, Err, MatchResult, is_some, is_ok, refl, sym, ap, arith}
+use Rattle.std.proofs.Common.{◌≡◌, ◌+◌, ◌<◌, ◌&&◌, ◌||◌, ◌∙◌, not, nat_eq, ℕ, zero, suc, List, [], ◌∷◌, length, Bool, true, false, Option, Some, None, Result, Ok, Err, MatchResult, is_some, is_ok, IfSome, refl, sym, ap, arith}
 use Rattle.std.specs.Str.{IsUtf8, is_utf8}
 use Rattle.std.proofs.lemmas.Bool.{and_parts}
 use Rattle.std.proofs.lemmas.Bool.Decides.{nat_tests}
 use Rattle.std.proofs.lemmas.Str.{is_utf8-from_IsUtf8, IsUtf8-from_is_utf8}
 use Rattle.sqlite_value.specs.declared.value.Value.{Value}
 use Rattle.sqlite_value.specs.declared.value.Value.TheVariants.{Null, Int, Real, Text, Blob}
+use Rattle.sqlite_value.specs.Order.{Row}
+use Rattle.table_laws.proofs.ColumnValues.{columns_are, columns_from}
 use Rattle.table_laws.specs.Typed.{number, number_or_null}
 use Rattle.room_types.specs.Codes.{Decodes, kind_number, status_number, button_number, outcome_number, state_columns, state_number, merged_into}
 use Rattle.room_types.specs.declared.codes.Kind.{Kind}
@@ -19,7 +21,7 @@ use Rattle.room_types.specs.declared.codes.Outcome.TheVariants.{Normal, Skipped,
 use Rattle.room_types.specs.declared.codes.State.{State}
 use Rattle.room_types.specs.declared.codes.State.TheVariants.{Active, Closed, Merged}
 use Rattle.room_columns.specs.Columns.{kind_in, status_in, button_in, outcome_in}
-use Rattle.room_columns.specs.Readable.{is_number, is_kind, is_status, is_button, is_outcome, is_or_null, is_serial, is_state, is_text}
+use Rattle.room_columns.specs.Readable.{all_stand, is_number, is_kind, is_status, is_button, is_outcome, is_or_null, is_serial, is_state, is_text}
 
 taken : {C : Type 0} {c : C} → None ≡ Some c → ⊥
 taken e = cc
@@ -128,6 +130,20 @@ state_of (suc (suc (suc n))) o None h fits =
 pub state_read : (state into : Value) (n : ℕ) (o : Option ℕ) (read : Option State) → Decodes state_columns (n, o) read → number n ≡ state → number_or_null o ≡ into → true ≡ is_or_null is_serial into → is_some read ≡ is_state state into
 state_read state into n o read h is_state_column is_into_column fits =
     state_of n o read h (fits ∙ ap (is_or_null is_serial) (sym is_into_column)) ∙ (λ i. is_state (is_state_column i) (is_into_column i))
+
+-- ---- rows
+
+-- after what does not stand, nothing does
+pub none_stand : (before : Bool) → false ≡ before → (tests : List (Value → Bool)) (row : Row) (at : ℕ) → false ≡ all_stand before tests row at
+none_stand false not_before [] row at = refl
+none_stand false not_before (stands ∷ more) row at = none_stand false refl more row (at + 1)
+none_stand true not_before tests row at = absurd (cc)
+
+-- values that stand in all columns of a row are the row
+pub all_columns : {X : Type 0} (read : Option X) (cells : X → Row) (count : ℕ) (row : Row) → length row ≡ count
+    → IfSome read (λ x. cells x ≡ columns_from 0 count row) → IfSome read (λ x. cells x ≡ row)
+all_columns None cells count row long is = tt
+all_columns (Some x) cells count row long is = is ∙ columns_are count row long
 
 -- ---- texts
 

@@ -1,5 +1,5 @@
 -- Which columns stand for a value of the room, and which rows for a row of their table: a reader refuses all else.
-use Rattle.std.specs.Prelude.{ℕ, pos, Bool, true, false, List, length, nat_le, ◌==◌, ◌&&◌, ◌||◌}
+use Rattle.std.specs.Prelude.{ℕ, ◌+◌, pos, Bool, true, false, List, [], ◌∷◌, length, nat_le, ◌==◌, ◌&&◌, ◌||◌}
 use Rattle.std.specs.Str.{is_utf8}
 use Rattle.sqlite_value.specs.declared.value.Value.{Value}
 use Rattle.sqlite_value.specs.declared.value.Value.TheVariants.{Null, Int, Text, Blob}
@@ -104,6 +104,11 @@ is_who role n callsign =
     || (is_number 2 2 role && is_number 0 0 n && is_name callsign)
 
 -- ---- a row
+
+-- whether what stands before them does, and the columns from one on stand for values, each for one of its own type
+abbrev pub all_stand : Bool → List (Value → Bool) → Row → ℕ → Bool
+all_stand before [] row at = before
+all_stand before (stands ∷ more) row at = all_stand (before && stands (column row at)) more row (at + 1)
 
 abbrev pub is_meta_row : Row → Bool
 is_meta_row r = length r == 3 && is_number 1 1 (column r 0) && is_number 2 2 (column r 1) && is_text is_utf8 (column r 2)

@@ -5,7 +5,8 @@ ghost use Rattle.sqlite.specs.Values.{bound};
 ghost use Rattle.room_columns.specs.Readable.{is_area_row};
 ghost use Rattle.room_columns.specs.Rows.{area_row};
 
-use crate::columns::{Stored, integer, value_at};
+use crate::columns::{Stored, integer};
+use crate::fields::values_of;
 use room_place::plans::{Area, Rect};
 use sqlite::Row;
 use sqlite_value::value::ValueRef;
@@ -16,20 +17,14 @@ impl Stored for (u32, Area) {
     ghost is_row = { is_area_row };
 
     fn read(row: &Row) -> Option<(u32, Area)> {
-        if row.column_count() != 6 {
-            return None;
-        }
-        let at = value_at(row, 0)?;
-        let area = Area {
-            division: value_at(row, 1)?,
-            rect: Rect {
-                west: value_at(row, 2)?,
-                south: value_at(row, 3)?,
-                east: value_at(row, 4)?,
-                north: value_at(row, 5)?,
-            },
+        let (at, (division, (west, (south, (east, (north, ())))))) = values_of(row, 6)?;
+        let rect = Rect {
+            west,
+            south,
+            east,
+            north,
         };
-        Some((at, area))
+        Some((at, Area { division, rect }))
     }
 }
 

@@ -3,7 +3,8 @@
 ghost use Rattle.room_columns.specs.Readable.{is_assignment_row};
 ghost use Rattle.room_columns.specs.Rows.{assignment_row, text_cells};
 
-use crate::columns::{Field, Stored, value_at};
+use crate::columns::{Field, Stored};
+use crate::fields::values_of;
 use crate::rows::{Columns, StoredRow};
 use room_place::places::Place;
 use room_types::callsign::Callsign;
@@ -16,19 +17,15 @@ impl Stored for Assignment {
     ghost is_row = { is_assignment_row };
 
     fn read(row: &Row) -> Option<Assignment> {
-        if row.column_count() != 7 {
-            return None;
-        }
+        let (callsign, (division, (incident, (order, told)))) = values_of(row, 7)?;
+        let (east, (north, (class, ()))) = told;
         Some(Assignment {
-            callsign: value_at(row, 0)?,
-            division: value_at(row, 1)?,
-            incident: value_at(row, 2)?,
-            order: value_at(row, 3)?,
-            place: Place {
-                east: value_at(row, 4)?,
-                north: value_at(row, 5)?,
-            },
-            class: value_at(row, 6)?,
+            callsign,
+            division,
+            incident,
+            order,
+            place: Place { east, north },
+            class,
         })
     }
 }

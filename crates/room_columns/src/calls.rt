@@ -3,7 +3,8 @@
 ghost use Rattle.room_columns.specs.Readable.{is_call_row};
 ghost use Rattle.room_columns.specs.Rows.{call_row, pair_cells};
 
-use crate::columns::{Field, Stored, integer, value_at};
+use crate::columns::{Field, Stored, integer};
+use crate::fields::values_of;
 use crate::rows::{Columns, StoredRow};
 use room_place::places::Place;
 use room_types::needs::{Counts, Needs};
@@ -17,28 +18,26 @@ impl Stored for Call {
     ghost is_row = { is_call_row };
 
     fn read(row: &Row) -> Option<Call> {
-        if row.column_count() != 14 {
-            return None;
-        }
+        let (position, (serial, (division, (incident, (given, called))))) = values_of(row, 14)?;
+        let (linked, (east, (north, (class, told)))) = called;
+        let (ambulances, (cars, (support, (note, (at, ()))))) = told;
+        let needs = Needs::new(Counts {
+            ambulances,
+            cars,
+            support,
+        })?;
         Some(Call {
-            position: value_at(row, 0)?,
-            serial: value_at(row, 1)?,
-            division: value_at(row, 2)?,
-            incident: value_at(row, 3)?,
-            given: value_at(row, 4)?,
-            linked: value_at(row, 5)?,
-            place: Place {
-                east: value_at(row, 6)?,
-                north: value_at(row, 7)?,
-            },
-            class: value_at(row, 8)?,
-            needs: Needs::new(Counts {
-                ambulances: value_at(row, 9)?,
-                cars: value_at(row, 10)?,
-                support: value_at(row, 11)?,
-            })?,
-            note: value_at(row, 12)?,
-            at: value_at(row, 13)?,
+            position,
+            serial,
+            division,
+            incident,
+            given,
+            linked,
+            place: Place { east, north },
+            class,
+            needs,
+            note,
+            at,
         })
     }
 }

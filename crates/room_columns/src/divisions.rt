@@ -3,7 +3,8 @@
 ghost use Rattle.room_columns.specs.Readable.{is_division_row};
 ghost use Rattle.room_columns.specs.Rows.{division_row, number_cells};
 
-use crate::columns::{Field, Stored, value_at};
+use crate::columns::{Field, Stored};
+use crate::fields::values_of;
 use crate::rows::{Columns, StoredRow};
 use room_place::plans::DivisionNumber;
 use room_types::tables::Division;
@@ -15,12 +16,10 @@ impl Stored for Division {
     ghost is_row = { is_division_row };
 
     fn read(row: &Row) -> Option<Division> {
-        if row.column_count() != 2 {
-            return None;
-        }
+        let (number, (last_incident, ())) = values_of(row, 2)?;
         Some(Division {
-            number: value_at(row, 0)?,
-            last_incident: value_at(row, 1)?,
+            number,
+            last_incident,
         })
     }
 }

@@ -7,7 +7,8 @@ ghost use Rattle.room_types.specs.Codes.{state_number, merged_into};
 ghost use Rattle.room_columns.specs.Readable.{is_incident_row};
 ghost use Rattle.room_columns.specs.Rows.{incident_row, pair_cells};
 
-use crate::columns::{Field, Stored, integer, value_at};
+use crate::columns::{Field, Stored, integer};
+use crate::fields::values_of;
 use crate::rows::{Columns, StoredRow};
 use room_place::places::Place;
 use room_place::plans::DivisionNumber;
@@ -24,25 +25,23 @@ impl Stored for Incident {
     ghost is_row = { is_incident_row };
 
     fn read(row: &Row) -> Option<Incident> {
-        if row.column_count() != 12 {
-            return None;
-        }
+        let (division, (number, (east, (north, (class, needed))))) = values_of(row, 12)?;
+        let (ambulances, (cars, (support, (opened, (first_order, (state, (into, ()))))))) = needed;
+        let needs = Needs::new(Counts {
+            ambulances,
+            cars,
+            support,
+        })?;
+        let state = State::from_columns(state, into)?;
         Some(Incident {
-            division: value_at(row, 0)?,
-            number: value_at(row, 1)?,
-            place: Place {
-                east: value_at(row, 2)?,
-                north: value_at(row, 3)?,
-            },
-            class: value_at(row, 4)?,
-            needs: Needs::new(Counts {
-                ambulances: value_at(row, 5)?,
-                cars: value_at(row, 6)?,
-                support: value_at(row, 7)?,
-            })?,
-            opened: value_at(row, 8)?,
-            first_order: value_at(row, 9)?,
-            state: State::from_columns(value_at(row, 10)?, value_at(row, 11)?)?,
+            division,
+            number,
+            place: Place { east, north },
+            class,
+            needs,
+            opened,
+            first_order,
+            state,
         })
     }
 }

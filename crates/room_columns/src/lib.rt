@@ -6,6 +6,7 @@ pub mod assignments;
 pub mod calls;
 pub mod columns;
 pub mod divisions;
+mod fields;
 pub mod incidents;
 pub mod laws;
 pub mod loans;

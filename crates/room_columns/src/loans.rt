@@ -3,7 +3,8 @@
 ghost use Rattle.room_columns.specs.Readable.{is_loan_row};
 ghost use Rattle.room_columns.specs.Rows.{loan_row, text_cells};
 
-use crate::columns::{Field, Stored, value_at};
+use crate::columns::{Field, Stored};
+use crate::fields::values_of;
 use crate::rows::{Columns, StoredRow};
 use room_types::callsign::Callsign;
 use room_types::tables::Loan;
@@ -15,16 +16,14 @@ impl Stored for Loan {
     ghost is_row = { is_loan_row };
 
     fn read(row: &Row) -> Option<Loan> {
-        if row.column_count() != 6 {
-            return None;
-        }
+        let (callsign, (lender, (borrower, (since, (until, (recalled, ())))))) = values_of(row, 6)?;
         Some(Loan {
-            callsign: value_at(row, 0)?,
-            lender: value_at(row, 1)?,
-            borrower: value_at(row, 2)?,
-            since: value_at(row, 3)?,
-            until: value_at(row, 4)?,
-            recalled: value_at(row, 5)?,
+            callsign,
+            lender,
+            borrower,
+            since,
+            until,
+            recalled,
         })
     }
 }

@@ -3,7 +3,8 @@
 ghost use Rattle.room_columns.specs.Readable.{is_offer_row};
 ghost use Rattle.room_columns.specs.Rows.{offer_row, text_cells};
 
-use crate::columns::{Field, Stored, value_at};
+use crate::columns::{Field, Stored};
+use crate::fields::values_of;
 use crate::rows::{Columns, StoredRow};
 use room_types::callsign::Callsign;
 use room_types::tables::Offer;
@@ -15,15 +16,13 @@ impl Stored for Offer {
     ghost is_row = { is_offer_row };
 
     fn read(row: &Row) -> Option<Offer> {
-        if row.column_count() != 5 {
-            return None;
-        }
+        let (callsign, (lender, (borrower, (since, (until, ()))))) = values_of(row, 5)?;
         Some(Offer {
-            callsign: value_at(row, 0)?,
-            lender: value_at(row, 1)?,
-            borrower: value_at(row, 2)?,
-            since: value_at(row, 3)?,
-            until: value_at(row, 4)?,
+            callsign,
+            lender,
+            borrower,
+            since,
+            until,
         })
     }
 }

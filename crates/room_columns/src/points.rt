@@ -3,7 +3,8 @@
 ghost use Rattle.room_columns.specs.Readable.{is_point_row};
 ghost use Rattle.room_columns.specs.Rows.{point_row, pair_cells};
 
-use crate::columns::{Field, Stored, value_at};
+use crate::columns::{Field, Stored};
+use crate::fields::values_of;
 use crate::rows::{Columns, StoredRow};
 use room_place::places::Place;
 use room_place::plans::DivisionNumber;
@@ -17,17 +18,12 @@ impl Stored for Point {
     ghost is_row = { is_point_row };
 
     fn read(row: &Row) -> Option<Point> {
-        if row.column_count() != 5 {
-            return None;
-        }
+        let (division, (number, (east, (north, (cover, ()))))) = values_of(row, 5)?;
         Some(Point {
-            division: value_at(row, 0)?,
-            number: value_at(row, 1)?,
-            place: Place {
-                east: value_at(row, 2)?,
-                north: value_at(row, 3)?,
-            },
-            cover: value_at(row, 4)?,
+            division,
+            number,
+            place: Place { east, north },
+            cover,
         })
     }
 }

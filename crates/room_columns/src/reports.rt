@@ -3,7 +3,8 @@
 ghost use Rattle.room_columns.specs.Readable.{is_report_row};
 ghost use Rattle.room_columns.specs.Rows.{report_row, numbered_cells};
 
-use crate::columns::{Field, Stored, value_at};
+use crate::columns::{Field, Stored};
+use crate::fields::values_of;
 use crate::rows::{Columns, StoredRow};
 use room_place::places::Place;
 use room_types::callsign::Callsign;
@@ -17,23 +18,19 @@ impl Stored for Report {
     ghost is_row = { is_report_row };
 
     fn read(row: &Row) -> Option<Report> {
-        if row.column_count() != 11 {
-            return None;
-        }
+        let (callsign, (number, (button, (order, (east, (north, told)))))) = values_of(row, 11)?;
+        let (at, (division, (outcome, (status, (cleared, ()))))) = told;
         Some(Report {
-            callsign: value_at(row, 0)?,
-            number: value_at(row, 1)?,
-            button: value_at(row, 2)?,
-            order: value_at(row, 3)?,
-            place: Place {
-                east: value_at(row, 4)?,
-                north: value_at(row, 5)?,
-            },
-            at: value_at(row, 6)?,
-            division: value_at(row, 7)?,
-            outcome: value_at(row, 8)?,
-            status: value_at(row, 9)?,
-            cleared: value_at(row, 10)?,
+            callsign,
+            number,
+            button,
+            order,
+            place: Place { east, north },
+            at,
+            division,
+            outcome,
+            status,
+            cleared,
         })
     }
 }

@@ -7,7 +7,8 @@ ghost use Rattle.sqlite_value.specs.declared.value.Value.TheVariants.{Int, Text}
 ghost use Rattle.room_columns.specs.Readable.{is_terminal_row, is_who};
 ghost use Rattle.room_columns.specs.Rows.{terminal_row, role_of, number_of, crew_of};
 
-use crate::columns::{Field, Stored, integer, value_at};
+use crate::columns::{Field, Stored, integer};
+use crate::fields::values_of;
 use room_place::whole::Whole;
 use room_types::asks::Who;
 use room_types::callsign::Callsign;
@@ -21,13 +22,9 @@ impl Stored for Terminal {
     ghost is_row = { is_terminal_row };
 
     fn read(row: &Row) -> Option<Terminal> {
-        if row.column_count() != 4 {
-            return None;
-        }
-        Some(Terminal {
-            token: value_at(row, 0)?,
-            who: who_of(value_at(row, 1)?, value_at(row, 2)?, value_at(row, 3)?)?,
-        })
+        let (token, (role, (number, (callsign, ())))) = values_of(row, 4)?;
+        let who = who_of(role, number, callsign)?;
+        Some(Terminal { token, who })
     }
 }
 

@@ -3,7 +3,8 @@
 ghost use Rattle.room_columns.specs.Readable.{is_turn_row};
 ghost use Rattle.room_columns.specs.Rows.{turn_row, numbered_cells};
 
-use crate::columns::{Field, Stored, value_at};
+use crate::columns::{Field, Stored};
+use crate::fields::values_of;
 use crate::rows::{Columns, StoredRow};
 use room_types::callsign::Callsign;
 use room_types::numbers::Number;
@@ -16,22 +17,22 @@ impl Stored for Turn {
     ghost is_row = { is_turn_row };
 
     fn read(row: &Row) -> Option<Turn> {
-        if row.column_count() != 12 {
-            return None;
-        }
+        let (callsign, (order, (division, (incident, (kind, times))))) = values_of(row, 12)?;
+        let (ordered, (acknowledged, (scene, (left, (hospital, (ended, (stood_down, ()))))))) =
+            times;
         Some(Turn {
-            callsign: value_at(row, 0)?,
-            order: value_at(row, 1)?,
-            division: value_at(row, 2)?,
-            incident: value_at(row, 3)?,
-            kind: value_at(row, 4)?,
-            ordered: value_at(row, 5)?,
-            acknowledged: value_at(row, 6)?,
-            scene: value_at(row, 7)?,
-            left: value_at(row, 8)?,
-            hospital: value_at(row, 9)?,
-            ended: value_at(row, 10)?,
-            stood_down: value_at(row, 11)?,
+            callsign,
+            order,
+            division,
+            incident,
+            kind,
+            ordered,
+            acknowledged,
+            scene,
+            left,
+            hospital,
+            ended,
+            stood_down,
         })
     }
 }

@@ -3,7 +3,8 @@
 ghost use Rattle.room_columns.specs.Readable.{is_vehicle_row};
 ghost use Rattle.room_columns.specs.Rows.{vehicle_row, text_cells};
 
-use crate::columns::{Field, Stored, value_at};
+use crate::columns::{Field, Stored};
+use crate::fields::values_of;
 use crate::rows::{Columns, StoredRow};
 use room_place::places::Place;
 use room_types::callsign::Callsign;
@@ -16,23 +17,19 @@ impl Stored for Vehicle {
     ghost is_row = { is_vehicle_row };
 
     fn read(row: &Row) -> Option<Vehicle> {
-        if row.column_count() != 11 {
-            return None;
-        }
+        let (callsign, (home, (holder, (kind, (east, (north, duty)))))) = values_of(row, 11)?;
+        let (status, (shift_end, (post, (last_order, (last_report, ()))))) = duty;
         Some(Vehicle {
-            callsign: value_at(row, 0)?,
-            home: value_at(row, 1)?,
-            holder: value_at(row, 2)?,
-            kind: value_at(row, 3)?,
-            place: Place {
-                east: value_at(row, 4)?,
-                north: value_at(row, 5)?,
-            },
-            status: value_at(row, 6)?,
-            shift_end: value_at(row, 7)?,
-            post: value_at(row, 8)?,
-            last_order: value_at(row, 9)?,
-            last_report: value_at(row, 10)?,
+            callsign,
+            home,
+            holder,
+            kind,
+            place: Place { east, north },
+            status,
+            shift_end,
+            post,
+            last_order,
+            last_report,
         })
     }
 }

@@ -16,7 +16,7 @@ pub struct Zone {
 }
 
 /// Why a text is no zone.
-#[derive(Clone, Copy, Debug, PartialEq, Eq)]
+#[derive(Clone, Copy, PartialEq, Eq)]
 pub enum ZoneFault {
     /// It is no rule.
     Rule,

@@ -13,7 +13,7 @@ use std::alloc::AllocFailed;
 use thiserror::Error;
 
 /// How much of a command was done.
-#[derive(Clone, Copy, Debug, PartialEq, Eq)]
+#[derive(Clone, Copy, PartialEq, Eq)]
 pub enum Done {
     /// All of it.
     Whole,

@@ -18,7 +18,7 @@ use thiserror::Error;
 const HEADER: [&str; 5] = ["callsign", "division", "kind", "place", "token"];
 
 /// A row of a fleet's file.
-#[derive(Clone, Copy, Debug)]
+#[derive(Clone, Copy)]
 pub enum FleetLine {
     Row(FleetRow),
     /// A field is not of its form.

@@ -8,5 +8,3 @@ mod plan_rules;
 pub mod plans;
 mod records;
 pub mod reports;
-#[cfg(test)]
-mod tests;

@@ -13,7 +13,7 @@ use room_types::token::Token;
 use std::alloc::{AllocError, Global};
 
 /// What a row says, before it is held against the others.
-#[derive(Clone, Copy, Debug)]
+#[derive(Clone, Copy)]
 pub(crate) enum PlanLine {
     /// The rule of the zone.
     Zone(Text<64>),

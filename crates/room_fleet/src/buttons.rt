@@ -88,6 +88,3 @@ pub(crate) fn is_home(button: Button) -> bool
 {
     matches!(button, Button::Home)
 }
-
-#[cfg(test)]
-mod tests;

@@ -56,6 +56,3 @@ pub fn off_duty(vehicle: &Vehicle) -> Result<Vehicle, Refusal>
         ..*vehicle
     })
 }
-
-#[cfg(test)]
-mod tests;

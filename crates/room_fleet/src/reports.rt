@@ -12,7 +12,7 @@ use room_types::numbers::{LastNumber, Moment};
 use room_types::tables::{Assignment, Loan, Report, Turn, Vehicle};
 
 /// A vehicle's rows after a report.
-#[derive(Clone, Copy, Debug)]
+#[derive(Clone, Copy)]
 pub struct Reported {
     pub vehicle: Vehicle,
     /// None where there was none, and where the report ended the order.
@@ -173,6 +173,3 @@ fn report_row(
         cleared: false,
     }
 }
-
-#[cfg(test)]
-mod tests;

@@ -8,5 +8,3 @@ pub mod moments;
 pub mod replies;
 pub mod requests;
 pub mod serving;
-#[cfg(test)]
-mod tests;

@@ -6,7 +6,7 @@ use room_message::messages::Message;
 use room_types::refusals::Refusal;
 
 /// What is to be answered: a message, or what is refused in the place of one.
-#[derive(Clone, Copy, Debug)]
+#[derive(Clone, Copy)]
 pub enum Request<'inbox> {
     Whole(Message<'inbox>),
     Refused { refusal: Refusal, head_only: bool },

@@ -16,7 +16,7 @@ use room_service::rooms::Room;
 use std::alloc::Global;
 
 /// Why serving ended.
-#[derive(Clone, Copy, Debug, PartialEq, Eq)]
+#[derive(Clone, Copy, PartialEq, Eq)]
 pub enum ServeEnd {
     /// An answer closed the connection, or the input ended between messages.
     Closed,

@@ -137,6 +137,3 @@ pub(crate) fn is_call_of(call: &Call, division: DivisionNumber, number: Number) 
 {
     call.division == division && call.incident == number
 }
-
-#[cfg(test)]
-mod tests;

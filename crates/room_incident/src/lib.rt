@@ -7,8 +7,6 @@ pub mod laws;
 pub mod links;
 pub mod merges;
 pub mod needs;
-#[cfg(test)]
-mod samples;
 pub mod served;
 pub mod times;
 pub mod views;

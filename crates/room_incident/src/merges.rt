@@ -118,6 +118,3 @@ fn moved_calls(
     }
     Ok(moved)
 }
-
-#[cfg(test)]
-mod tests;

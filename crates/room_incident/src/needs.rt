@@ -64,6 +64,3 @@ pub fn close(slice: &Slice, number: Number) -> Result<Incident, Refusal>
         ..*incident
     })
 }
-
-#[cfg(test)]
-mod tests;

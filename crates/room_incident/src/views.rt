@@ -76,6 +76,3 @@ fn count_calls(calls: &Rows<Call>, division: DivisionNumber, number: Number) -> 
         .filter(|call| is_call_of(call, division, number))
         .count()
 }
-
-#[cfg(test)]
-mod tests;

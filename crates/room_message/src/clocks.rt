@@ -102,7 +102,7 @@ impl<'a> Clock for ListClock<'a> {
 }
 
 /// A clock that gives `MOMENT` each time, and none once its count is at its last value.
-#[derive(Clone, Copy, Debug)]
+#[derive(Clone, Copy)]
 pub struct FixedClock<const MOMENT: u64> {
     count: u64,
     was_none: bool,

@@ -3,7 +3,7 @@
 use room_types::refusals::Refusal;
 
 /// Why no message was read.
-#[derive(Clone, Copy, Debug, PartialEq, Eq)]
+#[derive(Clone, Copy, PartialEq, Eq)]
 pub enum Ending {
     /// The stream ended between messages.
     End,

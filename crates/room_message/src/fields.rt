@@ -7,7 +7,7 @@ ghost use Rattle.room_message.specs.Fields.{AreWithin, FoundIs, is_named, found_
 use httparse::spans::{HeaderSpan, Span};
 
 /// What the fields of one name hold.
-#[derive(Clone, Copy, Debug, PartialEq, Eq)]
+#[derive(Clone, Copy, PartialEq, Eq)]
 pub enum Found {
     /// No field has the name.
     Nowhere,

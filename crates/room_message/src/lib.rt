@@ -17,6 +17,4 @@ pub mod reading;
 pub mod rules;
 pub mod sinks;
 pub mod sources;
-#[cfg(test)]
-mod tests;
 pub mod wires;

@@ -16,7 +16,7 @@ use httparse::spans::{EMPTY_HEADER_SPAN, HeaderSpan, RequestSpans, Span, parse_r
 use room_types::refusals::Refusal;
 
 /// What the first bytes of a stream are.
-#[derive(Clone, Copy, Debug, PartialEq, Eq)]
+#[derive(Clone, Copy, PartialEq, Eq)]
 pub enum Look {
     /// They begin with a message.
     Whole(Layout),

@@ -3,7 +3,7 @@
 use httparse::spans::Span;
 
 /// Where the parts of a message are. It borrows nothing, so the bytes can be kept beside it.
-#[derive(Clone, Copy, Debug, PartialEq, Eq)]
+#[derive(Clone, Copy, PartialEq, Eq)]
 pub struct Layout {
     pub method: Span,
     pub target: Span,
@@ -16,7 +16,7 @@ pub struct Layout {
 }
 
 /// A message. Its slices are those of the inbox: nothing is copied.
-#[derive(Clone, Copy, Debug)]
+#[derive(Clone, Copy)]
 pub struct Message<'inbox> {
     /// The method, in the case in which it was sent.
     pub method: &'inbox [u8],

@@ -6,7 +6,7 @@ ghost use Rattle.room_place.specs.declared.places.Place.{Place};
 use crate::places::Place;
 
 /// A square of one kilometre, by its whole kilometres of easting and northing.
-#[derive(Clone, Copy, Debug, PartialEq, Eq)]
+#[derive(Clone, Copy, PartialEq, Eq)]
 pub struct Cell {
     /// 400 to 599 for the cell of a place.
     pub x: u16,

@@ -8,6 +8,4 @@ pub mod places;
 mod plan_faults;
 pub mod plans;
 mod references;
-#[cfg(test)]
-mod tests;
 pub mod whole;

@@ -14,14 +14,14 @@ pub type Easting = Whole<400000, 599999>;
 pub type Northing = Whole<100000, 299999>;
 
 /// A point of the squares TQ, TL, SU and SP of the Ordnance Survey National Grid.
-#[derive(Clone, Copy, Debug, PartialEq, Eq)]
+#[derive(Clone, Copy, PartialEq, Eq)]
 pub struct Place {
     pub east: Easting,
     pub north: Northing,
 }
 
 /// Why a text is no reference. Of several reasons the first of this list is told.
-#[derive(Clone, Copy, Debug, PartialEq, Eq)]
+#[derive(Clone, Copy, PartialEq, Eq)]
 pub enum PlaceFault {
     /// The first two characters are none of the four squares' letters.
     Square,

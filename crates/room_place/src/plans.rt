@@ -14,7 +14,7 @@ use std::marker::Model;
 pub type DivisionNumber = Whole<1, 9>;
 
 /// A rectangle with inclusive corners, in metres of easting and northing.
-#[derive(Clone, Copy, Debug, PartialEq, Eq)]
+#[derive(Clone, Copy, PartialEq, Eq)]
 pub struct Rect {
     pub west: u32,
     pub south: u32,
@@ -23,7 +23,7 @@ pub struct Rect {
 }
 
 /// A rectangle of a division's area.
-#[derive(Clone, Copy, Debug, PartialEq, Eq)]
+#[derive(Clone, Copy, PartialEq, Eq)]
 pub struct Area {
     /// 1 to 9 in a plan.
     pub division: u32,
@@ -32,7 +32,7 @@ pub struct Area {
 }
 
 /// Why areas and a zone are no plan. Of several reasons the first of this list is told.
-#[derive(Clone, Copy, Debug, PartialEq, Eq)]
+#[derive(Clone, Copy, PartialEq, Eq)]
 pub enum PlanFault {
     /// No area, or more than 64.
     Count,
@@ -49,7 +49,7 @@ pub enum PlanFault {
 /// The areas of all divisions, and the time zone of their days.
 /// It has 1 to 64 areas, each of a division 1 to 9 and within the squares that references are
 /// read in, and a zone of 1 to 64 ASCII bytes. Areas may overlap.
-#[derive(Debug, Drop)]
+#[derive(Drop)]
 pub struct Plan {
     areas: Vec<Area>,
     zone: String,

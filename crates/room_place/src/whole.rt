@@ -5,7 +5,7 @@ ghost use Rattle.std.specs.Option.{SomeIff};
 use std::marker::Model;
 
 /// A whole number from `LEAST` to `GREATEST`, both included. A contract sees it as the number.
-#[derive(Clone, Copy, Debug, PartialEq, Eq, PartialOrd, Ord)]
+#[derive(Clone, Copy, PartialEq, Eq, PartialOrd, Ord)]
 pub struct Whole<const LEAST: u32, const GREATEST: u32> {
     value: u32,
 }

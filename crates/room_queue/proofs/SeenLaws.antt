@@ -1,7 +1,8 @@
 -- What is found in a slice's rows are the entries of any room that has them.
-use Rattle.std.proofs.Common.{append_assoc, eqb-true, inl, inr, refl, subst, sym}
-use Rattle.std.specs.Prelude.{Bool, List, None, Option, Some, [], cond, false, true, ℕ, ◌∷◌, ◌≡◌}
-use Rattle.std.specs.List.{list_all}
+use Rattle.std.proofs.Common.{ap, append_assoc, append-nil, drop, eqb-true, inl, inr, refl, subst, sym, ◌+◌, ◌∙◌}
+use Rattle.std.proofs.lemmas.List.{drop_all}
+use Rattle.std.specs.Prelude.{Bool, List, None, Option, Some, [], cond, false, filter_map, length, true, ℕ, ◌++◌, ◌∷◌, ◌≡◌, ◌≤◌}
+use Rattle.std.specs.List.{cons_option, list_all}
 use Rattle.room_place.specs.Choice.{Among}
 use Rattle.room_place.specs.declared.plans.Area.{Area}
 use Rattle.room_types.proofs.ShareLaws.{share_agrees}
@@ -57,3 +58,21 @@ module _ (d at : ℕ) (plan : List Area) (s : DivisionRows) (agrees : is_share d
   pub seen_all : (served : List Served) → AreServed d s.turns served → seen d at served s ≡ entries d at (room_of plan s)
   unfolding entries holders incident_of
   seen_all served h = rw (filter_map_among _ _ s.incidents (λ i a. unserved_is d at (room_of plan s) served i h)) (rw (filter_map_among _ _ s.vehicles unread_is) (rw (filter_map_among _ _ s.vehicles slow_is) (rw (filter_map_among _ _ s.points uncovered_is) (simp append_assoc refl))))
+
+-- ---- walks
+one_or_none : {Y : Type 0} (o : Option Y) (ys : List Y) → cons_option o [] ++ ys ≡ cons_option o ys
+one_or_none None ys = refl
+one_or_none (Some y) ys = refl
+
+-- what one row makes is put behind what those before it made
+pub noted : {X Y : Type 0} (h : X → Option Y) (xs : List X) (i : ℕ) (x : X) (o : Option Y) (before after all : List Y) → o ≡ h x → after ≡ before ++ cons_option o [] → drop i xs ≡ x ∷ drop (i + 1) xs → before ++ filter_map h (drop i xs) ≡ all → after ++ filter_map h (drop (i + 1) xs) ≡ all
+noted h xs i x o before after all made put rest so_far =
+    let later = filter_map h (drop (i + 1) xs) in
+    ap (λ ys. ys ++ later) put
+    ∙ (append_assoc before (cons_option o []) later
+    ∙ (ap (λ ys. before ++ ys) (one_or_none o later ∙ ap (λ q. cons_option q later) made)
+    ∙ (ap (λ ys. before ++ filter_map h ys) (sym rest) ∙ so_far)))
+
+-- at the end of a walk
+pub walked : {X Y : Type 0} (h : X → Option Y) (xs : List X) (i : ℕ) (before after : List Y) → length xs ≤ i → after ++ filter_map h (drop i xs) ≡ before ++ filter_map h xs → after ≡ before ++ filter_map h xs
+walked h xs i before after past so_far = sym (append-nil after) ∙ (ap (λ ys. after ++ filter_map h ys) (sym (drop_all i xs past)) ∙ so_far)

@@ -33,14 +33,24 @@ turn_ahead d s v = cond (v.holder == d && is_mobilised v.status) (open_turn v s)
 abbrev pub uncovered_seen : ℕ → ℕ → DivisionRows → Point → Option Entry
 uncovered_seen d at s p = cond (is_some (point_of d p.number (room s))) (uncovered d at (room s) p) None
 
--- rank by rank
-abbrev pub seen : ℕ → ℕ → List Served → DivisionRows → List Entry
-seen d at served s =
-    filter_map (unserved_seen d at served) s.incidents
+-- what was seen before, and then ranks 1 to 4, one by one
+abbrev pub with_sent : ℕ → ℕ → List Served → DivisionRows → List Entry → List Entry
+with_sent d at served s before =
+    before
+    ++ filter_map (unserved_seen d at served) s.incidents
     ++ filter_map (λ v. unread_turn at v (turn_ahead d s v)) s.vehicles
     ++ filter_map (λ v. slow_turn d at (room s) v (turn_ahead d s v)) s.vehicles
     ++ filter_map (exception d) s.reports
+
+-- ranks 5 to 8
+abbrev pub with_held : ℕ → ℕ → DivisionRows → List Entry → List Entry
+with_held d at s before =
+    before
     ++ filter_map (overdue d at) s.loans
     ++ filter_map (shift_over d at) s.vehicles
     ++ filter_map (uncovered_seen d at s) s.points
     ++ filter_map (unanswered d at) s.offers
+
+-- rank by rank
+abbrev pub seen : ℕ → ℕ → List Served → DivisionRows → List Entry
+seen d at served s = with_held d at s (with_sent d at served s [])

@@ -1,11 +1,13 @@
 //! The queue of a division: what needs an eye, by rank.
-ghost use Rattle.std.specs.Prelude.{◌≡◌, List, IfErr, IfOk};
+ghost use Rattle.std.specs.Prelude.{◌≡◌, ◌++◌, List, [], IfErr, IfOk, OnOk};
+ghost use Rattle.std.specs.List.{cons_option};
 ghost use Rattle.room_place.specs.declared.plans.Area.{Area};
 ghost use Rattle.room_types.specs.declared.answers.Answer.TheVariants.{Queue};
 ghost use Rattle.room_types.specs.declared.refusals.Refusal.TheVariants.{Memory};
 ghost use Rattle.room_model.specs.Decisions.{show};
 ghost use Rattle.room_model.specs.Queue.{IsQueueOf, entries, show_queue};
 ghost use Rattle.room_model.specs.Slices.{room_of};
+ghost use Rattle.room_queue.specs.Seen.{with_held, with_sent};
 ghost use Rattle.room_queue.specs.Served.{AreServed};
 
 use crate::entries;
@@ -41,38 +43,68 @@ fn seen(
     requires { AreServed slice.now.division slice.now.rows.turns served.now }
     ensures { IfOk result (λ seen. (plan : List Area) → seen.items ≡ entries slice.now.division at (room_of plan slice.now.rows)) }
 {
-    let rows = &slice.rows;
     // In key order, so that a vehicle's open turn is that of its last order.
-    let _in_order = rows.turns.as_slice();
-    let incidents = rows.incidents.iter();
-    let vehicles = rows.vehicles.as_slice();
-    let reports = rows.reports.iter();
-    let loans = rows.loans.iter();
-    let points = rows.points.as_slice();
-    let offers = rows.offers.iter();
-    let unserved = incidents.filter_map(|incident| entries::unserved(slice, served, incident, at));
-    let unread = vehicles
-        .iter()
-        .filter_map(|vehicle| entries::unread(slice, vehicle, at));
-    let slow = vehicles
-        .iter()
-        .filter_map(|vehicle| entries::slow(slice, vehicle, at));
-    let exceptions = reports.filter_map(|report| entries::exception(slice, report));
-    let overdue = loans.filter_map(|loan| entries::overdue(slice, loan, at));
-    let over = vehicles
-        .iter()
-        .filter_map(|vehicle| entries::shift_over(slice, vehicle, at));
-    let uncovered = points
-        .iter()
-        .filter_map(|point| entries::uncovered(slice, point, at));
-    let unanswered = offers.filter_map(|offer| entries::unanswered(slice, offer, at));
-    let first = unserved.chain(unread).chain(slow).chain(exceptions);
-    first
-        .chain(overdue)
-        .chain(over)
-        .chain(uncovered)
-        .chain(unanswered)
-        .collect(alloc)
+    let _turns = slice.rows.turns.as_slice();
+    let _vehicles = slice.rows.vehicles.as_slice();
+    let _points = slice.rows.points.as_slice();
+    let mut seen = Vec::new(alloc);
+    note_sent(&mut seen, slice, served, at)?;
+    note_held(&mut seen, slice, at)?;
+    Ok(seen)
+}
+
+// Ranks 1 to 4: of incidents, of the orders for them, and of reports.
+fn note_sent(
+    seen: &mut Vec<Entry>,
+    slice: &Slice,
+    served: &Rows<Served>,
+    at: Moment,
+) -> Result<(), AllocError>
+    ensures { OnOk result (seen.new.items ≡ with_sent slice.now.division at served.now slice.now.rows seen.old.items) }
+{
+    let vehicles = slice.rows.vehicles.as_slice();
+    for incident in slice.rows.incidents.as_slice() {
+        note(seen, entries::unserved(slice, served, incident, at))?;
+    }
+    for vehicle in vehicles {
+        note(seen, entries::unread(slice, vehicle, at))?;
+    }
+    for vehicle in vehicles {
+        note(seen, entries::slow(slice, vehicle, at))?;
+    }
+    for report in slice.rows.reports.as_slice() {
+        note(seen, entries::exception(slice, report))?;
+    }
+    Ok(())
+}
+
+// Ranks 5 to 8: of loans, shifts, points and offers.
+fn note_held(seen: &mut Vec<Entry>, slice: &Slice, at: Moment) -> Result<(), AllocError>
+    ensures { OnOk result (seen.new.items ≡ with_held slice.now.division at slice.now.rows seen.old.items) }
+{
+    for loan in slice.rows.loans.as_slice() {
+        note(seen, entries::overdue(slice, loan, at))?;
+    }
+    for vehicle in slice.rows.vehicles.as_slice() {
+        note(seen, entries::shift_over(slice, vehicle, at))?;
+    }
+    for point in slice.rows.points.as_slice() {
+        note(seen, entries::uncovered(slice, point, at))?;
+    }
+    for offer in slice.rows.offers.as_slice() {
+        note(seen, entries::unanswered(slice, offer, at))?;
+    }
+    Ok(())
+}
+
+// Puts an entry at the end, where there is one.
+fn note<E: Copy>(seen: &mut Vec<E>, entry: Option<E>) -> Result<(), AllocError>
+    ensures { OnOk result (seen.new.items ≡ seen.old.items ++ cons_option entry []) }
+{
+    if let Some(entry) = entry {
+        seen.push(entry)?;
+    }
+    Ok(())
 }
 
 // Puts the entries in order, those alike once.

@@ -12,7 +12,7 @@ use room_types::tables::Turn;
 use std::alloc::Global;
 
 /// An incident of a division that some vehicle serves.
-#[derive(Clone, Copy, Debug)]
+#[derive(Clone, Copy)]
 pub struct Served {
     pub incident: Number,
 }

@@ -6,7 +6,7 @@ ghost use Rattle.room_routes.specs.Days.{is_date, days_in, is_leap, two_digits, 
 use std::marker::Model;
 
 /// A day of the Gregorian calendar from 1970-01-01 to 2099-12-31. A contract sees its numbers.
-#[derive(Clone, Copy, Debug, PartialEq, Eq)]
+#[derive(Clone, Copy)]
 pub struct Day {
     year: u16,
     month: u8,

@@ -5,7 +5,7 @@ ghost use Rattle.room_routes.specs.Paths.{pattern_of, allow_of};
 use room_types::refusals::Allow;
 
 /// A path, without its parameters.
-#[derive(Clone, Copy, Debug, PartialEq, Eq)]
+#[derive(Clone, Copy, PartialEq, Eq)]
 pub enum Path {
     Call,
     Incidents,

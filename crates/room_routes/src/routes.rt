@@ -95,6 +95,3 @@ fn is_allowed(allow: Allow, method: &[u8]) -> bool
         Allow::Post => matches!(method, b"POST"),
     }
 }
-
-#[cfg(test)]
-mod tests;

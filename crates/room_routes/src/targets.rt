@@ -1,5 +1,6 @@
 //! What a target names: a path, with its parameters.
 ghost use Rattle.std.specs.Prelude.{◌≡◌};
+ghost use Rattle.room_routes.specs.Parameters.{callsign_of, number_of, segment_at};
 ghost use Rattle.room_routes.specs.Targets.{path_of, named_by, cleared};
 
 use crate::days::Day;
@@ -9,7 +10,7 @@ use room_types::callsign::Callsign;
 use room_types::numbers::{Number, PointNumber};
 
 /// A path of the room, with the parameters that stand in the target.
-#[derive(Clone, Copy, Debug)]
+#[derive(Clone, Copy)]
 pub enum Target {
     Call,
     Incidents,
@@ -84,32 +85,46 @@ pub(crate) fn named_by(path: Path, target: &str) -> Option<Target>
     match path {
         Path::Call => Some(Target::Call),
         Path::Incidents => Some(Target::Incidents),
-        Path::Propose => whole(segment(target, 2)).map(Target::Propose),
-        Path::Mobilise => whole(segment(target, 2)).map(Target::Mobilise),
-        Path::Needs => whole(segment(target, 2)).map(Target::Needs),
-        Path::Merge => whole(segment(target, 2)).map(Target::Merge),
-        Path::Close => whole(segment(target, 2)).map(Target::Close),
+        Path::Propose => Some(Target::Propose(number_in(target)?)),
+        Path::Mobilise => Some(Target::Mobilise(number_in(target)?)),
+        Path::Needs => Some(Target::Needs(number_in(target)?)),
+        Path::Merge => Some(Target::Merge(number_in(target)?)),
+        Path::Close => Some(Target::Close(number_in(target)?)),
         Path::Vehicles => Some(Target::Vehicles),
-        Path::StandDown => Callsign::parse(segment(target, 2)).map(Target::StandDown),
-        Path::Standby => Callsign::parse(segment(target, 2)).map(Target::Standby),
-        Path::Duty => Callsign::parse(segment(target, 2)).map(Target::Duty),
-        Path::Off => Callsign::parse(segment(target, 2)).map(Target::Off),
-        Path::Lend => Callsign::parse(segment(target, 2)).map(Target::Lend),
-        Path::Withdraw => Callsign::parse(segment(target, 2)).map(Target::Withdraw),
-        Path::Decline => Callsign::parse(segment(target, 2)).map(Target::Decline),
-        Path::Accept => Callsign::parse(segment(target, 2)).map(Target::Accept),
-        Path::Recall => Callsign::parse(segment(target, 2)).map(Target::Recall),
-        Path::GiveBack => Callsign::parse(segment(target, 2)).map(Target::GiveBack),
+        Path::StandDown => Some(Target::StandDown(callsign_in(target)?)),
+        Path::Standby => Some(Target::Standby(callsign_in(target)?)),
+        Path::Duty => Some(Target::Duty(callsign_in(target)?)),
+        Path::Off => Some(Target::Off(callsign_in(target)?)),
+        Path::Lend => Some(Target::Lend(callsign_in(target)?)),
+        Path::Withdraw => Some(Target::Withdraw(callsign_in(target)?)),
+        Path::Decline => Some(Target::Decline(callsign_in(target)?)),
+        Path::Accept => Some(Target::Accept(callsign_in(target)?)),
+        Path::Recall => Some(Target::Recall(callsign_in(target)?)),
+        Path::GiveBack => Some(Target::GiveBack(callsign_in(target)?)),
         Path::Queue => Some(Target::Queue),
         Path::Clear => cleared(segment(target, 2), segment(target, 3)),
         Path::Points => Some(Target::Points),
-        Path::SetPoint => whole(segment(target, 2)).map(Target::SetPoint),
+        Path::SetPoint => Some(Target::SetPoint(whole(segment(target, 2))?)),
         Path::Loans => Some(Target::Loans),
         Path::Offers => Some(Target::Offers),
-        Path::Times => Day::parse(segment(target, 2)).map(Target::Times),
+        Path::Times => Some(Target::Times(Day::parse(segment(target, 2))?)),
         Path::Order => Some(Target::Order),
         Path::Report => Some(Target::Report),
     }
+}
+
+/// The number in a target, which is its third segment.
+fn number_in(target: &str) -> Option<Number>
+    ensures { result ≡ number_of (segment_at 2 target.now) }
+{
+    whole(segment(target, 2))
+}
+
+/// The callsign in a target, which is its third segment.
+fn callsign_in(target: &str) -> Option<Callsign>
+    ensures { result ≡ callsign_of (segment_at 2 target.now) }
+{
+    Callsign::parse(segment(target, 2))
 }
 
 /// The report that is cleared: none where the texts are no callsign and number.

@@ -182,6 +182,3 @@ fn are(places: &Items<usize>, wanted: &[usize]) -> bool
 {
     places.as_slice() == wanted
 }
-
-#[cfg(test)]
-mod tests;

@@ -5,8 +5,6 @@ pub(crate) mod divisions;
 pub(crate) mod incidents;
 pub(crate) mod openings;
 pub mod rooms;
-#[cfg(test)]
-mod samples;
 pub mod terminals;
 pub(crate) mod turns;
 pub(crate) mod vehicles;

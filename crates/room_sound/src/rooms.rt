@@ -60,6 +60,3 @@ fn rows_fit(plan: &Plan, rows: &RoomRows) -> bool
         && calls_fit(rows)
         && incidents_fit(rows)
 }
-
-#[cfg(test)]
-mod tests;

@@ -116,6 +116,3 @@ fn has_subject(plan: &Plan, rows: &RoomRows, who: &Who) -> bool
         Who::Position(_) => true,
     }
 }
-
-#[cfg(test)]
-mod tests;

@@ -76,7 +76,7 @@ impl<L: Copy> Listed<L> {
 }
 
 /// An active incident, with its number of calls and what it lacks.
-#[derive(Clone, Copy, Debug)]
+#[derive(Clone, Copy)]
 pub struct IncidentLine {
     pub number: Number,
     pub place: Place,
@@ -89,7 +89,7 @@ pub struct IncidentLine {
 }
 
 /// A vehicle that may be sent to an incident.
-#[derive(Clone, Copy, Debug)]
+#[derive(Clone, Copy)]
 pub struct Proposal {
     /// Whether sending it leaves a standby point with fewer vehicles than it wants.
     pub breaks: bool,
@@ -100,7 +100,7 @@ pub struct Proposal {
 }
 
 /// A vehicle that the division holds, with the incident that it is assigned to.
-#[derive(Clone, Copy, Debug)]
+#[derive(Clone, Copy)]
 pub struct VehicleLine {
     pub callsign: Callsign,
     pub home: DivisionNumber,
@@ -113,7 +113,7 @@ pub struct VehicleLine {
 }
 
 /// A standby point, with the number of vehicles that hold it at the moment.
-#[derive(Clone, Copy, Debug)]
+#[derive(Clone, Copy)]
 pub struct PointLine {
     pub number: PointNumber,
     pub place: Place,
@@ -122,7 +122,7 @@ pub struct PointLine {
 }
 
 /// Something that needs an eye. Entries stand in the order of their fields, none before any callsign.
-#[derive(Clone, Copy, Debug, PartialEq, Eq, PartialOrd, Ord)]
+#[derive(Clone, Copy, PartialEq, Eq, PartialOrd, Ord)]
 pub struct Entry {
     /// 1 to 8, by what it is about.
     pub rank: u8,
@@ -135,7 +135,7 @@ pub struct Entry {
 }
 
 /// An incident of a day, with the seconds from its opening to its first order, if it had one.
-#[derive(Clone, Copy, Debug)]
+#[derive(Clone, Copy)]
 pub struct TimesLine {
     pub number: Number,
     pub opened: Moment,

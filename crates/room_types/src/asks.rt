@@ -8,7 +8,7 @@ use room_place::places::Place;
 use room_place::plans::DivisionNumber;
 
 /// The terminal that asks.
-#[derive(Clone, Copy, Debug, PartialEq, Eq)]
+#[derive(Clone, Copy, PartialEq, Eq)]
 pub enum Who {
     /// The desk of a division.
     Desk(DivisionNumber),
@@ -42,7 +42,7 @@ pub struct NewCall {
 }
 
 /// What a crew sends.
-#[derive(Clone, Copy, Debug)]
+#[derive(Clone, Copy)]
 pub struct Press {
     /// Given by the terminal; a report that is sent again has the same.
     pub number: Number,

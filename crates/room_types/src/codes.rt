@@ -6,7 +6,7 @@ ghost use Rattle.room_types.specs.Codes.{Decodes, kind_number, status_number, is
 use crate::numbers::Number;
 
 /// What a vehicle is.
-#[derive(Clone, Copy, Debug, PartialEq, Eq)]
+#[derive(Clone, Copy, PartialEq, Eq)]
 pub enum Kind {
     Ambulance,
     Car,
@@ -39,7 +39,7 @@ impl Kind {
 }
 
 /// What a vehicle is doing.
-#[derive(Clone, Copy, Debug, PartialEq, Eq)]
+#[derive(Clone, Copy, PartialEq, Eq)]
 pub enum Status {
     OffDuty,
     Available,
@@ -122,7 +122,7 @@ impl Status {
 }
 
 /// The buttons of a crew's terminal.
-#[derive(Clone, Copy, Debug, PartialEq, Eq)]
+#[derive(Clone, Copy, PartialEq, Eq)]
 pub enum Button {
     /// Here we are; nothing else changes.
     Position,
@@ -205,7 +205,7 @@ impl Button {
 }
 
 /// What became of a report.
-#[derive(Clone, Copy, Debug, PartialEq, Eq)]
+#[derive(Clone, Copy, PartialEq, Eq)]
 pub enum Outcome {
     Normal,
     /// It acted, though a button before it was left out.
@@ -261,7 +261,7 @@ impl Outcome {
 }
 
 /// What became of an incident; a merged one names the incident that it went into.
-#[derive(Clone, Copy, Debug, PartialEq, Eq)]
+#[derive(Clone, Copy, PartialEq, Eq)]
 pub enum State {
     Active,
     Closed,
@@ -309,6 +309,3 @@ impl State {
         matches!(self, State::Active)
     }
 }
-
-#[cfg(test)]
-mod tests;

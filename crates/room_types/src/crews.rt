@@ -1,6 +1,7 @@
 //! The rows of one vehicle that its crew's requests are decided on.
 ghost use Rattle.std.specs.Prelude.{◌≡◌, true};
-ghost use Rattle.room_types.specs.Crews.{is_crew, are_sent_rows, are_lent_rows};
+ghost use Rattle.room_types.specs.Crews.{is_crew, are_sent_rows, are_lent_rows, passes};
+ghost use Rattle.room_types.specs.Keys.{same_callsign};
 
 use crate::sent::sent_agrees;
 use crate::tables::{Assignment, Loan, Offer, Report, Turn, Vehicle};
@@ -52,12 +53,9 @@ impl CrewRows {
         ensures test { result ≡ is_crew self.now }
         ensures crew { IsTrue result ↔ IsCrew self.now }
     {
-        let is_reported = self
-            .report
-            .is_none_or(|report| report.callsign == self.vehicle.callsign);
         self.are_sent_rows()
             && self.are_lent_rows()
-            && is_reported
+            && self.is_reported()
             && sent_agrees(&self.vehicle, self.assignment.as_ref(), self.turn.as_ref())
     }
 
@@ -65,21 +63,38 @@ impl CrewRows {
         ensures { result ≡ are_sent_rows self.now }
     {
         let callsign = self.vehicle.callsign;
+        let is_assigned = match self.assignment {
+            Some(assignment) => assignment.callsign == callsign,
+            None => true,
+        };
         let is_ordered = match self.turn {
             Some(turn) => turn.callsign == callsign && turn.ended.is_none(),
             None => true,
         };
-        self.assignment.is_none_or(|row| row.callsign == callsign) && is_ordered
+        is_assigned && is_ordered
     }
 
     fn are_lent_rows(&self) -> bool
         ensures { result ≡ are_lent_rows self.now }
     {
         let callsign = self.vehicle.callsign;
-        self.loan.is_none_or(|row| row.callsign == callsign)
-            && self.offer.is_none_or(|row| row.callsign == callsign)
+        let is_lent = match self.loan {
+            Some(loan) => loan.callsign == callsign,
+            None => true,
+        };
+        let is_offered = match self.offer {
+            Some(offer) => offer.callsign == callsign,
+            None => true,
+        };
+        is_lent && is_offered
+    }
+
+    fn is_reported(&self) -> bool
+        ensures { result ≡ passes (λ x. same_callsign x.callsign self.now.vehicle.callsign) self.now.report }
+    {
+        match self.report {
+            Some(report) => report.callsign == self.vehicle.callsign,
+            None => true,
+        }
     }
 }
-
-#[cfg(test)]
-mod tests;

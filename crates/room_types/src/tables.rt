@@ -9,14 +9,14 @@ use room_place::places::Place;
 use room_place::plans::DivisionNumber;
 
 /// A division, and the incident number that it gave last (0 where none).
-#[derive(Clone, Copy, Debug)]
+#[derive(Clone, Copy)]
 pub struct Division {
     pub number: DivisionNumber,
     pub last_incident: LastNumber,
 }
 
 /// An event that calls told of, and that vehicles are sent to.
-#[derive(Clone, Copy, Debug)]
+#[derive(Clone, Copy)]
 pub struct Incident {
     pub division: DivisionNumber,
     /// Counted from 1 in each division.
@@ -53,7 +53,7 @@ pub struct Call {
 }
 
 /// A vehicle, seen and sent by the division that holds it.
-#[derive(Clone, Copy, Debug)]
+#[derive(Clone, Copy)]
 pub struct Vehicle {
     pub callsign: Callsign,
     /// The division that it belongs to.
@@ -74,7 +74,7 @@ pub struct Vehicle {
 }
 
 /// A vehicle's order for an incident, from the mobilisation to its end. It is open until it ended.
-#[derive(Clone, Copy, Debug)]
+#[derive(Clone, Copy)]
 pub struct Turn {
     pub callsign: Callsign,
     pub order: Number,
@@ -93,7 +93,7 @@ pub struct Turn {
 }
 
 /// What a mobilised vehicle was told, with the place and class of then.
-#[derive(Clone, Copy, Debug)]
+#[derive(Clone, Copy)]
 pub struct Assignment {
     pub callsign: Callsign,
     pub division: DivisionNumber,
@@ -104,7 +104,7 @@ pub struct Assignment {
 }
 
 /// A standby point of a division, and how many vehicles it wants.
-#[derive(Clone, Copy, Debug)]
+#[derive(Clone, Copy)]
 pub struct Point {
     pub division: DivisionNumber,
     pub number: PointNumber,
@@ -113,7 +113,7 @@ pub struct Point {
 }
 
 /// A vehicle that another division holds for a while.
-#[derive(Clone, Copy, Debug)]
+#[derive(Clone, Copy)]
 pub struct Loan {
     pub callsign: Callsign,
     pub lender: DivisionNumber,
@@ -126,7 +126,7 @@ pub struct Loan {
 }
 
 /// A vehicle that its division offers to lend, until the offer is answered or withdrawn.
-#[derive(Clone, Copy, Debug)]
+#[derive(Clone, Copy)]
 pub struct Offer {
     pub callsign: Callsign,
     pub lender: DivisionNumber,
@@ -136,7 +136,7 @@ pub struct Offer {
 }
 
 /// What a crew reported, kept for good with what became of it.
-#[derive(Clone, Copy, Debug)]
+#[derive(Clone, Copy)]
 pub struct Report {
     pub callsign: Callsign,
     /// Given by the terminal; it sends a report again under the same number.

@@ -10,7 +10,7 @@ use std::marker::Model;
 use std::str;
 
 /// At most `CAP` bytes of UTF-8, filled up with zeros. A contract sees the bytes of the text.
-#[derive(Clone, Copy, Debug)]
+#[derive(Clone, Copy)]
 pub struct Text<const CAP: usize> {
     bytes: [u8; CAP],
     size: usize,

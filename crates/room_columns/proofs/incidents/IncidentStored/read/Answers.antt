@@ -1,16 +1,13 @@
--- The columns of the row that was read are the row's columns, one by one.
-use Rattle.std.proofs.Common.{◌≡◌, ◌∷◌, [], ◌∙◌, length, rules, ap, ℕ, Option}
-use Rattle.table_laws.specs.Typed.{number, number_or_null}
-use Rattle.table_laws.proofs.ColumnValues.{columns_are}
-use Rattle.room_types.specs.declared.needs.Counts.{Counts}
+-- The last two columns are the state's, and no state stands in them.
+use Rattle.std.proofs.Common.{◌≡◌, true, rules, ap}
+use Rattle.sqlite_value.specs.Order.{Row, column}
 use Rattle.room_columns.proofs.ReadLaws.{state_read}
+use Rattle.room_columns.specs.Readable.{is_or_null, is_serial}
 use Rattle.room_columns.proofs.incidents.IncidentStored.read.Goals as goal
 
-pub returns-clause-row : goal.returns-clause-row
-returns-clause-row c =
-    let long : length c.args.row.now ≡ 12 = search rules in
-    (λ i. c.in_ok-value_at.ensures.value i ∷ c.in_ok-value_at-2.ensures.value i ∷ c.in_ok-value_at-3.ensures.value i ∷ c.in_ok-value_at-4.ensures.value i ∷ c.in_ok-value_at-5.ensures.value i ∷ (ap (λ (n : Counts). number n.ambulances) c.in_ok-new.ensures.1 ∙ c.in_ok-value_at-6.ensures.value) i ∷ (ap (λ (n : Counts). number n.cars) c.in_ok-new.ensures.1 ∙ c.in_ok-value_at-7.ensures.value) i ∷ (ap (λ (n : Counts). number n.support) c.in_ok-new.ensures.1 ∙ c.in_ok-value_at-8.ensures.value) i ∷ c.in_ok-value_at-9.ensures.value i ∷ c.in_ok-value_at-10.ensures.value i ∷ (ap (λ (p : ℕ × Option ℕ). number p.0) c.in_ok-from_columns.ensures.has_it ∙ c.in_ok-value_at-11.ensures.value) i ∷ (ap (λ (p : ℕ × Option ℕ). number_or_null p.1) c.in_ok-from_columns.ensures.has_it ∙ c.in_ok-value_at-12.ensures.value) i ∷ []) ∙ columns_are 12 c.args.row.now long
-
-pub returns-in_err-from_columns-clause-has_one : goal.returns-in_err-from_columns-clause-has_one
-returns-in_err-from_columns-clause-has_one c =
-    search (rules, state_read _ _ _ _ _ c.in_err-from_columns.ensures c.in_ok-value_at-11.ensures.value c.in_ok-value_at-12.ensures.value c.in_ok-value_at-12.ensures.has_one)
+pub returns-in_err-state-clause-has_one : goal.returns-in_err-state-clause-has_one
+returns-in_err-state-clause-has_one c =
+    let read = c.in_ok-division.ensures in
+    let row = c.args.row.now in
+    let fits : true ≡ is_or_null is_serial (column row 11) = search rules in
+    search (rules, state_read (column row 10) (column row 11) _ _ _ c.in_err-state.ensures (ap (λ (r : Row). column r 10) read.values) (ap (λ (r : Row). column r 11) read.values) fits)
