@@ -1,0 +1,106 @@
+"""The toolchain's command `rt` as a library, for what it has no words for: proofs side by side, kept and measured."""
+import functools
+import importlib.machinery
+import importlib.util
+import os
+import pathlib
+import shutil
+import sys
+import tempfile
+import time
+
+TOP = pathlib.Path(__file__).resolve().parent.parent
+
+
+def say(text):
+    print(f'{pathlib.Path(sys.argv[0]).name}: {text}', file=sys.stderr, flush=True)
+
+
+@functools.lru_cache(maxsize=None)
+def rt():
+    """The module of the command."""
+    command = shutil.which('rt')
+    if not command:
+        say("the Rattle toolchain's command rt is not on the PATH; install the kit that README.md names")
+        sys.exit(1)
+    loader = importlib.machinery.SourceFileLoader('rt', os.path.realpath(command))
+    module = importlib.util.module_from_spec(importlib.util.spec_from_loader('rt', loader))
+    loader.exec_module(module)
+    # What it starts ends when this program does, and of a library the statements alone are kept.
+    module.rtlib.guarded()
+    module.rtlib.Crate = module.Crate
+    module.Crate.cuts_libraries = True
+    module.Crate.allowed = module.handles_of(str(TOP))
+    return module
+
+
+@functools.lru_cache(maxsize=None)
+def crates():
+    """The crates of the repository by their names, lowest first."""
+    found = rt().rtlib.crates_below(str(TOP))
+    return {it.name: it for it in sorted(found, key=lambda it: len(it.below()))}
+
+
+def below(wanted):
+    """The libraries below these crates, each after those that it uses."""
+    found = {library.name for crate in wanted for library in crate.below()}
+    return [it for it in crates().values() if it.name in found]
+
+
+def quietly(crate, work):
+    """Does a crate's work, and gives its status and what it said."""
+    os.makedirs(f'{crate.folder}/out', exist_ok=True)
+    with tempfile.TemporaryFile('w+', errors='replace') as crate.out:
+        status = work()
+        crate.out.seek(0)
+        said = crate.out.read()
+    crate.out = sys.stdout
+    return status, said
+
+
+def is_proved(crate, work):
+    """Does a crate's work, and tells what it said where it fails."""
+    status, said = quietly(crate, work)
+    if status:
+        say(f'{crate.name} is not proved:')
+        print(*said.splitlines()[-40:], sep='\n', file=sys.stderr, flush=True)
+    return not status
+
+
+def build(library, jobs):
+    """Proves a library from nothing and keeps its statements for the crates above it."""
+    stamp = library.stamp()
+    if not is_proved(library, lambda: library.build_rlib(['--jobs', str(jobs)], anew=True)):
+        return False
+    if stamp == library.stamp():
+        pathlib.Path(library.rlib).with_name('stamp').write_text(stamp)
+    return True
+
+
+def in_lanes(wanted, work):
+    """Calls work(crate, jobs) for each crate after those of them that it stands on, as many at a time as processors and
+    memory hold. What stands on a crate that failed is left out. Gives whether none failed."""
+    named = {it.name for it in wanted}
+
+    def task(crate):
+        waits = [it.name for it in crate.below() if it.name in named]
+        call = lambda given, jobs: all(given[it] for it in waits) and work(crate, jobs)
+        return waits, crate.count(rb'\n'), rt().need(crate), call
+
+    return all(rt().in_lanes({it.name: task(it) for it in wanted}).values())
+
+
+def build_all(libraries):
+    """Proves, side by side, the libraries that are not kept, and tells how far it is. Gives whether all are proved."""
+    left = [it for it in libraries if not it.is_built()]
+    began, done = time.monotonic(), len(libraries) - len(left)
+
+    def work(library, jobs):
+        nonlocal done
+        if not build(library, jobs):
+            return False
+        done += 1
+        say(f'proved {library.name}, {done} of {len(libraries)} libraries, {(time.monotonic() - began) / 60:.0f} min')
+        return True
+
+    return in_lanes(left, work)
