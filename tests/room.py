@@ -2,15 +2,23 @@
 import contextlib
 import email.utils
 import pathlib
+import random
 import socket
 import subprocess
 
 TOP = pathlib.Path(__file__).resolve().parent.parent
-PROGRAM = TOP / 'dispatch_room'
-BUILT = TOP / 'crates' / 'dispatch_room' / 'out' / 'dispatch_room'  # what it runs, once it is built
+PROGRAM = TOP / 'crates' / 'dispatch_room' / 'out' / 'dispatch_room'
 PLAN = TOP / 'examples' / 'plan.csv'
 FLEET = TOP / 'examples' / 'fleet.csv'
 passed = failed = 0
+
+
+def is_built(crate='dispatch_room'):
+    """Builds a program where a source is newer than it, and tells where that fails."""
+    if subprocess.run([TOP / 'tools' / 'build', crate], stdin=subprocess.DEVNULL).returncode == 0:
+        return True
+    print(f'failed: {crate} is built\n0 passed, 1 failed')
+    return False
 
 
 def check(what, got, wanted):
@@ -53,9 +61,12 @@ def made(room, *lines):
 
 
 def free_port():
-    with socket.socket() as it:
-        it.bind(('127.0.0.1', 0))
-        return it.getsockname()[1]
+    """A port that is free, below those that the system gives to connections by itself."""
+    while True:
+        port = random.randrange(10_000, 30_000)
+        with socket.socket() as it, contextlib.suppress(OSError):
+            it.bind(('127.0.0.1', port))
+            return port
 
 
 @contextlib.contextmanager
