@@ -12,15 +12,16 @@ use room_types::slices::Slice;
 use room_types::tables::{Incident, Vehicle};
 use std::alloc::Global;
 
-// A linear congruential generator, so that each run tries the same divisions. Less than the number of sides.
+// Less than the number of sides, by a linear congruential generator, so that each run tries
+// the same divisions.
 fn roll(last: &mut u32, sides: u32) -> u32 {
     let next = last.wrapping_mul(1_664_525);
     *last = next.wrapping_add(1_013_904_223);
     (*last >> 8).checked_rem(sides).unwrap_or(0)
 }
 
-// Half of the places are within a few metres of where four cells meet, so that there are ties, and nearer
-// vehicles in a later ring.
+// Half of the places are within a few metres of where four cells meet, so that there are ties, and
+// nearer vehicles in a later ring.
 fn place(dice: &mut u32) -> Option<Place> {
     let metres = if roll(dice, 2) == 0 { 4 } else { 5000 };
     let east = roll(dice, metres).saturating_add(527_998);

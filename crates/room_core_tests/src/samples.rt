@@ -39,8 +39,8 @@ pub(crate) fn plan(alloc: Global) -> Option<Plan> {
     Plan::new(alloc, areas.to_vec(alloc).ok()?, "UTC0").ok()
 }
 
-// Incident 2 was merged into 1. A1 is on its way, A2 waits at a point, A3 is offered and B1 is lent to
-// division 2, A4 is lent and B2 is offered by it, and A5 is off duty.
+// Incident 2 was merged into 1. A1 is on its way, A2 waits at a point, A3 is offered and B1 is lent
+// to division 2, A4 is lent and B2 is offered by it, and A5 is off duty.
 pub(crate) fn room() -> Option<[Change; 24]> {
     Some([
         Change::PutDivision(division(1, 3)?),
@@ -112,7 +112,8 @@ pub(crate) fn apply(rows: &mut DivisionRows, change: &Change) -> bool {
     }
 }
 
-// What division 1 has of the room: all but the other division, and the vehicles that this one holds.
+// What division 1 has of the room: all but the other division, and the vehicles that this one
+// holds.
 pub(crate) fn slice(alloc: Global) -> Option<Slice> {
     let division = Whole::of(1);
     let mut rows = made(alloc, &room()?)?;

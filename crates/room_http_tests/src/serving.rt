@@ -31,9 +31,9 @@ const BOTH: [u64; 2] = [1000, 4_102_444_799];
 
 const LATE: [u64; 2] = [1000, 4_102_444_800];
 
-// The first message is answered, and the second one too where nothing fails. The read that fails and
-// how many are granted, how many bytes the writer takes, the moments, what the room does before it
-// is in want, how serving ends, and what is written after the first answer.
+// The first message is answered, and the second one too where nothing fails. The read that fails
+// and how many are granted, how many bytes the writer takes, the moments, what the room does before
+// it is in want, how serving ends, and what is written after the first answer.
 const ENDS: [((usize, u32), usize, &[u64], (usize, usize), ServeEnd, &str); 8] = [
     ((99, 99), 512, &BOTH, (2, 2), ServeEnd::Closed, SECOND),
     ((15, 99), 512, &BOTH, (2, 2), ServeEnd::ReadFault, ""),

@@ -1,4 +1,5 @@
-//! Rows of the small room. A row is at TQ300800, of class 2 and for one ambulance where nothing else is said.
+//! Rows of the small room: at TQ300800, of class 2 and for one ambulance where nothing else is
+//! said.
 use room_place::places::Place;
 use room_place::whole::Whole;
 use room_types::callsign::Callsign;
