@@ -1,16 +1,9 @@
-//! The control room, as a program. Without words it is the dry run: the example room in memory, its
-//! messages from standard input, its answers to standard output. With words it is a command over a room's file.
+//! The control room, as a program. Without words it is the dry run: the example room in memory,
+//! its messages from standard input, its answers to standard output. With words it is a command
+//! over a room's file.
 #![tactic(auto)]
 
-mod commands;
-mod creating;
-mod files;
-mod importing;
-mod serving;
-mod timing;
-mod words;
-
-use crate::commands::{USAGE, command};
+use dispatch_room_commands::commands::{USAGE, command};
 use room_endings::endings::{Fault, ended};
 use room_example::dry_run::dry_run;
 use room_message::wires::Wire;

@@ -24,6 +24,17 @@ module _ (a b c : State) where
   pub kept_then : KeepsCommit a b → KeepsCommit b c → KeepsCommit a c
   kept_then one two = record { was_open = λ o. one.was_open (two.was_open o); committed = λ o. two.committed o ∙ one.committed (two.was_open o) }
 
+-- What was done committed nothing, and left a stop what it could leave.
+pub record Went (old new : State) : Type 0 where
+  pub kept : HasCleanDisk new → KeepsCommit old new
+  pub still : Survives old new (λ _. ⊥)
+
+pub went_then : (a b c : State) → Went a b → (HasCleanDisk c → KeepsCommit b c) → Survives b c (λ _. ⊥) → Went a c
+went_then a b c before kept last = record {
+  kept = λ clean. let early : HasCleanDisk b = omega (arith, last.clean) in kept_then a b c (before.kept early) (kept clean);
+  still = still_then a b c before.still last;
+}
+
 -- what a stop leaves of a transaction is what it could leave before, or what is committed
 pub survives_commit : {S : Type 0} (g : Ghosts S) (old begun : Held S) (made last end : State) (P : Trees → Type 0) → begun ≡ record old { in_transaction = true }
     → Survives (state g begun) made (λ _. ⊥) → Survives made last (λ _. ⊥) → (HasCleanDisk last → P last.now.trees) → Survives last end (λ db. db ≡ last.now.trees) → Survives (state g old) end P

@@ -1,5 +1,6 @@
 pub mod KeyedUnions
 pub mod RoomReads
+pub mod ReadLaws
 pub mod ReportTests
 pub mod ReadNumbers
 pub mod CrewReads

@@ -21,9 +21,6 @@ use Rattle.room_tables.specs.Versions.{IsOfFirstVersion}
 use Rattle.room_store.specs.Keeping.{house_of}
 use Rattle.room_store.specs.declared.opening.OpenFault.{OpenFault}
 use Rattle.room_store.specs.declared.opening.OpenFault.TheVariants.{Memory, Storage}
-use Rattle.room_store.specs.declared.whole.Fleet.{Fleet}
-use Rattle.room_store.specs.declared.whole.Lending.{Lending}
-use Rattle.room_store.specs.declared.whole.Work.{Work}
 
 -- The file has a room's tables, with its indexes or without them.
 abbrev pub HasTables : Schema → Type 0
@@ -56,26 +53,7 @@ abbrev pub open_fault : Fault → OpenFault
 open_fault fault.Memory = Memory
 open_fault fault.Storage = Storage
 
--- the tables of divisions, vehicles and assignments hold these rows
-pub record HasFleet (trees : Trees) (x : Fleet) : Type 0 where
-  pub divisions : StandsFor trees divisions_table division_row x.divisions
-  pub vehicles : StandsFor trees vehicles_table vehicle_row x.vehicles
-  pub assignments : StandsFor trees assignments_table assignment_row x.assignments
-
--- the tables of points, loans and offers do
-pub record HasLending (trees : Trees) (x : Lending) : Type 0 where
-  pub points : StandsFor trees points_table point_row x.points
-  pub loans : StandsFor trees loans_table loan_row x.loans
-  pub offers : StandsFor trees offers_table offer_row x.offers
-
--- the tables of incidents, calls, turns and reports do
-pub record HasWork (trees : Trees) (x : Work) : Type 0 where
-  pub incidents : StandsFor trees incidents_table incident_row x.incidents
-  pub calls : StandsFor trees calls_table call_row x.calls
-  pub turns : StandsFor trees turns_table turn_row x.turns
-  pub reports : StandsFor trees reports_table report_row x.reports
-
--- the tables of all rows but the plan's and the terminals' do
+-- the tables of all rows but the plan's and the terminals' hold these rows
 pub record HasRows (trees : Trees) (x : DivisionRows) : Type 0 where
   pub divisions : StandsFor trees divisions_table division_row x.divisions
   pub incidents : StandsFor trees incidents_table incident_row x.incidents

@@ -54,11 +54,15 @@ pub(crate) fn act_on<S: Alter, F: FnOnce(&Result<Answer, Refusal>) -> Result<Vec
         Err(fault) => return Err(Refusal::from(fault)),
     };
     let (changes, answer) = parts(alloc, decision);
-    let bytes = match render(&answer) {
+    let rendered = render(&answer);
+    drop(answer);
+    let bytes = match rendered {
         Ok(bytes) => bytes,
         Err(refusal) => return Err(refusal),
     };
-    match write(conn, changes.as_slice()) {
+    let written = write(conn, changes.as_slice());
+    drop(changes);
+    match written {
         Ok(()) => Ok(bytes),
         Err(fault) => Err(Refusal::from(fault)),
     }
@@ -85,7 +89,9 @@ pub(crate) fn add_answer<S: Alter>(
     let decision = decide(alloc, conn, plan, event)?;
     let (changes, answer) = parts(alloc, decision);
     out.push(answer)?;
-    match write(conn, changes.as_slice()) {
+    let written = write(conn, changes.as_slice());
+    drop(changes);
+    match written {
         Ok(()) => Ok(()),
         Err(fault) => {
             let _ = out.pop();

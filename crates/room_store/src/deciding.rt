@@ -77,7 +77,11 @@ fn for_desk<S: Alter>(
 {
     let rows = load_working(alloc, conn, division, ask)?;
     match Slice::build(division, rows) {
-        Some(slice) => machines(decide_desk(alloc, plan, &slice, ask, at)),
+        Some(slice) => {
+            let decision = decide_desk(alloc, plan, &slice, ask, at);
+            drop(slice);
+            machines(decision)
+        }
         None => Err(Fault::Storage),
     }
 }
@@ -175,7 +179,11 @@ fn for_new_call<S: Alter>(
 {
     let rows = load_working(alloc, conn, division, &Ask::Call(*form))?;
     match Slice::build(division, rows) {
-        Some(slice) => machines(decide_call(alloc, &slice, new)),
+        Some(slice) => {
+            let decision = decide_call(alloc, &slice, new);
+            drop(slice);
+            machines(decision)
+        }
         None => Err(Fault::Storage),
     }
 }

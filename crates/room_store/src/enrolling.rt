@@ -16,6 +16,7 @@ ghost use Rattle.room_store.specs.Enrolling.{Enrols, HasEnrolled, MayBeEnrolled,
 ghost use Rattle.room_store.specs.Keeping.{IsReady, IsRoom, house_of};
 
 use crate::store::Store;
+use crate::writing::end;
 use room_place::plans::Plan;
 use room_schema::faults::Fault;
 use room_tables::changing::put;
@@ -188,9 +189,8 @@ fn write_row<S: Alter>(conn: &mut Connection<S>, row: &FleetRow) -> Result<(), F
     ensures survives { Survives (state S.Store conn.old) (state S.Store conn.new) (λ db. (house : House) (room : Room) → Stands (state S.Store conn.old).now.trees house room → StandsAfter told.Added row.now house room db) }
 {
     let mut tx = conn.transaction();
-    put_row(&mut tx, row)?;
-    tx.commit()?;
-    Ok(())
+    let done = put_row(&mut tx, row);
+    end(tx, done)
 }
 
 // Puts a row's vehicle and its crew's terminal.

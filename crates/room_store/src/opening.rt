@@ -16,6 +16,7 @@ ghost use Rattle.room_store.specs.declared.opening.OpenFault.TheVariants.{Memory
 
 use crate::store::Store;
 use crate::whole::{Whole, read_whole};
+use crate::writing::end;
 use room_place::plans::Plan;
 use room_schema::faults::Fault;
 use room_schema::making::make_indexes;
@@ -136,12 +137,23 @@ fn read_room<S: Alter>(alloc: Global, conn: &mut Connection<S>) -> Result<Plan, 
     have_indexes(conn)?;
     // Outside a transaction the tables are as they were committed.
     let _ = conn.is_autocommit();
-    let whole = match read_whole(alloc, conn) {
-        Ok(whole) => whole,
-        Err(fault) => return Err(fault),
-    };
-    match is_sound(alloc, &whole) {
-        Ok(true) => Ok(whole.house.plan),
+    match read_whole(alloc, conn) {
+        Ok(whole) => sound_plan(alloc, whole),
+        Err(fault) => Err(fault),
+    }
+}
+
+// The plan of a file whose rows make a well-formed room that the terminals fit.
+fn sound_plan(alloc: Global, whole: Whole) -> Result<Plan, OpenFault>
+    ensures sound { IfOk result (λ plan. (plan ≡ whole.house.plan) × IsWellFormed (room_of whole.house.plan.areas whole.rows) × AreTerminals (room_of whole.house.plan.areas whole.rows) whole.house.terminals.items) }
+    ensures no_room { IfErr result (λ e. e ≡ NotARoom → ¬ (IsWellFormed (room_of whole.house.plan.areas whole.rows) × AreTerminals (room_of whole.house.plan.areas whole.rows) whole.house.terminals.items)) }
+    ensures this_version { IfErr result (λ e. e ≢ OldRoom) }
+{
+    let test = is_sound(alloc, &whole);
+    let Whole { house, rows } = whole;
+    drop(rows);
+    match test {
+        Ok(true) => Ok(house.plan),
         Ok(false) => Err(OpenFault::NotARoom),
         Err(fault) => Err(fault),
     }
@@ -195,7 +207,6 @@ fn add_indexes<S: Alter>(conn: &mut Connection<S>) -> Result<(), Fault>
     ensures survives { Survives (state S.Store conn.old) (state S.Store conn.new) (StandsAs (state S.Store conn.old)) }
 {
     let mut tx = conn.transaction();
-    make_indexes(&mut tx)?;
-    tx.commit()?;
-    Ok(())
+    let done = make_indexes(&mut tx);
+    end(tx, done)
 }

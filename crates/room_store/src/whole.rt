@@ -3,13 +3,14 @@ ghost use Rattle.std.specs.Prelude.{◌≡◌, ◌≢◌, false, IfErr, IfOk, On
 ghost use Rattle.sqlite.specs.Held.{state};
 ghost use Rattle.sqlite.specs.State.{HasCleanDisk, IsUnchanged, Survives};
 ghost use Rattle.table_laws.specs.Outcomes.{Keeps};
+ghost use Rattle.table_laws.specs.Tables.{AreNumbered};
 ghost use Rattle.room_place.specs.Plans.{Layout};
 ghost use Rattle.room_model.specs.Slices.{room_of};
 ghost use Rattle.room_schema.specs.Schema.{room_schema};
 ghost use Rattle.room_tables.specs.Numbering.{AreAllNumbered};
-ghost use Rattle.room_tables.specs.Stands.{Stands};
+ghost use Rattle.room_tables.specs.Stands.{Stands, StandsFor};
 ghost use Rattle.room_store.specs.Keeping.{house_of};
-ghost use Rattle.room_store.specs.Opening.{HasFleet, HasHouse, HasLending, HasRows, HasWork, HoldsRoom};
+ghost use Rattle.room_store.specs.Opening.{HasHouse, HasRows, HoldsRoom};
 ghost use Rattle.room_store.specs.declared.opening.OpenFault.TheVariants.{NotARoom, OldRoom};
 
 use crate::opening::OpenFault;
@@ -19,6 +20,7 @@ use room_tables::areas::all_areas;
 use room_tables::loading::all_rows;
 use room_tables::meta::zone;
 use room_tables::numbering::are_numbered;
+use room_tables::tables::Table;
 use room_tables::terminals::all_terminals;
 use room_types::fleet::Terminal;
 use room_types::rows::Rows;
@@ -106,97 +108,42 @@ fn read_rows<S: Alter>(alloc: Global, conn: &mut Connection<S>) -> Result<Divisi
     ensures mode { conn.old.in_transaction ≡ false → conn.new.in_transaction ≡ false }
     ensures survives { Survives (state S.Store conn.old) (state S.Store conn.new) (λ _. ⊥) }
 {
-    let fleet = read_fleet(alloc, conn)?;
-    let lending = read_lending(alloc, conn)?;
-    let work = read_work(alloc, conn)?;
+    let reports = all_rows::<Report, S>(alloc, conn)?;
+    let (divisions, vehicles, assignments) = three_tables::<Division, Vehicle, Assignment, S>(
+        alloc, conn,
+    )?;
+    let (points, loans, offers) = three_tables::<Point, Loan, Offer, S>(alloc, conn)?;
+    let (incidents, calls, turns) = three_tables::<Incident, Call, Turn, S>(alloc, conn)?;
     Ok(DivisionRows {
-        divisions: fleet.divisions,
-        incidents: work.incidents,
-        calls: work.calls,
-        vehicles: fleet.vehicles,
-        turns: work.turns,
-        assignments: fleet.assignments,
-        points: lending.points,
-        loans: lending.loans,
-        offers: lending.offers,
-        reports: work.reports,
-    })
-}
-
-#[derive(Drop)]
-struct Fleet {
-    divisions: Rows<Division>,
-    vehicles: Rows<Vehicle>,
-    assignments: Rows<Assignment>,
-}
-
-fn read_fleet<S: Alter>(alloc: Global, conn: &mut Connection<S>) -> Result<Fleet, Fault>
-    requires schema { HasCleanDisk (state S.Store conn.old) → (state S.Store conn.old).now.schema ≡ room_schema }
-    ensures found { HasCleanDisk (state S.Store conn.new) → IfOk result (λ x. AreAllNumbered (state S.Store conn.old).now.trees → HasFleet (state S.Store conn.old).now.trees x) }
-    ensures ok { HasCleanDisk (state S.Store conn.new) → OnOk result (IsUnchanged (state S.Store conn.old) (state S.Store conn.new)) }
-    ensures err { HasCleanDisk (state S.Store conn.new) → OnErr result (Keeps (state S.Store conn.old) (state S.Store conn.new)) }
-    ensures mode { conn.old.in_transaction ≡ false → conn.new.in_transaction ≡ false }
-    ensures survives { Survives (state S.Store conn.old) (state S.Store conn.new) (λ _. ⊥) }
-{
-    let divisions = all_rows::<Division, S>(alloc, conn)?;
-    let vehicles = all_rows::<Vehicle, S>(alloc, conn)?;
-    let assignments = all_rows::<Assignment, S>(alloc, conn)?;
-    Ok(Fleet {
         divisions,
+        incidents,
+        calls,
         vehicles,
+        turns,
         assignments,
-    })
-}
-
-#[derive(Drop)]
-struct Lending {
-    points: Rows<Point>,
-    loans: Rows<Loan>,
-    offers: Rows<Offer>,
-}
-
-fn read_lending<S: Alter>(alloc: Global, conn: &mut Connection<S>) -> Result<Lending, Fault>
-    requires schema { HasCleanDisk (state S.Store conn.old) → (state S.Store conn.old).now.schema ≡ room_schema }
-    ensures found { HasCleanDisk (state S.Store conn.new) → IfOk result (λ x. AreAllNumbered (state S.Store conn.old).now.trees → HasLending (state S.Store conn.old).now.trees x) }
-    ensures ok { HasCleanDisk (state S.Store conn.new) → OnOk result (IsUnchanged (state S.Store conn.old) (state S.Store conn.new)) }
-    ensures err { HasCleanDisk (state S.Store conn.new) → OnErr result (Keeps (state S.Store conn.old) (state S.Store conn.new)) }
-    ensures mode { conn.old.in_transaction ≡ false → conn.new.in_transaction ≡ false }
-    ensures survives { Survives (state S.Store conn.old) (state S.Store conn.new) (λ _. ⊥) }
-{
-    let points = all_rows::<Point, S>(alloc, conn)?;
-    let loans = all_rows::<Loan, S>(alloc, conn)?;
-    let offers = all_rows::<Offer, S>(alloc, conn)?;
-    Ok(Lending {
         points,
         loans,
         offers,
+        reports,
     })
 }
 
-#[derive(Drop)]
-struct Work {
-    incidents: Rows<Incident>,
-    calls: Rows<Call>,
-    turns: Rows<Turn>,
-    reports: Rows<Report>,
-}
-
-fn read_work<S: Alter>(alloc: Global, conn: &mut Connection<S>) -> Result<Work, Fault>
+// The rows of three tables.
+fn three_tables<A: Table, B: Table, C: Table, S: Alter>(
+    alloc: Global,
+    conn: &mut Connection<S>,
+) -> Result<(Rows<A>, Rows<B>, Rows<C>), Fault>
     requires schema { HasCleanDisk (state S.Store conn.old) → (state S.Store conn.old).now.schema ≡ room_schema }
-    ensures found { HasCleanDisk (state S.Store conn.new) → IfOk result (λ x. AreAllNumbered (state S.Store conn.old).now.trees → HasWork (state S.Store conn.old).now.trees x) }
+    ensures first { HasCleanDisk (state S.Store conn.new) → IfOk result (λ x. AreNumbered ((state S.Store conn.old).now.trees A.table.tree) → StandsFor (state S.Store conn.old).now.trees A.table A.cells x.0) }
+    ensures second { HasCleanDisk (state S.Store conn.new) → IfOk result (λ x. AreNumbered ((state S.Store conn.old).now.trees B.table.tree) → StandsFor (state S.Store conn.old).now.trees B.table B.cells x.1) }
+    ensures third { HasCleanDisk (state S.Store conn.new) → IfOk result (λ x. AreNumbered ((state S.Store conn.old).now.trees C.table.tree) → StandsFor (state S.Store conn.old).now.trees C.table C.cells x.2) }
     ensures ok { HasCleanDisk (state S.Store conn.new) → OnOk result (IsUnchanged (state S.Store conn.old) (state S.Store conn.new)) }
     ensures err { HasCleanDisk (state S.Store conn.new) → OnErr result (Keeps (state S.Store conn.old) (state S.Store conn.new)) }
     ensures mode { conn.old.in_transaction ≡ false → conn.new.in_transaction ≡ false }
     ensures survives { Survives (state S.Store conn.old) (state S.Store conn.new) (λ _. ⊥) }
 {
-    let incidents = all_rows::<Incident, S>(alloc, conn)?;
-    let calls = all_rows::<Call, S>(alloc, conn)?;
-    let turns = all_rows::<Turn, S>(alloc, conn)?;
-    let reports = all_rows::<Report, S>(alloc, conn)?;
-    Ok(Work {
-        incidents,
-        calls,
-        turns,
-        reports,
-    })
+    let first = all_rows::<A, S>(alloc, conn)?;
+    let second = all_rows::<B, S>(alloc, conn)?;
+    let third = all_rows::<C, S>(alloc, conn)?;
+    Ok((first, second, third))
 }

@@ -4,9 +4,10 @@ ghost use Rattle.sqlite.specs.Held.{state};
 ghost use Rattle.sqlite.specs.State.{HasCleanDisk, IsUnchanged, Survives};
 ghost use Rattle.table_laws.specs.Outcomes.{Keeps};
 ghost use Rattle.room_types.specs.Keys.{owns_division, owns_point, owns_loan, owns_offer, owns_vehicle, owns_assignment, owns_report};
-ghost use Rattle.room_types.specs.Codes.{is_normal};
+ghost use Rattle.room_types.specs.Codes.{is_normal, outcome_number};
 ghost use Rattle.room_types.specs.Keyed.{keep};
 ghost use Rattle.room_types.specs.declared.tables.Incident.{Incident};
+ghost use Rattle.room_types.specs.declared.tables.Report.{Report};
 ghost use Rattle.room_model.specs.Room.{IsInOrder, Room};
 ghost use Rattle.room_model.specs.Slices.{room_of};
 ghost use Rattle.room_model.specs.Working.{names_incident, names_report, reads_incident, reads_number, reads_report, working};
@@ -51,9 +52,9 @@ pub fn load_working<S: Alter>(
     ensures mode { conn.old.in_transaction ≡ false → conn.new.in_transaction ≡ false }
     ensures survives { Survives (state S.Store conn.old) (state S.Store conn.new) (λ _. ⊥) }
 {
-    let held = load_held(alloc, conn, division)?;
     let reports = load_reports(alloc, conn, division, ask)?;
     let work = load_work(alloc, conn, division, ask)?;
+    let held = load_held(alloc, conn, division)?;
     Ok(DivisionRows {
         divisions: held.fleet.divisions,
         incidents: work.incidents,
@@ -203,13 +204,29 @@ fn load_exceptions<S: Alter>(
     ensures survives { Survives (state S.Store conn.old) (state S.Store conn.new) (λ _. ⊥) }
 {
     let mut reports = uncleared_reports(alloc, conn, Outcome::Skipped, division)?;
-    let wrong = uncleared_reports(alloc, conn, Outcome::Wrong, division)?;
-    let late = uncleared_reports(alloc, conn, Outcome::Late, division)?;
-    let stale = uncleared_reports(alloc, conn, Outcome::Stale, division)?;
-    add_all(&mut reports, &wrong)?;
-    add_all(&mut reports, &late)?;
-    add_all(&mut reports, &stale)?;
+    add_uncleared(alloc, conn, Outcome::Wrong, division, &mut reports)?;
+    add_uncleared(alloc, conn, Outcome::Late, division, &mut reports)?;
+    add_uncleared(alloc, conn, Outcome::Stale, division, &mut reports)?;
     Ok(reports)
+}
+
+fn add_uncleared<S: Alter>(
+    alloc: Global,
+    conn: &mut Connection<S>,
+    outcome: Outcome,
+    division: DivisionNumber,
+    reports: &mut Rows<Report>,
+) -> Result<(), Fault>
+    requires schema { HasCleanDisk (state S.Store conn.old) → (state S.Store conn.old).now.schema ≡ room_schema }
+    ensures rows { HasCleanDisk (state S.Store conn.new) → OnOk result ((house : House) (room : Room) → Stands (state S.Store conn.old).now.trees house room → IsInOrder room → (before : Report → Bool) → reports.old ≡ filter before room.reports → reports.new ≡ filter (λ y. before y || (outcome_number y.outcome == outcome_number outcome && (not y.cleared && y.division == division))) room.reports) }
+    ensures ok { HasCleanDisk (state S.Store conn.new) → OnOk result (IsUnchanged (state S.Store conn.old) (state S.Store conn.new)) }
+    ensures err { HasCleanDisk (state S.Store conn.new) → OnErr result (Keeps (state S.Store conn.old) (state S.Store conn.new)) }
+    ensures mode { conn.old.in_transaction ≡ false → conn.new.in_transaction ≡ false }
+    ensures survives { Survives (state S.Store conn.old) (state S.Store conn.new) (λ _. ⊥) }
+{
+    let more = uncleared_reports(alloc, conn, outcome, division)?;
+    add_all(reports, &more)?;
+    Ok(())
 }
 
 // The incidents that a request reads, with their calls and turns.

@@ -1,7 +1,7 @@
 //! Changes of a room, made in its tables: all of them in one transaction, or none.
-ghost use Rattle.std.specs.Prelude.{◌≡◌, false, IsTrue, OnOk, OnErr};
+ghost use Rattle.std.specs.Prelude.{◌≡◌, false, IsOk, IsTrue, OnOk, OnErr};
 ghost use Rattle.sqlite.specs.Held.{state};
-ghost use Rattle.sqlite.specs.State.{HasCleanDisk, KeepsCommit, Survives};
+ghost use Rattle.sqlite.specs.State.{HasCleanDisk, IsRolledBack, KeepsCommit, Shows, Survives};
 ghost use Rattle.table_laws.specs.Outcomes.{Keeps};
 ghost use Rattle.room_model.specs.Room.{Room, apply};
 ghost use Rattle.room_schema.specs.Schema.{room_schema};
@@ -28,22 +28,30 @@ pub(crate) fn write<S: Alter>(conn: &mut Connection<S>, changes: &[Change]) -> R
     if changes.is_empty() {
         return Ok(());
     }
-    write_all(conn, changes)
+    let mut tx = conn.transaction();
+    let done = put_each(&mut tx, changes);
+    end(tx, done)
 }
 
-fn write_all<S: Alter>(conn: &mut Connection<S>, changes: &[Change]) -> Result<(), Fault>
-    requires schema { HasCleanDisk (state S.Store conn.old) → (state S.Store conn.old).now.schema ≡ room_schema }
-    requires outside { conn.old.in_transaction ≡ false }
-    requires settled { HasCleanDisk (state S.Store conn.old) → IsSettled (state S.Store conn.old) }
-    ensures ok { HasCleanDisk (state S.Store conn.new) → OnOk result (Commits (state S.Store conn.old) (state S.Store conn.new) (Stands (state S.Store conn.old).now.trees) (λ room. apply room changes.now)) }
-    ensures err { HasCleanDisk (state S.Store conn.new) → OnErr result (Leaves (state S.Store conn.old) (state S.Store conn.new)) }
-    ensures ended { conn.new.in_transaction ≡ false }
-    ensures survives { Survives (state S.Store conn.old) (state S.Store conn.new) (λ db. (house : House) (room : Room) → Stands (state S.Store conn.old).now.trees house room → Stands db house (apply room changes.now)) }
+/// Ends a transaction: commits it where what was done in it went well, and undoes it where not.
+pub(crate) fn end<S: Alter>(tx: Transaction<'_, S>, done: Result<(), Fault>) -> Result<(), Fault>
+    requires { HasCleanDisk (state S.Store tx.conn.now) → OnOk done (IsTrue (state S.Store tx.conn.now).in_transaction) }
+    ensures well { OnOk result (IsOk done) }
+    ensures ok { HasCleanDisk (state S.Store tx.exit.0.now) → OnOk result (Shows (state S.Store tx.entry.conn.now) (state S.Store tx.exit.0.now) (state S.Store tx.entry.conn.now).now (state S.Store tx.entry.conn.now).now false) }
+    ensures err { HasCleanDisk (state S.Store tx.exit.0.now) → OnErr result (IsRolledBack (state S.Store tx.entry.conn.now) (state S.Store tx.exit.0.now)) }
+    ensures ended { tx.exit.0.now.in_transaction ≡ false }
+    ensures survives { Survives (state S.Store tx.entry.conn.now) (state S.Store tx.exit.0.now) (λ db. IsOk done × (db ≡ (state S.Store tx.entry.conn.now).now.trees)) }
 {
-    let mut tx = conn.transaction();
-    put_each(&mut tx, changes)?;
-    tx.commit()?;
-    Ok(())
+    match done {
+        Ok(()) => {
+            tx.commit()?;
+            Ok(())
+        }
+        Err(fault) => {
+            tx.rollback();
+            Err(fault)
+        }
+    }
 }
 
 // Makes the changes, up to the first that fails.

@@ -5,6 +5,7 @@ use Rattle.room_types.specs.Keys.{callsign_cmp, vehicle_key}
 use Rattle.room_types.specs.Orders.{callsigns_total, exact_callsigns}
 use Rattle.room_model.proofs.Tests.{row_key}
 use Rattle.room_store.proofs.RoomReads.{kept}
+use Rattle.room_store.proofs.ReadLaws.{Looked, fails, looked, stops}
 use Rattle.room_store.proofs.crews.load_crew.Goals as goal
 
 pub returns-in-None-clause-rows : goal.returns-in-None-clause-rows
@@ -35,3 +36,55 @@ returns-in_ok-report-in-Some-clause-rows g c clean house room h formed =
       offer = lent.offer;
       report = sym (c.in_ok-report-in-Some.ensures.row clean house room in_fourth);
     }
+
+pub returns-in_err-sent-in-Some-clause-err : goal.returns-in_err-sent-in-Some-clause-err
+returns-in_err-sent-in-Some-clause-err g c =
+    let one : Looked (state g.S.Store c.args.conn.now) (state g.S.Store c.row_at.new.conn) = record { same = c.in_ok-found.ensures.ok; still = c.row_at.ensures.survives } in
+    fails _ _ _ one _ c.load_sent.ensures.survives c.in_err-sent-in-Some.ensures.err
+
+pub returns-in_err-sent-in-Some-clause-survives : goal.returns-in_err-sent-in-Some-clause-survives
+returns-in_err-sent-in-Some-clause-survives g c =
+    let one : Looked (state g.S.Store c.args.conn.now) (state g.S.Store c.row_at.new.conn) = record { same = c.in_ok-found.ensures.ok; still = c.row_at.ensures.survives } in
+    stops _ _ _ one c.load_sent.ensures.survives
+
+pub returns-in_err-lent-in-Some-clause-err : goal.returns-in_err-lent-in-Some-clause-err
+returns-in_err-lent-in-Some-clause-err g c =
+    let one : Looked (state g.S.Store c.args.conn.now) (state g.S.Store c.row_at.new.conn) = record { same = c.in_ok-found.ensures.ok; still = c.row_at.ensures.survives } in
+    let two = looked _ _ (state g.S.Store c.load_sent.new.conn) one c.in_ok-sent-in-Some.ensures.ok c.load_sent.ensures.survives in
+    fails _ _ _ two _ c.load_lent.ensures.survives c.in_err-lent-in-Some.ensures.err
+
+pub returns-in_err-lent-in-Some-clause-survives : goal.returns-in_err-lent-in-Some-clause-survives
+returns-in_err-lent-in-Some-clause-survives g c =
+    let one : Looked (state g.S.Store c.args.conn.now) (state g.S.Store c.row_at.new.conn) = record { same = c.in_ok-found.ensures.ok; still = c.row_at.ensures.survives } in
+    let two = looked _ _ (state g.S.Store c.load_sent.new.conn) one c.in_ok-sent-in-Some.ensures.ok c.load_sent.ensures.survives in
+    stops _ _ _ two c.load_lent.ensures.survives
+
+pub returns-in_err-report-in-Some-clause-err : goal.returns-in_err-report-in-Some-clause-err
+returns-in_err-report-in-Some-clause-err g c =
+    let one : Looked (state g.S.Store c.args.conn.now) (state g.S.Store c.row_at.new.conn) = record { same = c.in_ok-found.ensures.ok; still = c.row_at.ensures.survives } in
+    let two = looked _ _ (state g.S.Store c.load_sent.new.conn) one c.in_ok-sent-in-Some.ensures.ok c.load_sent.ensures.survives in
+    let three = looked _ _ (state g.S.Store c.load_lent.new.conn) two c.in_ok-lent-in-Some.ensures.ok c.load_lent.ensures.survives in
+    fails _ _ _ three _ c.row_at-in-Some.ensures.survives c.in_err-report-in-Some.ensures.err
+
+pub returns-in_err-report-in-Some-clause-survives : goal.returns-in_err-report-in-Some-clause-survives
+returns-in_err-report-in-Some-clause-survives g c =
+    let one : Looked (state g.S.Store c.args.conn.now) (state g.S.Store c.row_at.new.conn) = record { same = c.in_ok-found.ensures.ok; still = c.row_at.ensures.survives } in
+    let two = looked _ _ (state g.S.Store c.load_sent.new.conn) one c.in_ok-sent-in-Some.ensures.ok c.load_sent.ensures.survives in
+    let three = looked _ _ (state g.S.Store c.load_lent.new.conn) two c.in_ok-lent-in-Some.ensures.ok c.load_lent.ensures.survives in
+    stops _ _ _ three c.row_at-in-Some.ensures.survives
+
+pub returns-in_ok-report-in-Some-clause-ok : goal.returns-in_ok-report-in-Some-clause-ok
+returns-in_ok-report-in-Some-clause-ok g c =
+    let one : Looked (state g.S.Store c.args.conn.now) (state g.S.Store c.row_at.new.conn) = record { same = c.in_ok-found.ensures.ok; still = c.row_at.ensures.survives } in
+    let two = looked _ _ (state g.S.Store c.load_sent.new.conn) one c.in_ok-sent-in-Some.ensures.ok c.load_sent.ensures.survives in
+    let three = looked _ _ (state g.S.Store c.load_lent.new.conn) two c.in_ok-lent-in-Some.ensures.ok c.load_lent.ensures.survives in
+    let four = looked _ _ (state g.S.Store c.row_at-in-Some.new.conn) three c.in_ok-report-in-Some.ensures.ok c.row_at-in-Some.ensures.survives in
+    four.same
+
+pub returns-in_ok-report-in-Some-clause-survives : goal.returns-in_ok-report-in-Some-clause-survives
+returns-in_ok-report-in-Some-clause-survives g c =
+    let one : Looked (state g.S.Store c.args.conn.now) (state g.S.Store c.row_at.new.conn) = record { same = c.in_ok-found.ensures.ok; still = c.row_at.ensures.survives } in
+    let two = looked _ _ (state g.S.Store c.load_sent.new.conn) one c.in_ok-sent-in-Some.ensures.ok c.load_sent.ensures.survives in
+    let three = looked _ _ (state g.S.Store c.load_lent.new.conn) two c.in_ok-lent-in-Some.ensures.ok c.load_lent.ensures.survives in
+    let four = looked _ _ (state g.S.Store c.row_at-in-Some.new.conn) three c.in_ok-report-in-Some.ensures.ok c.row_at-in-Some.ensures.survives in
+    four.still

@@ -5,5 +5,5 @@ use Rattle.room_store.proofs.deciding.for_new_call.Goals as goal
 pub returns-in-Some-clause-decided : goal.returns-in-Some-clause-decided
 returns-in-Some-clause-decided g c clean = IfOk-weaker c.machines.result _ _ (λ x told house room h formed same none placed.
     let rows = c.in_ok-rows.ensures.rows clean house room h formed.order in
-    let decided = rw (c.in-Some.ensures.rows.0, c.in-Some.ensures.rows.1) at c.decide_call.ensures room c.args.form.now formed same none placed in
+    let decided = rw (c.in-Some.ensures.rows.0, c.in-Some.ensures.rows.1) at c.decide_call-decision.ensures room c.args.form.now formed same none placed in
     told (take_call c.args.new.now room) (decided rows)) c.machines.ensures

@@ -4,6 +4,7 @@ use Rattle.sqlite.specs.Held.{state}
 use Rattle.sqlite.specs.State.{HasCleanDisk}
 use Rattle.room_tables.specs.Numbering.{AreAllNumbered}
 use Rattle.room_store.specs.Opening.{HasHouse, HasRows}
+use Rattle.room_store.proofs.ReadLaws.{Looked, fails, looked, stops}
 use Rattle.room_store.proofs.whole.read_whole.Goals as goal
 
 pub returns-clause-stands : goal.returns-clause-stands
@@ -34,3 +35,39 @@ returns-clause-stands g c clean =
       reports = rows.reports;
       offers = rows.offers;
     }
+
+pub returns-in_err-house-clause-err : goal.returns-in_err-house-clause-err
+returns-in_err-house-clause-err g c =
+    let one : Looked (state g.S.Store c.args.conn.now) (state g.S.Store c.are_numbered.new.conn) = record { same = c.in_ok-are_numbered.ensures.ok; still = c.are_numbered.ensures.survives } in
+    fails _ _ _ one _ c.read_house.ensures.survives c.in_err-house.ensures.err
+
+pub returns-in_err-house-clause-survives : goal.returns-in_err-house-clause-survives
+returns-in_err-house-clause-survives g c =
+    let one : Looked (state g.S.Store c.args.conn.now) (state g.S.Store c.are_numbered.new.conn) = record { same = c.in_ok-are_numbered.ensures.ok; still = c.are_numbered.ensures.survives } in
+    stops _ _ _ one c.read_house.ensures.survives
+
+pub returns-in_err-rows-clause-err : goal.returns-in_err-rows-clause-err
+returns-in_err-rows-clause-err g c =
+    let one : Looked (state g.S.Store c.args.conn.now) (state g.S.Store c.are_numbered.new.conn) = record { same = c.in_ok-are_numbered.ensures.ok; still = c.are_numbered.ensures.survives } in
+    let two = looked _ _ (state g.S.Store c.read_house.new.conn) one c.in_ok-house.ensures.ok c.read_house.ensures.survives in
+    fails _ _ _ two _ c.read_rows.ensures.survives c.in_err-rows.ensures.err
+
+pub returns-in_err-rows-clause-survives : goal.returns-in_err-rows-clause-survives
+returns-in_err-rows-clause-survives g c =
+    let one : Looked (state g.S.Store c.args.conn.now) (state g.S.Store c.are_numbered.new.conn) = record { same = c.in_ok-are_numbered.ensures.ok; still = c.are_numbered.ensures.survives } in
+    let two = looked _ _ (state g.S.Store c.read_house.new.conn) one c.in_ok-house.ensures.ok c.read_house.ensures.survives in
+    stops _ _ _ two c.read_rows.ensures.survives
+
+pub returns-clause-ok : goal.returns-clause-ok
+returns-clause-ok g c =
+    let one : Looked (state g.S.Store c.args.conn.now) (state g.S.Store c.are_numbered.new.conn) = record { same = c.in_ok-are_numbered.ensures.ok; still = c.are_numbered.ensures.survives } in
+    let two = looked _ _ (state g.S.Store c.read_house.new.conn) one c.in_ok-house.ensures.ok c.read_house.ensures.survives in
+    let three = looked _ _ (state g.S.Store c.read_rows.new.conn) two c.in_ok-rows.ensures.ok c.read_rows.ensures.survives in
+    three.same
+
+pub returns-clause-survives : goal.returns-clause-survives
+returns-clause-survives g c =
+    let one : Looked (state g.S.Store c.args.conn.now) (state g.S.Store c.are_numbered.new.conn) = record { same = c.in_ok-are_numbered.ensures.ok; still = c.are_numbered.ensures.survives } in
+    let two = looked _ _ (state g.S.Store c.read_house.new.conn) one c.in_ok-house.ensures.ok c.read_house.ensures.survives in
+    let three = looked _ _ (state g.S.Store c.read_rows.new.conn) two c.in_ok-rows.ensures.ok c.read_rows.ensures.survives in
+    three.still

@@ -9,6 +9,7 @@ use Rattle.room_types.specs.Orders.{numbered_total}
 use Rattle.room_types.specs.declared.tables.Report.{Report}
 use Rattle.room_store.proofs.RoomReads.{filter_and, filter_as, kept, numbered_is, or_none}
 use Rattle.room_store.proofs.ReportTests.{is_exception}
+use Rattle.room_store.proofs.ReadLaws.{Looked, fails, left, looked, stops}
 use Rattle.room_store.proofs.working.load_reports.Goals as goal
 
 pub returns-in-None-clause-rows : goal.returns-in-None-clause-rows
@@ -35,3 +36,37 @@ returns-in_ok-add_found-in-Some-clause-rows g c clean house room h in_order =
     c.in_ok-add_found-in-Some.ensures.either own is_exception (callsign, number) (keyed_filter numbered_cmp report_key numbered_total (owns_report d) xs in_order.reports) waiting found
     ∙ sym (filter_and (owns_report d) _ xs)
     ∙ filter_as _ _ xs (λ x. ap (λ b. (x.division == d) && (is_exception x || b)) (named x))
+
+pub returns-in_err-found-in-Some-clause-err : goal.returns-in_err-found-in-Some-clause-err
+returns-in_err-found-in-Some-clause-err g c =
+    let one : Looked (state g.S.Store c.args.conn.now) (state g.S.Store c.load_exceptions.new.conn) = record { same = c.in_ok-reports.ensures.ok; still = c.load_exceptions.ensures.survives } in
+    fails _ _ _ one _ c.row_at.ensures.survives c.in_err-found-in-Some.ensures.err
+
+pub returns-in_err-found-in-Some-clause-survives : goal.returns-in_err-found-in-Some-clause-survives
+returns-in_err-found-in-Some-clause-survives g c =
+    let one : Looked (state g.S.Store c.args.conn.now) (state g.S.Store c.load_exceptions.new.conn) = record { same = c.in_ok-reports.ensures.ok; still = c.load_exceptions.ensures.survives } in
+    stops _ _ _ one c.row_at.ensures.survives
+
+pub returns-in_err-add_found-in-Some-clause-err : goal.returns-in_err-add_found-in-Some-clause-err
+returns-in_err-add_found-in-Some-clause-err g c =
+    let one : Looked (state g.S.Store c.args.conn.now) (state g.S.Store c.load_exceptions.new.conn) = record { same = c.in_ok-reports.ensures.ok; still = c.load_exceptions.ensures.survives } in
+    let two = looked _ _ (state g.S.Store c.row_at.new.conn) one c.in_ok-found-in-Some.ensures.ok c.row_at.ensures.survives in
+    left _ _ two _
+
+pub returns-in_err-add_found-in-Some-clause-survives : goal.returns-in_err-add_found-in-Some-clause-survives
+returns-in_err-add_found-in-Some-clause-survives g c =
+    let one : Looked (state g.S.Store c.args.conn.now) (state g.S.Store c.load_exceptions.new.conn) = record { same = c.in_ok-reports.ensures.ok; still = c.load_exceptions.ensures.survives } in
+    let two = looked _ _ (state g.S.Store c.row_at.new.conn) one c.in_ok-found-in-Some.ensures.ok c.row_at.ensures.survives in
+    two.still
+
+pub returns-in_ok-add_found-in-Some-clause-ok : goal.returns-in_ok-add_found-in-Some-clause-ok
+returns-in_ok-add_found-in-Some-clause-ok g c =
+    let one : Looked (state g.S.Store c.args.conn.now) (state g.S.Store c.load_exceptions.new.conn) = record { same = c.in_ok-reports.ensures.ok; still = c.load_exceptions.ensures.survives } in
+    let two = looked _ _ (state g.S.Store c.row_at.new.conn) one c.in_ok-found-in-Some.ensures.ok c.row_at.ensures.survives in
+    two.same
+
+pub returns-in_ok-add_found-in-Some-clause-survives : goal.returns-in_ok-add_found-in-Some-clause-survives
+returns-in_ok-add_found-in-Some-clause-survives g c =
+    let one : Looked (state g.S.Store c.args.conn.now) (state g.S.Store c.load_exceptions.new.conn) = record { same = c.in_ok-reports.ensures.ok; still = c.load_exceptions.ensures.survives } in
+    let two = looked _ _ (state g.S.Store c.row_at.new.conn) one c.in_ok-found-in-Some.ensures.ok c.row_at.ensures.survives in
+    two.still

@@ -1,9 +1,10 @@
 use Rattle.std.proofs.Common.{false, take, ◌&&◌, ◌≡◌}
 use Rattle.std.specs.Prelude.{filter, ◌==◌}
 use Rattle.sqlite.specs.Held.{state}
-use Rattle.sqlite.specs.State.{HasCleanDisk, IsUnchanged, Survives}
+use Rattle.sqlite.specs.State.{HasCleanDisk}
 use Rattle.room_model.specs.Room.{IsInOrder, Room}
 use Rattle.room_tables.specs.Stands.{House, Stands}
+use Rattle.room_store.proofs.ReadLaws.{Looked}
 use Rattle.room_store.specs.Reading.{contains}
 use Rattle.room_store.proofs.working.load_served.Given as goal
 
@@ -13,8 +14,7 @@ invariant-loop-number g l =
     let now = state g.S.Store l.conn in
     let seen = take l.number-index l.numbers in
     record {
-      survives : Survives old now (λ _. ⊥);
-      same : HasCleanDisk now → IsUnchanged old now;
+      looked : Looked old now;
       mode : l.fn.conn.in_transaction ≡ false → l.conn.in_transaction ≡ false;
       calls : HasCleanDisk now → (house : House) (room : Room) → Stands old.now.trees house room → IsInOrder room → l.calls ≡ filter (λ x. x.division == l.division && contains x.incident seen) room.calls;
       turns : HasCleanDisk now → (house : House) (room : Room) → Stands old.now.trees house room → IsInOrder room → l.turns ≡ filter (λ x. x.division == l.division && contains x.incident seen) room.turns;

@@ -4,9 +4,10 @@ use crate::creating::init;
 use crate::importing::import;
 use crate::serving::serve_file;
 use crate::timing::times;
-use crate::words::{self, Task};
 use clap::Error;
 use clap::error::ErrorKind;
+use dispatch_room_words::tasks::Task;
+use dispatch_room_words::words;
 use room_endings::endings::{Done, Fault};
 use std::alloc::Global;
 use std::io::Write;
@@ -14,9 +15,9 @@ use std::io::Write;
 /// The exit status of a mistake in the words of the command line.
 pub const USAGE: u8 = 2;
 
-/// Does what the words of a command line ask for, the program's name first. What a command gives goes
-/// to `out`, and why it fails to `err`. Gives the exit status: 0 done, or help asked for; 1 refused input; 2
-/// usage; 3 storage; 4 network; 5 memory.
+/// Does what the words of a command line ask for, the program's name first. What a command gives
+/// goes to `out`, and why it fails to `err`. Gives the exit status: 0 done, or help asked for; 1
+/// refused input; 2 usage; 3 storage; 4 network; 5 memory.
 pub fn command<O: Write, E: Write>(
     rt: &HostRuntime,
     alloc: Global,
@@ -59,7 +60,8 @@ fn perform<O: Write>(
     }
 }
 
-// Whether an error of the words is a mistake in them, and neither help that was asked for nor want of memory.
+// Whether an error of the words is a mistake in them, and neither help that was asked for nor
+// want of memory.
 fn is_mistake(error: &Error) -> bool {
     error.use_stderr() && error.kind() != ErrorKind::OutOfMemory
 }

@@ -1,12 +1,15 @@
 //! `serve`: a room is served over TCP, one connection after another.
+ghost use Rattle.std.specs.Prelude.{◌≡◌, false};
 
-use crate::files::{close, connect_room, open_room};
+use crate::files::{Worked, closed, connect_room, open_room};
+use dispatch_room_words::tasks::Service;
 use room_days::zones::Zone;
 use room_endings::endings::{Done, Fault};
 use room_http::serving::{ServeEnd, serve};
 use room_message::clocks::MachineClock;
 use room_message::wires::Wire;
 use room_service::rooms::Room;
+use sqlite::{Alter, Connection};
 use std::alloc::Global;
 use std::io::Write;
 use std::net::{TcpListener, TcpStream};
@@ -15,19 +18,8 @@ use std::time::Duration;
 /// How many reads a connection has at most.
 const MOST_READS: u32 = 100_000;
 
-/// Where a room is served, and how much.
-#[derive(Clone, Copy)]
-pub struct Service<'a> {
-    /// Where it listens.
-    pub address: &'a str,
-    /// How many connections it serves.
-    pub connections: u16,
-    /// How many seconds a read or a write may wait.
-    pub patience: u16,
-}
-
-/// Serves the room of a file to so many connections. A connection that ends badly doesn't end it, but for want of
-/// memory.
+/// Serves the room of a file to so many connections. A connection that ends badly doesn't end it,
+/// but for want of memory.
 pub fn serve_file<O: Write>(
     rt: &HostRuntime,
     alloc: Global,
@@ -35,16 +27,40 @@ pub fn serve_file<O: Write>(
     service: Service<'_>,
     out: &mut O,
 ) -> Result<Done, Fault> {
-    let (mut room, zone) = match open_room(alloc, connect_room(rt, file)?) {
-        Ok(opened) => opened,
-        Err((fault, _)) => return Err(fault),
-    };
-    let served = match listen(rt, service.address, out) {
-        Ok(listener) => serve_each(rt, alloc, &mut room, &zone, &listener, service),
+    match connect_room(rt, file) {
+        Ok(conn) => closed(serve_in(rt, alloc, conn, service, out)),
         Err(fault) => Err(fault),
-    };
-    close(room.close())?;
-    served.map(|()| Done::Whole)
+    }
+}
+
+// Serves the room of a database.
+fn serve_in<S: Alter + Drop, O: Write>(
+    rt: &HostRuntime,
+    alloc: Global,
+    conn: Connection<S>,
+    service: Service<'_>,
+    out: &mut O,
+) -> Worked<Done, S>
+    requires outside { conn.in_transaction ≡ false }
+{
+    let (mut room, zone) = open_room(alloc, conn)?;
+    let served = listen_and_serve(rt, alloc, &mut room, &zone, service, out);
+    Ok((served, room.close()))
+}
+
+fn listen_and_serve<M: Room, O: Write>(
+    rt: &HostRuntime,
+    alloc: Global,
+    room: &mut M,
+    zone: &Zone,
+    service: Service<'_>,
+    out: &mut O,
+) -> Result<Done, Fault>
+    requires ready { M.is_ready room.old }
+    ensures ready { M.is_ready room.new }
+{
+    let listener = listen(rt, service.address, out)?;
+    serve_each(rt, alloc, room, zone, &listener, service)
 }
 
 // Listens at an address, and says so.
@@ -52,10 +68,10 @@ fn listen<O: Write>(rt: &HostRuntime, address: &str, out: &mut O) -> Result<TcpL
     let Ok(listener) = TcpListener::bind(rt, address) else {
         return Err(Fault::Network);
     };
-    match writeln!(out, "serving").and_then(|()| out.flush()) {
-        Ok(()) => Ok(listener),
-        Err(_) => Err(Fault::Network),
+    if writeln!(out, "serving").is_err() || out.flush().is_err() {
+        return Err(Fault::Network);
     }
+    Ok(listener)
 }
 
 fn serve_each<M: Room>(
@@ -65,7 +81,7 @@ fn serve_each<M: Room>(
     zone: &Zone,
     listener: &TcpListener,
     service: Service<'_>,
-) -> Result<(), Fault>
+) -> Result<Done, Fault>
     requires ready { M.is_ready room.old }
     ensures ready { M.is_ready room.new }
 {
@@ -74,7 +90,7 @@ fn serve_each<M: Room>(
             serve_one(rt, alloc, room, zone, &stream, service.patience)?;
         }
     }
-    Ok(())
+    Ok(Done::Whole)
 }
 
 fn serve_one<M: Room>(

@@ -1,4 +1,4 @@
-use Rattle.dispatch_room.proofs.serving.serve_each.Given as goal
+use Rattle.dispatch_room_commands.proofs.serving.serve_each.Given as goal
 
 abbrev pub invariant-loop-connection : goal.invariant-loop-connection
 invariant-loop-connection g l = g.M.Room.is_ready l.room

@@ -1,9 +1,9 @@
 //! `times`: the report of a division's day.
-ghost use Rattle.std.specs.Prelude.{◌≡◌, IfErr};
+ghost use Rattle.std.specs.Prelude.{◌≡◌, false, IfErr};
 ghost use Rattle.room_types.specs.declared.refusals.Refusal.TheVariants.{Memory};
 ghost use Rattle.room_store.specs.Keeping.{IsReady};
 
-use crate::files::{close, connect_room, open_room};
+use crate::files::{Worked, closed, connect_room, open_room};
 use room_days::zones::Zone;
 use room_endings::endings::{Done, Fault, refused};
 use room_files::reports::day_report;
@@ -14,7 +14,7 @@ use room_types::answers::Answer;
 use room_types::asks::{Ask, Event, Who};
 use room_types::numbers::Moment;
 use room_types::refusals::Refusal;
-use sqlite::Alter;
+use sqlite::{Alter, Connection};
 use std::alloc::Global;
 use std::io::Write;
 
@@ -27,16 +27,38 @@ pub fn times<O: Write>(
     day: &str,
     out: &mut O,
 ) -> Result<Done, Fault> {
-    let (mut room, zone) = match open_room(alloc, connect_room(rt, file)?) {
-        Ok(opened) => opened,
-        Err((fault, _)) => return Err(fault),
-    };
-    let report = report_of(alloc, &mut room, &zone, division, day);
-    close(room.close())?;
-    match out.write_all(report?.as_slice()) {
+    let report = report_in_file(rt, alloc, file, division, day)?;
+    match out.write_all(report.as_slice()) {
         Ok(()) => Ok(Done::Whole),
         Err(_) => Err(Fault::Network),
     }
+}
+
+fn report_in_file(
+    rt: &HostRuntime,
+    alloc: Global,
+    file: &str,
+    division: DivisionNumber,
+    day: &str,
+) -> Result<Vec<u8>, Fault> {
+    match connect_room(rt, file) {
+        Ok(conn) => closed(report_in(alloc, conn, division, day)),
+        Err(fault) => Err(fault),
+    }
+}
+
+// The report by the room of a database.
+fn report_in<S: Alter + Drop>(
+    alloc: Global,
+    conn: Connection<S>,
+    division: DivisionNumber,
+    day: &str,
+) -> Worked<Vec<u8>, S>
+    requires outside { conn.in_transaction ≡ false }
+{
+    let (mut room, zone) = open_room(alloc, conn)?;
+    let report = report_of(alloc, &mut room, &zone, division, day);
+    Ok((report, room.close()))
 }
 
 // The report, as the division's desk would ask for it.
@@ -53,10 +75,7 @@ fn report_of<S: Alter>(
     if !room.plan().has(division) {
         return Err(Fault::Division);
     }
-    let Some(day) = Day::parse(day) else {
-        return Err(Fault::Day);
-    };
-    let Some((from, to)) = zone.day(day.year(), day.month(), day.day()) else {
+    let Some((from, to)) = span(zone, day) else {
         return Err(Fault::Day);
     };
     let event = Event {
@@ -64,8 +83,16 @@ fn report_of<S: Alter>(
         ask: Ask::Times(from, to),
         at: Moment::of(0),
     };
-    let report = room.act(alloc, &event, |answer| report_bytes(alloc, answer));
-    report.map_err(refused)
+    match room.act(alloc, &event, |answer| report_bytes(alloc, answer)) {
+        Ok(report) => Ok(report),
+        Err(refusal) => Err(refused(refusal)),
+    }
+}
+
+// The second at which a day begins, and that at which the next one does.
+fn span(zone: &Zone, day: &str) -> Option<(i64, i64)> {
+    let day = Day::parse(day)?;
+    zone.day(day.year(), day.month(), day.day())
 }
 
 // The report as CSV. No other answer than the times of a day comes.

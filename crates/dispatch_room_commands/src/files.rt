@@ -12,10 +12,11 @@ use std::io::ErrorKind;
 
 /// The bytes of a text file.
 pub fn read_text(rt: &HostRuntime, path: &str) -> Result<Vec<u8>, Fault> {
-    fs::read(rt, path).map_err(|error| match error.kind() {
-        ErrorKind::OutOfMemory => Fault::Memory,
-        _ => Fault::Input,
-    })
+    match fs::read(rt, path) {
+        Ok(text) => Ok(text),
+        Err(error) if error.kind() == ErrorKind::OutOfMemory => Err(Fault::Memory),
+        Err(_) => Err(Fault::Input),
+    }
 }
 
 /// A connection to a database's file, which is made where it is not there.
@@ -28,13 +29,21 @@ pub fn connect(rt: &HostRuntime, path: &str) -> Result<Connection<FileStore<File
     }
 }
 
-/// A connection to the file of a room, which has to be there. An empty file is none, and stays empty: to
-/// the database it is a new one, whose first page would be written.
+/// A connection to the file of a room, which has to be there. An empty file is none, and stays
+/// empty: to the database it is a new one, whose first page would be written.
 pub fn connect_room(rt: &HostRuntime, path: &str) -> Result<Connection<FileStore<File>>, Fault>
     ensures { IfOk result (λ conn. conn.in_transaction ≡ false) }
 {
+    match find(rt, path) {
+        Ok(()) => connect(rt, path),
+        Err(fault) => Err(fault),
+    }
+}
+
+// Finds a file that is there and not empty.
+fn find(rt: &HostRuntime, path: &str) -> Result<(), Fault> {
     match fs::metadata(rt, path) {
-        Ok(found) if found.len() > 0 => connect(rt, path),
+        Ok(found) if found.len() > 0 => Ok(()),
         Ok(_) => Err(Fault::File),
         Err(error) => Err(match error.kind() {
             ErrorKind::NotFound => Fault::File,
@@ -44,27 +53,40 @@ pub fn connect_room(rt: &HostRuntime, path: &str) -> Result<Connection<FileStore
     }
 }
 
-/// The room in a file, with the zone of its days.
-pub fn open_room<S: Alter>(
+/// The room in a database, with the zone of its days.
+pub fn open_room<S: Alter + Drop>(
     alloc: Global,
     conn: Connection<S>,
-) -> Result<(Store<S>, Zone), (Fault, Connection<S>)>
+) -> Result<(Store<S>, Zone), Fault>
     requires outside { conn.in_transaction ≡ false }
     ensures ready { IfOk result (λ opened. IsReady S.Store opened.0) }
 {
     let room = match Store::open(alloc, conn) {
         Ok(room) => room,
-        Err((fault, conn)) => return Err((Fault::from(fault), conn)),
+        Err((fault, _)) => return Err(Fault::from(fault)),
     };
     match Zone::read(room.plan().zone()) {
         Ok(zone) => Ok((room, zone)),
-        Err(_) => Err((Fault::File, room.close())),
+        Err(_) => {
+            drop(room.close());
+            Err(Fault::File)
+        }
     }
 }
 
-/// Closes a room's file, with all that was committed in it.
-pub fn close(conn: Connection<FileStore<File>>) -> Result<(), Fault> {
-    conn.close().map_err(fault_of)
+/// What came of a command in a database: where there is a room in it, what was done, and the
+/// database back.
+pub type Worked<T, S> = Result<(Result<T, Fault>, Connection<S>), Fault>;
+
+/// What was done in a file, once the file is closed with all that was committed in it.
+pub fn closed<T: Drop>(worked: Worked<T, FileStore<File>>) -> Result<T, Fault> {
+    match worked {
+        Ok((done, conn)) => match conn.close() {
+            Ok(()) => done,
+            Err(error) => Err(fault_of(error)),
+        },
+        Err(fault) => Err(fault),
+    }
 }
 
 fn fault_of(error: Error) -> Fault {

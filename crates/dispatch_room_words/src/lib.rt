@@ -1,0 +1,6 @@
+//! The command line of dispatch_room: what its words ask for, and the help that it gives.
+#![tactic(auto)]
+
+mod builder;
+pub mod tasks;
+pub mod words;
