@@ -1,11 +1,11 @@
 #!/usr/bin/env python3
-"""Writes what the statements on each table say into crates/room_statements/proofs (or into the folder that is named).
+"""Writes what the statements on each table say into crates/room_tables_rows/proofs (or into the folder that is named).
 tests/generated.test finds out where it differs from what is committed."""
 import os
 import re
 import sys
 
-OUT = sys.argv[1] if len(sys.argv) > 1 else os.path.join(os.path.dirname(__file__), "..", "crates", "room_statements", "proofs")
+OUT = sys.argv[1] if len(sys.argv) > 1 else os.path.join(os.path.dirname(__file__), "..", "crates", "room_tables_rows", "proofs")
 
 # ---- the tables, in their order
 
@@ -124,13 +124,13 @@ home("Rattle.sqlite_tied.specs.Compute", "everything")
 home("Rattle.sqlite.specs.Effect", "Database")
 home("Rattle.sqlite.specs.Listing", "understood")
 home("Rattle.sqlite.specs.State", "State Executes")
-home("Rattle.table_laws.specs.Outcomes", "Inside Only")
-home("Rattle.table_laws.specs.Statements", "Selects StandsAlone Upserts Deletes Stores equals equals_by_value at_least below either row_values row_update rowid_values rowid_update")
-home("Rattle.table_laws.specs.Typed", "number")
-home("Rattle.table_laws.proofs.ColumnValues", "cast-Int cast-Null cast-number_or_null")
-home("Rattle.table_laws.proofs.Comparisons", "and_then and_last is_true-Or or_else equal-by_value equal-numbers tie-numbers tie-texts conflict_of_one conflict_of_two is_eq-then compare_by")
-home("Rattle.table_laws.proofs.Standing", "holds_still holds_none")
-home("Rattle.table_laws.proofs.StoredRows", "stores_row stores_rowid")
+home("Rattle.room_tables_sql.specs.Outcomes", "Inside Only")
+home("Rattle.room_tables_sql.specs.Statements", "Selects StandsAlone Upserts Deletes Stores equals equals_by_value at_least below either row_values row_update rowid_values rowid_update")
+home("Rattle.room_tables_sql.specs.Typed", "number")
+home("Rattle.room_tables_sql.proofs.ColumnValues", "cast-Int cast-Null cast-number_or_null")
+home("Rattle.room_tables_sql.proofs.Comparisons", "and_then and_last is_true-Or or_else equal-by_value equal-numbers tie-numbers tie-texts conflict_of_one conflict_of_two is_eq-then compare_by")
+home("Rattle.room_tables_sql.proofs.Standing", "holds_still holds_none")
+home("Rattle.room_tables_sql.proofs.StoredRows", "stores_row stores_rowid")
 home("Rattle.room_place.specs.declared.plans.Area", "Area")
 home("Rattle.room_types.specs.Codes", "outcome_number state_number is_active")
 home("Rattle.room_types.specs.Keyed", "put_row")
@@ -145,18 +145,22 @@ for t in ROWS:
     home(f"Rattle.room_types.specs.declared.tables.{t.kind}", t.kind)
 home("Rattle.room_model.specs.Room", "Room")
 home("Rattle.room_model.specs.Enrol", "token_cmp terminal_key is_crew")
-home("Rattle.room_columns.specs.Columns", "truth outcome_code")
-home("Rattle.room_columns.specs.Rows", "number_cells text_cells pair_cells numbered_cells meta_key area_key " + " ".join(f"{t.row}_row" for t in TABLES))
-home("Rattle.room_columns.proofs.RowLaws", " ".join(f"{t.row}_faithful" for t in TABLES))
-home("Rattle.room_schema.specs.Schema", "room_schema " + " ".join(f"{t.name}_table" for t in TABLES))
-home("Rattle.room_statements.specs.Stands", "House Stands StandsFor numbered empty_room")
-home("Rattle.room_schema.specs.Definitions", "IsBlank")
-home("Rattle.room_statements.specs.Writes", "Changes")
-home("Rattle.room_statements.proofs.Tests", "equal-crew equal-active equal-false at_least-integers below-integers and_three cast-text_or_null")
-home("Rattle.room_statements.specs.Tables", "IsHeld SelectsChosen PutsRow IsTable IsDropped")
-home("Rattle.room_statements.proofs.Loads", "Shows ShowsRow ShowsAll chosen_rows row_of_key all_rows")
-home("Rattle.room_statements.proofs.Puts", "put_changes")
-home("Rattle.room_statements.proofs.Kept", " ".join(f"with_{t.name}" for t in TABLES))
+home("Rattle.room_tables_rows.specs.Columns", "truth outcome_code")
+home("Rattle.room_tables_rows.specs.Keys", "number_cells text_cells pair_cells numbered_cells")
+home("Rattle.room_tables_rows.specs.Meta", "meta_key")
+home("Rattle.room_tables_rows.specs.Areas", "area_key")
+for t in TABLES:
+    home(f"Rattle.room_tables_rows.specs.{t.name.capitalize()}", f"{t.row}_row")
+home("Rattle.room_tables_rows.proofs.RowLaws", " ".join(f"{t.row}_faithful" for t in TABLES))
+home("Rattle.room_tables_schema.specs.Schema", "room_schema " + " ".join(f"{t.name}_table" for t in TABLES))
+home("Rattle.room_tables_rows.specs.Stands", "House Stands StandsFor numbered empty_room")
+home("Rattle.room_tables_schema.specs.Definitions", "IsBlank")
+home("Rattle.room_tables_rows.specs.Writes", "Changes")
+home("Rattle.room_tables_rows.proofs.Tests", "equal-crew equal-active equal-false at_least-integers below-integers and_three cast-text_or_null")
+home("Rattle.room_tables_rows.specs.Tables", "IsHeld SelectsChosen PutsRow IsTable IsDropped")
+home("Rattle.room_tables_rows.proofs.Loads", "Shows ShowsRow ShowsAll chosen_rows row_of_key all_rows")
+home("Rattle.room_tables_rows.proofs.Puts", "put_changes")
+home("Rattle.room_tables_rows.proofs.Kept", " ".join(f"with_{t.name}" for t in TABLES))
 OPERATORS = {"≡": "◌≡◌", "∷": "◌∷◌", "++": "◌++◌", "||": "◌||◌", "&&": "◌&&◌", "==": "◌==◌", "∙": "◌∙◌"}
 
 
@@ -354,7 +358,7 @@ pub {t.name}_dropped : IsDropped {typed} {t.key['cells']} {t.name}_table (λ roo
 
 def constants(t):
     names = [f"ALL_{t.name.upper()}", f"{t.row.upper()}_AT", f"PUT_{t.row.upper()}", f"DROP_{t.row.upper()}"] + [l["text"] for l in t.loads]
-    return {name: f"Rattle.room_statements.specs.declared.{t.name}.TheConstants" for name in names}
+    return {name: f"Rattle.room_tables_rows.specs.declared.{t.name}.TheConstants" for name in names}
 
 
 def table_file(t):

@@ -4,9 +4,9 @@
 #![tactic(auto)]
 
 use dispatch_room_commands::commands::{USAGE, command};
-use room_endings::endings::{Fault, ended};
-use room_example::dry_run::dry_run;
-use room_message::wires::Wire;
+use dispatch_room_endings::endings::{Fault, ended};
+use dispatch_room_example::dry_run::dry_run;
+use room_http_messages::wires::Wire;
 use std::process::ExitCode;
 use std::{env, io};
 

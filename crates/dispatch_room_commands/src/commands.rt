@@ -6,9 +6,9 @@ use crate::serving::serve_file;
 use crate::timing::times;
 use clap::Error;
 use clap::error::ErrorKind;
+use dispatch_room_endings::endings::{Done, Fault};
 use dispatch_room_words::tasks::Task;
 use dispatch_room_words::words;
-use room_endings::endings::{Done, Fault};
 use std::alloc::Global;
 use std::io::Write;
 

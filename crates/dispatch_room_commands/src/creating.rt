@@ -2,8 +2,8 @@
 ghost use Rattle.std.specs.Prelude.{◌≡◌, false};
 
 use crate::files::{Worked, closed, connect, read_text};
-use room_endings::endings::{Done, Fault};
-use room_files::plans::{PlanFile, read_plan};
+use dispatch_room_endings::endings::{Done, Fault};
+use dispatch_room_files::plans::{PlanFile, read_plan};
 use room_place::plans::{DivisionNumber, Plan};
 use room_store::store::Store;
 use sqlite::{Alter, Connection};

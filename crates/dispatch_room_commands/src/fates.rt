@@ -1,7 +1,7 @@
 //! What is told of the rows of a fleet.
 
-use room_endings::endings::Done;
-use room_files::fleets::FleetLine;
+use dispatch_room_endings::endings::Done;
+use dispatch_room_files::fleets::FleetLine;
 use room_types::fleet::{FleetRow, RowFate};
 use std::alloc::{AllocError, Global};
 use std::io::{self, Write};

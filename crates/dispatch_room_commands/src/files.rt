@@ -2,8 +2,8 @@
 ghost use Rattle.std.specs.Prelude.{◌≡◌, false, IfOk, IfErr};
 ghost use Rattle.room_store.specs.Keeping.{IsReady};
 
-use room_days::zones::Zone;
-use room_endings::endings::Fault;
+use dispatch_room_endings::endings::Fault;
+use room_http_time::zones::Zone;
 use room_store::store::Store;
 use sqlite::{Alter, Connection, Error, ErrorCode, File, FileStore};
 use std::alloc::Global;

@@ -4,8 +4,8 @@ ghost use Rattle.room_store.specs.Keeping.{IsReady};
 
 use crate::fates::{good_rows, tell};
 use crate::files::{Worked, closed, connect_room, open_room, read_text};
-use room_endings::endings::{Done, Fault, refused};
-use room_files::fleets::{FleetLine, read_fleet};
+use dispatch_room_endings::endings::{Done, Fault, refused};
+use dispatch_room_files::fleets::{FleetLine, read_fleet};
 use room_store::store::Store;
 use sqlite::{Alter, Connection};
 use std::alloc::Global;

@@ -2,12 +2,12 @@
 ghost use Rattle.std.specs.Prelude.{◌≡◌, false};
 
 use crate::files::{Worked, closed, connect_room, open_room};
+use dispatch_room_endings::endings::{Done, Fault};
 use dispatch_room_words::tasks::Service;
-use room_days::zones::Zone;
-use room_endings::endings::{Done, Fault};
 use room_http::serving::{ServeEnd, serve};
-use room_message::clocks::MachineClock;
-use room_message::wires::Wire;
+use room_http_messages::wires::Wire;
+use room_http_time::clocks::MachineClock;
+use room_http_time::zones::Zone;
 use room_service::rooms::Room;
 use sqlite::{Alter, Connection};
 use std::alloc::Global;

@@ -4,11 +4,11 @@ ghost use Rattle.room_types.specs.declared.refusals.Refusal.TheVariants.{Memory}
 ghost use Rattle.room_store.specs.Keeping.{IsReady};
 
 use crate::files::{Worked, closed, connect_room, open_room};
-use room_days::zones::Zone;
-use room_endings::endings::{Done, Fault, refused};
-use room_files::reports::day_report;
+use dispatch_room_endings::endings::{Done, Fault, refused};
+use dispatch_room_files::reports::day_report;
+use room_http_time::days::Day;
+use room_http_time::zones::Zone;
 use room_place::plans::DivisionNumber;
-use room_routes::days::Day;
 use room_store::store::Store;
 use room_types::answers::Answer;
 use room_types::asks::{Ask, Event, Who};

@@ -4,8 +4,8 @@ use crate::samples::rows::{
 };
 use crate::samples::{apply, made, plan, room};
 use room_place::whole::Whole;
-use room_sound::rooms::is_well_formed;
-use room_sound::terminals::do_terminals_fit;
+use room_store_check::rooms::is_well_formed;
+use room_store_check::terminals::do_terminals_fit;
 use room_types::asks::Who;
 use room_types::callsign::Callsign;
 use room_types::changes::Change;

@@ -10,20 +10,20 @@ use Rattle.room_types.specs.declared.refusals.Refusal.{Refusal}
 use Rattle.room_types.specs.declared.refusals.Refusal.TheVariants.{WrongRole}
 use Rattle.room_model.specs.Room.{Room}
 use Rattle.room_model.specs.Step.{is_for}
-use Rattle.room_message.specs.Messages.{WholeMessage, terminal_of}
-use Rattle.room_routes.specs.Days.{Date}
-use Rattle.room_routes.specs.Targets.{routed}
-use Rattle.room_routes.specs.declared.targets.Target.{Target}
-use Rattle.room_routes.specs.declared.targets.Target.TheVariants as target
-use Rattle.room_bodies.specs.Asking.{wanted_by}
-use Rattle.room_bodies.specs.Bodies.{posted}
-use Rattle.room_bodies.specs.Fields.{fields_of}
-use Rattle.room_bodies.specs.Roles.{is_known, is_of, role_of}
-use Rattle.room_bodies.specs.declared.asking.Wanted.{Wanted}
-use Rattle.room_bodies.specs.declared.asking.Wanted.TheVariants as wanted
-use Rattle.room_bodies.specs.declared.roles.Role.TheVariants as role
-use Rattle.room_bodies.proofs.RoleLaws.{asked_is, addressed}
-use Rattle.room_days.specs.declared.zones.Zone.{Zone}
+use Rattle.room_http_messages.specs.Messages.{WholeMessage, terminal_of}
+use Rattle.room_http_time.specs.Dates.{Date}
+use Rattle.room_http_requests.specs.Targets.{routed}
+use Rattle.room_http_requests.specs.declared.targets.Target.{Target}
+use Rattle.room_http_requests.specs.declared.targets.Target.TheVariants as target
+use Rattle.room_http_requests.specs.Asking.{wanted_by}
+use Rattle.room_http_requests.specs.Bodies.{posted}
+use Rattle.room_http_requests.specs.Fields.{fields_of}
+use Rattle.room_http_requests.specs.Roles.{is_known, is_of, role_of}
+use Rattle.room_http_requests.specs.declared.asking.Wanted.{Wanted}
+use Rattle.room_http_requests.specs.declared.asking.Wanted.TheVariants as wanted
+use Rattle.room_http_requests.specs.declared.roles.Role.TheVariants as role
+use Rattle.room_http_requests.proofs.RoleLaws.{asked_is, addressed}
+use Rattle.room_http_time.specs.declared.zones.Zone.{Zone}
 use Rattle.room_http.specs.Events.{AsksAs, AsksAt, AsksBy, AsksFor, IsAskFor, named}
 
 -- what is posted is no day

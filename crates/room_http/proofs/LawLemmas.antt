@@ -10,20 +10,20 @@ use Rattle.room_types.specs.declared.fleet.Terminal.{Terminal}
 use Rattle.room_types.specs.declared.refusals.Refusal.{Refusal}
 use Rattle.room_types.specs.declared.refusals.Refusal.TheVariants.{WrongRole}
 use Rattle.room_model.specs.Room.{Room}
-use Rattle.room_message.specs.declared.endings.Ending.TheVariants.{Refused}
-use Rattle.room_message.specs.Messages.{WholeMessage, terminal_of}
-use Rattle.room_message.proofs.LawLemmas.{one_message_law, no_end_law}
-use Rattle.room_routes.specs.Targets.{routed}
-use Rattle.room_routes.specs.declared.targets.Target.{Target}
-use Rattle.room_bodies.specs.Asking.{wanted_by}
-use Rattle.room_bodies.specs.Roles.{is_of, role_of}
-use Rattle.room_bodies.specs.declared.asking.Wanted.{Wanted}
-use Rattle.room_bodies.specs.declared.asking.Wanted.TheVariants as wanted
-use Rattle.room_answers.specs.Replies.{IsReply}
-use Rattle.room_answers.proofs.Dates.{one_reply_law}
-use Rattle.room_days.specs.Days.{zone_of}
-use Rattle.room_days.specs.declared.zones.Zone.{Zone}
-use Rattle.room_days.proofs.SpanLaws.{one_span_law}
+use Rattle.room_http_messages.specs.declared.endings.Ending.TheVariants.{Refused}
+use Rattle.room_http_messages.specs.Messages.{WholeMessage, terminal_of}
+use Rattle.room_http_messages.proofs.LawLemmas.{one_message_law, no_end_law}
+use Rattle.room_http_requests.specs.Targets.{routed}
+use Rattle.room_http_requests.specs.declared.targets.Target.{Target}
+use Rattle.room_http_requests.specs.Asking.{wanted_by}
+use Rattle.room_http_requests.specs.Roles.{is_of, role_of}
+use Rattle.room_http_requests.specs.declared.asking.Wanted.{Wanted}
+use Rattle.room_http_requests.specs.declared.asking.Wanted.TheVariants as wanted
+use Rattle.room_http_answers.specs.Replies.{IsReply}
+use Rattle.room_http_answers.proofs.Dates.{one_reply_law}
+use Rattle.room_http_time.specs.Days.{zone_of}
+use Rattle.room_http_time.specs.declared.zones.Zone.{Zone}
+use Rattle.room_http_time.proofs.SpanLaws.{one_span_law}
 use Rattle.room_http.specs.Events.{AsksAs, AsksAt, AsksBy, IsAskFor, named}
 use Rattle.room_http.specs.Laws.{AreFirstOf, IsOneStream, IsOneTalk}
 use Rattle.room_http.specs.Outcomes.{Outcome, message, refused, is_head_only, is_closing, Begins}

@@ -6,16 +6,16 @@ use Rattle.std.specs.Io.KnownBytes.{prepend_known, Keeps, Appends}
 use Rattle.room_types.specs.declared.fleet.Terminal.{Terminal}
 use Rattle.room_types.specs.declared.refusals.Refusal.{Refusal}
 use Rattle.room_model.specs.Room.{Room}
-use Rattle.room_message.specs.Messages.{IsPart}
-use Rattle.room_message.proofs.StreamLemmas.{Appends-more, Appends-none}
-use Rattle.room_http.specs.declared.moments.TheConstants.{LAST_MOMENT}
+use Rattle.room_http_messages.specs.Messages.{IsPart}
+use Rattle.room_http_messages.proofs.StreamLemmas.{Appends-more, Appends-none}
+use Rattle.room_http_time.specs.declared.moments.TheConstants.{LAST_MOMENT}
 use Rattle.room_http.specs.declared.serving.ServeEnd.{ServeEnd}
 use Rattle.room_http.specs.declared.serving.ServeEnd.TheVariants.{Closed, Cut, ReadFault, WriteFault, ClockFault, Turns, Memory}
-use Rattle.room_answers.specs.Replies.{fixed_bytes}
+use Rattle.room_http_answers.specs.Replies.{fixed_bytes}
 use Rattle.room_http.specs.Answering.{Answers, EndsAnswering}
-use Rattle.room_http.specs.Moments.{HasNoMoment}
+use Rattle.room_http_time.specs.Moments.{HasNoMoment}
 use Rattle.room_http.specs.Outcomes.{Outcome, is_closing, is_head_only, Begins, HasNext}
-use Rattle.room_days.specs.declared.zones.Zone.{Zone}
+use Rattle.room_http_time.specs.declared.zones.Zone.{Zone}
 use Rattle.room_service.specs.Rooms.{Step, IsWant}
 use Rattle.room_http.specs.Serving.{Sides, Finish, Answered, Wanted, Broken, LeavesPart, MissesNone, ServeIs}
 use Rattle.room_http.specs.Talk.{Timed, IsFront, BreaksOff, Talks}

@@ -4,8 +4,8 @@ use Rattle.std.proofs.lemmas.List.Elements.{All-head, All-tail}
 use Rattle.std.specs.Io.KnownBytes.{prepend_known, Keeps, IsAtEnd}
 use Rattle.httparse.specs.Grammar.{print_request}
 use Rattle.room_types.specs.declared.refusals.Refusal.{Refusal}
-use Rattle.room_message.specs.Messages.{WholeMessage, HasMessage, IsRefused}
-use Rattle.room_message.specs.Streams.{CountsBy}
+use Rattle.room_http_messages.specs.Messages.{WholeMessage, HasMessage, IsRefused}
+use Rattle.room_http_messages.specs.Streams.{CountsBy}
 use Rattle.room_http.specs.Outcomes.{Outcome, message, refused, is_closing, BeginsWith, Begins}
 
 pub CountsBy-none : (known : Option ℕ) → CountsBy 0 known known

@@ -3,8 +3,8 @@ use Rattle.std.proofs.Common.{◌≡◌, ◌∙◌, ap, sym, refl, ℕ, List, []
 use Rattle.std.specs.Io.KnownBytes.{Appends}
 use Rattle.room_types.specs.declared.fleet.Terminal.{Terminal}
 use Rattle.room_model.specs.Room.{Room}
-use Rattle.room_message.proofs.StreamLemmas.{Appends-more, Appends-none}
-use Rattle.room_days.specs.declared.zones.Zone.{Zone}
+use Rattle.room_http_messages.proofs.StreamLemmas.{Appends-more, Appends-none}
+use Rattle.room_http_time.specs.declared.zones.Zone.{Zone}
 use Rattle.room_service.specs.Rooms.{Step}
 use Rattle.room_http.specs.Talk.{Timed, IsReplyTo, IsTalk, Talks}
 

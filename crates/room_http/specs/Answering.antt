@@ -4,14 +4,14 @@ use Rattle.std.specs.Io.KnownBytes.{Appends}
 use Rattle.room_types.specs.declared.fleet.Terminal.{Terminal}
 use Rattle.room_types.specs.declared.refusals.Refusal.{Refusal}
 use Rattle.room_model.specs.Room.{Room}
-use Rattle.room_http.specs.declared.moments.TheConstants.{LAST_MOMENT}
+use Rattle.room_http_time.specs.declared.moments.TheConstants.{LAST_MOMENT}
 use Rattle.room_http.specs.declared.serving.ServeEnd.{ServeEnd}
 use Rattle.room_http.specs.declared.serving.ServeEnd.TheVariants.{Closed, Cut, ReadFault, WriteFault, ClockFault, Turns, Memory}
 use Rattle.room_service.specs.Rooms.{Step, IsWant}
 use Rattle.room_http.specs.Outcomes.{Outcome, is_head_only}
-use Rattle.room_http.specs.Moments.{HasNoMoment}
-use Rattle.room_answers.specs.Replies.{fixed_bytes}
-use Rattle.room_days.specs.declared.zones.Zone.{Zone}
+use Rattle.room_http_time.specs.Moments.{HasNoMoment}
+use Rattle.room_http_answers.specs.Replies.{fixed_bytes}
+use Rattle.room_http_time.specs.declared.zones.Zone.{Zone}
 use Rattle.room_http.specs.Talk.{Talks, IsFront, BreaksOff}
 
 -- serving ends with an answer in one of these ways

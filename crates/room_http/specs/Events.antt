@@ -9,15 +9,15 @@ use Rattle.room_types.specs.declared.asks.Who.{Who}
 use Rattle.room_types.specs.declared.fleet.Terminal.{Terminal}
 use Rattle.room_types.specs.declared.refusals.Refusal.{Refusal}
 use Rattle.room_types.specs.declared.refusals.Refusal.TheVariants.{BadBody, NoTerminal, WrongRole}
-use Rattle.room_message.specs.Messages.{WholeMessage, terminal_of}
-use Rattle.room_routes.specs.Targets.{routed}
-use Rattle.room_routes.specs.declared.targets.Target.{Target}
-use Rattle.room_bodies.specs.Asking.{wanted_by}
-use Rattle.room_bodies.specs.Roles.{is_of, role_of}
-use Rattle.room_bodies.specs.declared.asking.Wanted.{Wanted}
-use Rattle.room_bodies.specs.declared.asking.Wanted.TheVariants as wanted
-use Rattle.room_days.specs.Days.{IsSpan, zone_of}
-use Rattle.room_days.specs.declared.zones.Zone.{Zone}
+use Rattle.room_http_messages.specs.Messages.{WholeMessage, terminal_of}
+use Rattle.room_http_requests.specs.Targets.{routed}
+use Rattle.room_http_requests.specs.declared.targets.Target.{Target}
+use Rattle.room_http_requests.specs.Asking.{wanted_by}
+use Rattle.room_http_requests.specs.Roles.{is_of, role_of}
+use Rattle.room_http_requests.specs.declared.asking.Wanted.{Wanted}
+use Rattle.room_http_requests.specs.declared.asking.Wanted.TheVariants as wanted
+use Rattle.room_http_time.specs.Days.{IsSpan, zone_of}
+use Rattle.room_http_time.specs.declared.zones.Zone.{Zone}
 use Rattle.room_service.specs.Rooms.{who_at}
 
 -- the token that a field has for its value

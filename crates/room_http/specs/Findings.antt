@@ -8,15 +8,15 @@ use Rattle.room_types.specs.declared.refusals.Refusal.{Refusal}
 use Rattle.room_types.specs.declared.refusals.Refusal.TheVariants.{BadBody, Memory, NoTerminal}
 use Rattle.room_model.specs.Room.{Room}
 use Rattle.room_model.specs.Step.{IsAddressed}
-use Rattle.room_bodies.specs.declared.asking.Wanted.{Wanted}
-use Rattle.room_bodies.specs.Roles.{is_known}
-use Rattle.room_message.specs.declared.messages.Message.{Message}
-use Rattle.room_message.specs.Layouts.{Shows}
-use Rattle.room_message.specs.Messages.{WholeMessage}
+use Rattle.room_http_requests.specs.declared.asking.Wanted.{Wanted}
+use Rattle.room_http_requests.specs.Roles.{is_known}
+use Rattle.room_http_messages.specs.declared.messages.Message.{Message}
+use Rattle.room_http_messages.specs.Layouts.{Shows}
+use Rattle.room_http_messages.specs.Messages.{WholeMessage}
 use Rattle.room_http.specs.declared.requests.Request.{Request}
 use Rattle.room_http.specs.Events.{AsksFor, IsAskFor, named}
 use Rattle.room_http.specs.Outcomes.{Outcome, IsShown}
-use Rattle.room_days.specs.declared.zones.Zone.{Zone}
+use Rattle.room_http_time.specs.declared.zones.Zone.{Zone}
 use Rattle.room_service.specs.Rooms.{IsWant}
 use Rattle.room_http.specs.Talk.{Finds}
 

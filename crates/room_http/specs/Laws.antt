@@ -2,7 +2,7 @@
 use Rattle.std.specs.Prelude.{◌≡◌, ◌≤◌, ⊤, ℕ, List, [], ◌∷◌, length}
 use Rattle.room_types.specs.declared.fleet.Terminal.{Terminal}
 use Rattle.room_model.specs.Room.{Room}
-use Rattle.room_days.specs.declared.zones.Zone.{Zone}
+use Rattle.room_http_time.specs.declared.zones.Zone.{Zone}
 use Rattle.room_service.specs.Rooms.{Step}
 use Rattle.room_http.specs.Outcomes.{Outcome, message, refused, Begins}
 use Rattle.room_http.specs.Talk.{Timed, IsTalk}

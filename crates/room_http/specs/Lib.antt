@@ -1,7 +1,6 @@
 pub mod Outcomes
 pub mod Events
 pub mod Talk
-pub mod Moments
 pub mod Findings
 pub mod Replies
 pub mod Laws

@@ -1,8 +1,8 @@
 -- What is answered on a connection: the messages of its stream, and what is refused in the place of one.
 use Rattle.std.specs.Prelude.{◌≡◌, ℕ, List, [], ◌∷◌, Bool, true}
 use Rattle.room_types.specs.declared.refusals.Refusal.{Refusal}
-use Rattle.room_message.specs.Layouts.{Shows}
-use Rattle.room_message.specs.Messages.{WholeMessage, is_head, closes, HasMessage, IsRefused}
+use Rattle.room_http_messages.specs.Layouts.{Shows}
+use Rattle.room_http_messages.specs.Messages.{WholeMessage, is_head, closes, HasMessage, IsRefused}
 use Rattle.room_http.specs.declared.requests.Request.{Request}
 use Rattle.room_http.specs.declared.requests.Request.TheVariants.{Whole, Refused}
 

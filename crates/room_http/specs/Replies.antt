@@ -5,7 +5,7 @@ use Rattle.room_types.specs.declared.refusals.Refusal.{Refusal}
 use Rattle.room_model.specs.Room.{Room}
 use Rattle.room_http.specs.declared.requests.Request.{Request}
 use Rattle.room_http.specs.Outcomes.{Outcome, IsShown}
-use Rattle.room_days.specs.declared.zones.Zone.{Zone}
+use Rattle.room_http_time.specs.declared.zones.Zone.{Zone}
 use Rattle.room_service.specs.Rooms.{Step, IsWant}
 use Rattle.room_http.specs.Talk.{IsReplyTo}
 

@@ -4,16 +4,16 @@ use Rattle.std.specs.Io.KnownBytes.{Appends}
 use Rattle.room_types.specs.declared.fleet.Terminal.{Terminal}
 use Rattle.room_types.specs.declared.refusals.Refusal.{Refusal}
 use Rattle.room_model.specs.Room.{Room}
-use Rattle.room_answers.specs.Replies.{fixed_bytes}
-use Rattle.room_message.specs.Messages.{IsCut, IsPart}
-use Rattle.room_message.specs.Streams.{CountsBy}
+use Rattle.room_http_answers.specs.Replies.{fixed_bytes}
+use Rattle.room_http_messages.specs.Messages.{IsCut, IsPart}
+use Rattle.room_http_messages.specs.Streams.{CountsBy}
 use Rattle.room_http.specs.declared.serving.ServeEnd.{ServeEnd}
 use Rattle.room_http.specs.declared.serving.ServeEnd.TheVariants.{Closed, Cut, ReadFault, WriteFault, ClockFault, Turns, Memory}
-use Rattle.room_http.specs.declared.moments.TheConstants.{LAST_MOMENT}
+use Rattle.room_http_time.specs.declared.moments.TheConstants.{LAST_MOMENT}
 use Rattle.room_service.specs.Rooms.{Step, IsWant}
 use Rattle.room_http.specs.Outcomes.{Outcome, is_head_only, is_closing, Begins, HasNext}
-use Rattle.room_days.specs.declared.zones.Zone.{Zone}
-use Rattle.room_http.specs.Moments.{HasNoMoment}
+use Rattle.room_http_time.specs.declared.zones.Zone.{Zone}
+use Rattle.room_http_time.specs.Moments.{HasNoMoment}
 use Rattle.room_http.specs.Talk.{Timed, IsFront, BreaksOff, Talks}
 
 -- what is known of a connection: the bytes to come, the reads made, the bytes written, and the moments given

@@ -6,10 +6,10 @@ use Rattle.room_types.specs.declared.asks.Event.{Event}
 use Rattle.room_types.specs.declared.fleet.Terminal.{Terminal}
 use Rattle.room_types.specs.declared.refusals.Refusal.{Refusal}
 use Rattle.room_model.specs.Room.{Room}
-use Rattle.room_answers.specs.Replies.{IsReply}
+use Rattle.room_http_answers.specs.Replies.{IsReply}
 use Rattle.room_http.specs.Events.{AsksFor}
 use Rattle.room_http.specs.Outcomes.{Outcome, message, refused, is_head_only, is_closing}
-use Rattle.room_days.specs.declared.zones.Zone.{Zone}
+use Rattle.room_http_time.specs.declared.zones.Zone.{Zone}
 use Rattle.room_service.specs.Rooms.{Step}
 
 -- an outcome, with the moment at which it is answered

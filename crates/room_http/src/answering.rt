@@ -3,15 +3,15 @@ ghost use Rattle.std.specs.Prelude.{◌≡◌, false, IfErr};
 ghost use Rattle.room_http.specs.Outcomes.{Outcome, IsShown};
 ghost use Rattle.room_http.specs.Answering.{Answers, EndsAnswering};
 
-use crate::moments::moment;
 use crate::replies::reply;
 use crate::requests::Request;
 use crate::serving::ServeEnd;
-use room_answers::fixed::fixed;
-use room_days::zones::Zone;
-use room_message::clocks::Clock;
-use room_message::sinks::{Sink, write_all};
-use room_routes::routes::Routes;
+use room_http_answers::fixed::fixed;
+use room_http_messages::sinks::{Sink, write_all};
+use room_http_requests::routes::Routes;
+use room_http_time::clocks::Clock;
+use room_http_time::moments::moment;
+use room_http_time::zones::Zone;
 use room_service::rooms::Room;
 use std::alloc::Global;
 

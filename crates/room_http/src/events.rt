@@ -1,19 +1,19 @@
 //! The event that a request asks for, or the first refusal on the way to it.
 ghost use Rattle.std.specs.Prelude.{◌≡◌, List, Some};
 ghost use Rattle.std.specs.Option.{option_map, option_copied};
-ghost use Rattle.room_bodies.specs.Asking.{wanted_by};
-ghost use Rattle.room_bodies.specs.declared.asking.Wanted.TheVariants as wanted;
+ghost use Rattle.room_http_requests.specs.Asking.{wanted_by};
+ghost use Rattle.room_http_requests.specs.declared.asking.Wanted.TheVariants as wanted;
 ghost use Rattle.room_http.specs.Events.{IsAskFor, token_of};
 ghost use Rattle.room_http.specs.Findings.{FindsAsk, FindsEvent, FindsMessage, FindsTerminal};
 
 use crate::requests::Request;
-use room_bodies::asking::{Wanted, ask_of};
-use room_bodies::roles::Role;
-use room_days::zones::Zone;
-use room_message::messages::Message;
-use room_routes::days::Day;
-use room_routes::routes::Routes;
-use room_routes::targets::Target;
+use room_http_messages::messages::Message;
+use room_http_requests::asking::{Wanted, ask_of};
+use room_http_requests::roles::Role;
+use room_http_requests::routes::Routes;
+use room_http_requests::targets::Target;
+use room_http_time::days::Day;
+use room_http_time::zones::Zone;
 use room_service::rooms::Room;
 use room_types::asks::{Ask, Event, Who};
 use room_types::numbers::Moment;

@@ -4,7 +4,6 @@
 pub mod answering;
 pub mod events;
 pub mod laws;
-pub mod moments;
 pub mod replies;
 pub mod requests;
 pub mod serving;

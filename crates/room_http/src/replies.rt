@@ -4,9 +4,9 @@ ghost use Rattle.room_http.specs.Replies.{Replies};
 
 use crate::events::event_of;
 use crate::requests::Request;
-use room_answers::replies::render;
-use room_days::zones::Zone;
-use room_routes::routes::Routes;
+use room_http_answers::replies::render;
+use room_http_requests::routes::Routes;
+use room_http_time::zones::Zone;
 use room_service::rooms::Room;
 use room_types::numbers::Moment;
 use room_types::refusals::Refusal;

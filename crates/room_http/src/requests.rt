@@ -2,7 +2,7 @@
 ghost use Rattle.std.specs.Prelude.{◌≡◌};
 ghost use Rattle.room_http.specs.Outcomes.{Outcome, IsShown, is_head_only, is_closing as closes_after};
 
-use room_message::messages::Message;
+use room_http_messages::messages::Message;
 use room_types::refusals::Refusal;
 
 /// What is to be answered: a message, or what is refused in the place of one.

@@ -4,14 +4,14 @@ ghost use Rattle.room_http.specs.Serving.{MissesNone, ReadsAtMost, ServeIs};
 
 use crate::answering::answer;
 use crate::requests::Request;
-use room_days::zones::Zone;
-use room_message::clocks::Clock;
-use room_message::endings::Ending;
-use room_message::inbox::Inbox;
-use room_message::reading::read_message;
-use room_message::sinks::Sink;
-use room_message::sources::Source;
-use room_routes::routes::Routes;
+use room_http_messages::endings::Ending;
+use room_http_messages::inbox::Inbox;
+use room_http_messages::reading::read_message;
+use room_http_messages::sinks::Sink;
+use room_http_messages::sources::Source;
+use room_http_requests::routes::Routes;
+use room_http_time::clocks::Clock;
+use room_http_time::zones::Zone;
 use room_service::rooms::Room;
 use std::alloc::Global;
 

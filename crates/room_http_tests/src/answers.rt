@@ -1,5 +1,5 @@
 //! Answers byte by byte: those that no test from outside gets from the program.
-use room_answers::replies::render;
+use room_http_answers::replies::render;
 use room_place::places::Place;
 use room_place::plans::DivisionNumber;
 use room_types::answers::{Answer, Listed, Times};

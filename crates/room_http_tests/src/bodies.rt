@@ -1,7 +1,7 @@
 //! Bodies as texts: what is a number, a note or an object in them.
-use room_bodies::asking::{Wanted, ask_of};
-use room_routes::routes::Routes;
-use room_routes::targets::Target;
+use room_http_requests::asking::{Wanted, ask_of};
+use room_http_requests::routes::Routes;
+use room_http_requests::targets::Target;
 use room_types::asks::Ask;
 use room_types::refusals::Refusal;
 use std::test::Fail;

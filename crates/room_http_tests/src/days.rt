@@ -1,5 +1,5 @@
 //! Days of zones that were worked out elsewhere.
-use room_days::zones::{Zone, ZoneFault};
+use room_http_time::zones::{Zone, ZoneFault};
 use std::test::Fail;
 
 const LONDON: &str = "GMT0BST,M3.5.0/1,M10.5.0";

@@ -2,7 +2,7 @@
 ghost use Rattle.std.specs.Prelude.{◌≡◌, None, Ok, false};
 ghost use Rattle.room_types.specs.declared.answers.Answer.TheVariants as told;
 
-use room_message::sources::{ReadFailed, Source};
+use room_http_messages::sources::{ReadFailed, Source};
 use room_place::plans::DivisionNumber;
 use room_service::rooms::Room;
 use room_types::answers::Answer;

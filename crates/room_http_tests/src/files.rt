@@ -1,7 +1,7 @@
 //! The files of a room, with the texts that their rules give for examples.
-use room_files::fleets::{FleetLine, read_fleet};
-use room_files::plans::{PlanFile, read_plan};
-use room_files::reports::day_report;
+use dispatch_room_files::fleets::{FleetLine, read_fleet};
+use dispatch_room_files::plans::{PlanFile, read_plan};
+use dispatch_room_files::reports::day_report;
 use room_place::plans::DivisionNumber;
 use room_types::answers::{Listed, Times, TimesLine};
 use room_types::asks::Who;

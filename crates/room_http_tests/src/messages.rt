@@ -1,6 +1,6 @@
 //! Messages as texts: examples of the RFCs, and rules that no test from outside plays.
-use room_message::limits::INBOX_ROOM;
-use room_message::looks::{Look, look_at};
+use room_http_messages::limits::INBOX_ROOM;
+use room_http_messages::looks::{Look, look_at};
 use room_types::refusals::Refusal;
 use std::test::Fail;
 

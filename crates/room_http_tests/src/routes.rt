@@ -1,6 +1,6 @@
 //! Methods and targets as texts.
-use room_routes::paths::Path;
-use room_routes::routes::Routes;
+use room_http_requests::paths::Path;
+use room_http_requests::routes::Routes;
 use room_types::refusals::{Allow, Refusal};
 use std::test::Fail;
 

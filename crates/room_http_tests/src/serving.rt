@@ -1,9 +1,9 @@
 //! A connection served whole, and what fails in the middle of it.
 use crate::doubles::{Pieces, Toy};
-use room_days::zones::Zone;
 use room_http::serving::{ServeEnd, serve};
-use room_message::clocks::ListClock;
-use room_message::wires::Wire;
+use room_http_messages::wires::Wire;
+use room_http_time::clocks::ListClock;
+use room_http_time::zones::Zone;
 use std::test::Fail;
 
 // A field's name has no case, and white space around its value is none of it.

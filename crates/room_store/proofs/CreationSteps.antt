@@ -14,7 +14,7 @@ use Rattle.room_types.specs.Keyed.{put_row}
 use Rattle.room_types.specs.Keys.{division_key}
 use Rattle.room_types.specs.declared.tables.Division.{Division}
 use Rattle.room_tables.specs.Stands.{places_from}
-use Rattle.table_laws.specs.Outcomes.{Inside}
+use Rattle.room_tables_sql.specs.Outcomes.{Inside}
 use Rattle.room_store.specs.Creating.{new_division}
 
 module _ (a b c : State) where

@@ -4,15 +4,15 @@ use Rattle.sqlite.specs.Effect.{Database}
 use Rattle.sqlite.specs.State.{State}
 use Rattle.sqlite_catalog.specs.Change.{KeepsRows}
 use Rattle.sqlite_trees.specs.Tree.{Trees}
-use Rattle.table_laws.proofs.Standing.{holds_still}
-use Rattle.table_laws.specs.Outcomes.{Keeps}
+use Rattle.room_tables_sql.proofs.Standing.{holds_still}
+use Rattle.room_tables_sql.specs.Outcomes.{Keeps}
 use Rattle.room_place.specs.Plans.{Layout}
 use Rattle.room_types.specs.declared.fleet.Terminal.{Terminal}
 use Rattle.room_model.specs.Enrol.{AreTerminals}
 use Rattle.room_model.specs.Room.{Room}
 use Rattle.room_model.specs.WellFormed.{IsWellFormed}
-use Rattle.room_schema.specs.Schema.{room_tables}
-use Rattle.room_statements.proofs.OneRoom.{one_house, one_room}
+use Rattle.room_tables_schema.specs.Schema.{room_tables}
+use Rattle.room_tables_rows.proofs.OneRoom.{one_house, one_room}
 use Rattle.room_tables.specs.Stands.{House, Stands}
 use Rattle.room_store.specs.Keeping.{house_of}
 use Rattle.room_store.specs.Opening.{HoldsRoom, KeepsRoom, StandsAs}

@@ -7,8 +7,8 @@ use Rattle.sqlite.proofs.Callers.{unchanged_then}
 use Rattle.sqlite.proofs.StateLemmas.{survives_then}
 use Rattle.sqlite_schema.specs.declared.schema.Table.{Table}
 use Rattle.sqlite_value.specs.Order.{Row}
-use Rattle.table_laws.specs.Outcomes.{Keeps}
-use Rattle.table_laws.specs.Tables.{AreNumbered}
+use Rattle.room_tables_sql.specs.Outcomes.{Keeps}
+use Rattle.room_tables_sql.specs.Tables.{AreNumbered}
 use Rattle.room_model.specs.Room.{Room}
 use Rattle.room_tables.specs.Stands.{House, Stands, StandsFor}
 use Rattle.room_store.proofs.RoomReads.{kept}

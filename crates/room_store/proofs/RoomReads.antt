@@ -3,7 +3,7 @@ use Rattle.std.proofs.Common.{Bool, List, [], arith, cond, false, refl, subst, s
 use Rattle.std.proofs.lemmas.Bool.Decides.{nat_tests}
 use Rattle.std.specs.Ordering.{is_eq, nat_cmp}
 use Rattle.std.specs.Prelude.{filter, ◌==◌}
-use Rattle.table_laws.proofs.Comparisons.{is_eq-then}
+use Rattle.room_tables_sql.proofs.Comparisons.{is_eq-then}
 use Rattle.room_types.specs.Keys.{callsign_cmp, numbered_cmp, pair_cmp, same_callsign}
 use Rattle.room_types.specs.Texts.{Callsign}
 use Rattle.sqlite.specs.State.{IsUnchanged, State}

@@ -8,7 +8,7 @@ use Rattle.room_types.specs.declared.changes.Change.{Change}
 use Rattle.room_model.specs.Room.{Room, apply}
 use Rattle.room_model.specs.Step.{IsAddressed}
 use Rattle.room_model.specs.WellFormed.{IsWellFormed}
-use Rattle.room_schema.specs.Schema.{room_schema}
+use Rattle.room_tables_schema.specs.Schema.{room_schema}
 use Rattle.room_tables.specs.Stands.{House, Stands}
 
 -- The tables stand for this well-formed room of the plan, and the event is addressed in it.

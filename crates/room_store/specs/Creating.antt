@@ -16,9 +16,9 @@ use Rattle.room_types.specs.declared.fleet.Terminal.{Terminal}
 use Rattle.room_types.specs.declared.tables.Division.{Division}
 use Rattle.room_model.specs.Enrol.{terminal_key, token_cmp}
 use Rattle.room_model.specs.Room.{Room}
-use Rattle.room_schema.specs.Schema.{no_schema, room_schema}
-use Rattle.room_schema.specs.declared.faults.Fault.{Fault}
-use Rattle.room_schema.specs.declared.faults.Fault.TheVariants as fault
+use Rattle.room_tables_schema.specs.Schema.{no_schema, room_schema}
+use Rattle.room_tables_schema.specs.declared.faults.Fault.{Fault}
+use Rattle.room_tables_schema.specs.declared.faults.Fault.TheVariants as fault
 use Rattle.room_tables.specs.Stands.{Stands, empty_room}
 use Rattle.room_store.specs.Acting.{IsSettled}
 use Rattle.room_store.specs.Keeping.{house_of}

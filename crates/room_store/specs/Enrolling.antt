@@ -10,7 +10,7 @@ use Rattle.room_types.specs.declared.fleet.RowFate.{RowFate}
 use Rattle.room_types.specs.declared.fleet.Terminal.{Terminal}
 use Rattle.room_model.specs.Enrol.{fate_of, room_by, room_enrolled, terminals_by, terminals_enrolled}
 use Rattle.room_model.specs.Room.{Room}
-use Rattle.room_schema.specs.Schema.{room_schema}
+use Rattle.room_tables_schema.specs.Schema.{room_schema}
 use Rattle.room_tables.specs.Stands.{House, Stands}
 use Rattle.room_store.specs.Acting.{IsSettled}
 use Rattle.room_store.specs.Keeping.{IsRoom, house_of}

@@ -8,7 +8,7 @@ use Rattle.room_types.specs.declared.fleet.Terminal.{Terminal}
 use Rattle.room_model.specs.Enrol.{AreTerminals}
 use Rattle.room_model.specs.Room.{Room}
 use Rattle.room_model.specs.WellFormed.{IsWellFormed}
-use Rattle.room_schema.specs.Schema.{room_schema}
+use Rattle.room_tables_schema.specs.Schema.{room_schema}
 use Rattle.room_tables.specs.Stands.{House, Stands}
 use Rattle.room_store.specs.declared.store.Store.{Store}
 

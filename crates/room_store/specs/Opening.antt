@@ -11,11 +11,23 @@ use Rattle.room_types.specs.declared.slices.DivisionRows.{DivisionRows}
 use Rattle.room_model.specs.Enrol.{AreTerminals}
 use Rattle.room_model.specs.Room.{Room}
 use Rattle.room_model.specs.WellFormed.{IsWellFormed}
-use Rattle.room_columns.specs.Rows.{area_row, assignment_row, call_row, division_row, incident_row, loan_row, meta_row, offer_row, point_row, report_row, terminal_row, turn_row, vehicle_row}
-use Rattle.room_schema.specs.Schema.{areas_table, assignments_table, calls_table, divisions_table, incidents_table, loans_table, meta_table, offers_table, points_table, reports_table, room_schema, tables_schema, terminals_table, turns_table, vehicles_table}
-use Rattle.room_schema.specs.Versions.{BeginsAsRoom}
-use Rattle.room_schema.specs.declared.faults.Fault.{Fault}
-use Rattle.room_schema.specs.declared.faults.Fault.TheVariants as fault
+use Rattle.room_tables_rows.specs.Areas.{area_row}
+use Rattle.room_tables_rows.specs.Assignments.{assignment_row}
+use Rattle.room_tables_rows.specs.Calls.{call_row}
+use Rattle.room_tables_rows.specs.Divisions.{division_row}
+use Rattle.room_tables_rows.specs.Incidents.{incident_row}
+use Rattle.room_tables_rows.specs.Loans.{loan_row}
+use Rattle.room_tables_rows.specs.Meta.{meta_row}
+use Rattle.room_tables_rows.specs.Offers.{offer_row}
+use Rattle.room_tables_rows.specs.Points.{point_row}
+use Rattle.room_tables_rows.specs.Reports.{report_row}
+use Rattle.room_tables_rows.specs.Terminals.{terminal_row}
+use Rattle.room_tables_rows.specs.Turns.{turn_row}
+use Rattle.room_tables_rows.specs.Vehicles.{vehicle_row}
+use Rattle.room_tables_schema.specs.Schema.{areas_table, assignments_table, calls_table, divisions_table, incidents_table, loans_table, meta_table, offers_table, points_table, reports_table, room_schema, tables_schema, terminals_table, turns_table, vehicles_table}
+use Rattle.room_tables_schema.specs.Versions.{BeginsAsRoom}
+use Rattle.room_tables_schema.specs.declared.faults.Fault.{Fault}
+use Rattle.room_tables_schema.specs.declared.faults.Fault.TheVariants as fault
 use Rattle.room_tables.specs.Stands.{House, Stands, StandsFor, numbered}
 use Rattle.room_tables.specs.Versions.{IsOfFirstVersion}
 use Rattle.room_store.specs.Keeping.{house_of}

@@ -2,16 +2,16 @@
 ghost use Rattle.std.specs.Prelude.{◌≡◌, false, is_none, IfOk, OnOk, OnErr};
 ghost use Rattle.sqlite.specs.Held.{state};
 ghost use Rattle.sqlite.specs.State.{HasCleanDisk, IsUnchanged, Survives};
-ghost use Rattle.table_laws.specs.Outcomes.{Keeps};
+ghost use Rattle.room_tables_sql.specs.Outcomes.{Keeps};
 ghost use Rattle.room_types.specs.Keyed.{keep};
 ghost use Rattle.room_model.specs.Room.{Room};
 ghost use Rattle.room_model.specs.WellFormed.{IsWellFormed};
-ghost use Rattle.room_schema.specs.Schema.{room_schema};
+ghost use Rattle.room_tables_schema.specs.Schema.{room_schema};
 ghost use Rattle.room_tables.specs.Stands.{House, Stands};
 ghost use Rattle.room_store.specs.CrewParts.{IsSent, IsLent, IsCrewOf};
 
-use room_schema::faults::Fault;
 use room_tables::loading::row_at;
+use room_tables_schema::faults::Fault;
 use room_types::callsign::Callsign;
 use room_types::crews::CrewRows;
 use room_types::numbers::Number;

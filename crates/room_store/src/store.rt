@@ -10,7 +10,7 @@ ghost use Rattle.room_types.specs.declared.refusals.Refusal.{Refusal as Why};
 ghost use Rattle.room_types.specs.declared.refusals.Refusal.TheVariants.{Memory};
 ghost use Rattle.room_model.specs.Room.{Room};
 ghost use Rattle.room_model.specs.Step.{IsAddressed, answer_to, room_after};
-ghost use Rattle.room_schema.specs.Schema.{room_schema};
+ghost use Rattle.room_tables_schema.specs.Schema.{room_schema};
 ghost use Rattle.room_service.specs.Rooms.{IsWant, who_at};
 ghost use Rattle.room_tables.specs.Stands.{Stands};
 ghost use Rattle.room_store.specs.Acting.{IsSettled, Leaves};
@@ -18,8 +18,8 @@ ghost use Rattle.room_store.specs.Keeping.{IsReady, IsRoom, house_of};
 
 use crate::acting::{act_on, know_number};
 use room_place::plans::Plan;
-use room_schema::testing::is_room;
 use room_tables::terminals::terminal_at;
+use room_tables_schema::testing::is_room;
 use room_types::answers::Answer;
 use room_types::asks::{Event, Who};
 use room_types::fleet::Terminal;

@@ -1,10 +1,10 @@
 //! Rows of one table that were loaded by several reads.
 ghost use Rattle.std.specs.Prelude.{◌≡◌, ◌||◌, Bool, List, filter, OnOk, IfErr};
 ghost use Rattle.std.specs.Ordering.{is_eq};
-ghost use Rattle.room_schema.specs.declared.faults.Fault.TheVariants.{Memory};
+ghost use Rattle.room_tables_schema.specs.declared.faults.Fault.TheVariants.{Memory};
 ghost use Rattle.room_types.specs.Keyed.{IsKeyed, put_row, row_at};
 
-use room_schema::faults::Fault;
+use room_tables_schema::faults::Fault;
 use room_types::rows::{Row, Rows};
 
 /// Adds rows of the same table: then there are those that pass the one test or the other. The one

@@ -2,11 +2,11 @@
 ghost use Rattle.std.specs.Prelude.{◌≡◌, ◌≢◌, false, IfErr, IfOk, OnErr, OnOk};
 ghost use Rattle.sqlite.specs.Held.{state};
 ghost use Rattle.sqlite.specs.State.{HasCleanDisk, IsUnchanged, Survives};
-ghost use Rattle.table_laws.specs.Outcomes.{Keeps};
-ghost use Rattle.table_laws.specs.Tables.{AreNumbered};
+ghost use Rattle.room_tables_sql.specs.Outcomes.{Keeps};
+ghost use Rattle.room_tables_sql.specs.Tables.{AreNumbered};
 ghost use Rattle.room_place.specs.Plans.{Layout};
 ghost use Rattle.room_model.specs.Slices.{room_of};
-ghost use Rattle.room_schema.specs.Schema.{room_schema};
+ghost use Rattle.room_tables_schema.specs.Schema.{room_schema};
 ghost use Rattle.room_tables.specs.Numbering.{AreAllNumbered};
 ghost use Rattle.room_tables.specs.Stands.{Stands, StandsFor};
 ghost use Rattle.room_store.specs.Keeping.{house_of};
@@ -15,13 +15,13 @@ ghost use Rattle.room_store.specs.declared.opening.OpenFault.TheVariants.{NotARo
 
 use crate::opening::OpenFault;
 use room_place::plans::{Area, Plan, PlanFault};
-use room_schema::faults::Fault;
 use room_tables::areas::all_areas;
 use room_tables::loading::all_rows;
 use room_tables::meta::zone;
 use room_tables::numbering::are_numbered;
 use room_tables::tables::Table;
 use room_tables::terminals::all_terminals;
+use room_tables_schema::faults::Fault;
 use room_types::fleet::Terminal;
 use room_types::rows::Rows;
 use room_types::slices::DivisionRows;

@@ -2,15 +2,15 @@
 ghost use Rattle.std.specs.Prelude.{◌≡◌, false, IsOk, IsTrue, OnOk, OnErr};
 ghost use Rattle.sqlite.specs.Held.{state};
 ghost use Rattle.sqlite.specs.State.{HasCleanDisk, IsRolledBack, KeepsCommit, Shows, Survives};
-ghost use Rattle.table_laws.specs.Outcomes.{Keeps};
+ghost use Rattle.room_tables_sql.specs.Outcomes.{Keeps};
 ghost use Rattle.room_model.specs.Room.{Room, apply};
-ghost use Rattle.room_schema.specs.Schema.{room_schema};
+ghost use Rattle.room_tables_schema.specs.Schema.{room_schema};
 ghost use Rattle.room_tables.specs.Stands.{House, Stands};
 ghost use Rattle.room_tables.specs.Writes.{Makes};
 ghost use Rattle.room_store.specs.Acting.{Commits, IsSettled, Leaves, MakesAll};
 
-use room_schema::faults::Fault;
 use room_tables::changing::apply;
+use room_tables_schema::faults::Fault;
 use room_types::changes::Change;
 use sqlite::{Alter, Connection, Transaction};
 

@@ -4,10 +4,10 @@ ghost use Rattle.room_types.specs.declared.refusals.Refusal.TheVariants.{Memory}
 ghost use Rattle.room_store.specs.Keeping.{IsReady};
 
 use crate::scripts::Script;
-use room_schema::testing::is_empty;
 use room_store::creating::CreateFault;
 use room_store::opening::OpenFault;
 use room_store::store::Store;
+use room_tables_schema::testing::is_empty;
 use room_types::answers::Answer;
 use room_types::asks::Event;
 use room_types::fleet::{FleetRow, RowFate};

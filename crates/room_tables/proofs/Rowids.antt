@@ -19,10 +19,10 @@ use Rattle.sqlite_schema.specs.declared.command.Command.TheVariants.{Select}
 use Rattle.sqlite.specs.Given.{IsPlain}
 use Rattle.sqlite.specs.Listing.{understood, reads_listing}
 use Rattle.sqlite.proofs.Callers.{command_of}
-use Rattle.table_laws.specs.Statements.{table_query}
+use Rattle.room_tables_sql.specs.Statements.{table_query}
 use Rattle.sqlite.specs.Values.{or_null}
-use Rattle.table_laws.specs.Tables.{AreNumbered, RowidsRise}
-use Rattle.room_schema.specs.Schema.{room_schema, room_tables}
+use Rattle.room_tables_sql.specs.Tables.{AreNumbered, RowidsRise}
+use Rattle.room_tables_schema.specs.Schema.{room_schema, room_tables}
 use Rattle.room_tables.specs.Numbering.{SelectsRowids, SelectEach, AreAllNumbered, integer_in}
 use Rattle.room_tables.specs.declared.numbering.TheConstants.{ROWIDS}
 

@@ -9,9 +9,9 @@ use Rattle.room_types.specs.declared.changes.Change.TheVariants.{PutVehicle, Set
 use Rattle.room_types.specs.declared.codes.Status.TheVariants.{Available}
 use Rattle.room_types.specs.declared.tables.Vehicle.{Vehicle}
 use Rattle.room_model.specs.Room.{Room, settled}
-use Rattle.room_schema.specs.Schema.{room_schema}
-use Rattle.room_statements.specs.Stands.{House, Stands}
-use Rattle.room_statements.specs.Writes.{Makes}
+use Rattle.room_tables_schema.specs.Schema.{room_schema}
+use Rattle.room_tables_rows.specs.Stands.{House, Stands}
+use Rattle.room_tables_rows.specs.Writes.{Makes}
 
 -- this is the row of the callsign, of whatever room the tables stand for
 abbrev pub IsFound : Trees → Callsign → Option Vehicle → Type 0

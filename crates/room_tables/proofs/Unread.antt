@@ -5,7 +5,7 @@ use Rattle.std.proofs.lemmas.List.{drop_more, length-take-le, map-append, take-a
 use Rattle.std.proofs.lemmas.Grind.{common_steps}
 use Rattle.sqlite_value.specs.Order.{Row}
 use Rattle.room_place.specs.declared.plans.Area.{Area}
-use Rattle.room_columns.specs.Rows.{area_row}
+use Rattle.room_tables_rows.specs.Areas.{area_row}
 use Rattle.room_types.specs.Keyed.{IsBelowAll, IsKeyed}
 use Rattle.room_tables.specs.Failures.{AreOutOfOrder, HasMisnumbered, HasStranger}
 

@@ -3,8 +3,8 @@
 pub mod Numbering
 -- what a fault tells
 pub mod Failures
-pub use Rattle.room_statements.specs.Stands
-pub use Rattle.room_statements.specs.Tables
-pub use Rattle.room_statements.specs.Versions
-pub use Rattle.room_statements.specs.Finds
-pub use Rattle.room_statements.specs.Writes
+pub use Rattle.room_tables_rows.specs.Stands
+pub use Rattle.room_tables_rows.specs.Tables
+pub use Rattle.room_tables_rows.specs.Versions
+pub use Rattle.room_tables_rows.specs.Finds
+pub use Rattle.room_tables_rows.specs.Writes

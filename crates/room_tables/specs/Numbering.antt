@@ -5,9 +5,9 @@ use Rattle.sqlite_value.specs.declared.value.Value.{Value}
 use Rattle.sqlite_value.specs.declared.value.Value.TheVariants.{Int}
 use Rattle.sqlite_schema.specs.declared.schema.Table.{Table}
 use Rattle.sqlite_trees.specs.Tree.{Trees}
-use Rattle.table_laws.specs.Statements.{Selects}
-use Rattle.table_laws.specs.Tables.{AreNumbered}
-use Rattle.room_schema.specs.Schema.{room_schema, room_tables}
+use Rattle.room_tables_sql.specs.Statements.{Selects}
+use Rattle.room_tables_sql.specs.Tables.{AreNumbered}
+use Rattle.room_tables_schema.specs.Schema.{room_schema, room_tables}
 
 -- the integer that a value is
 abbrev pub integer_in : Value → Option ℤ

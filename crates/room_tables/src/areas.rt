@@ -3,25 +3,24 @@
 ghost use Rattle.std.specs.Prelude.{◌≡◌, false, map, IsTrue, IfOk, OnOk, OnErr, IfErr, []};
 ghost use Rattle.sqlite.specs.Held.{state};
 ghost use Rattle.sqlite.specs.State.{HasCleanDisk, IsUnchanged, Survives};
-ghost use Rattle.table_laws.specs.Outcomes.{Keeps};
-ghost use Rattle.table_laws.specs.Tables.{AreNumbered};
+ghost use Rattle.room_tables_sql.specs.Outcomes.{Keeps};
+ghost use Rattle.room_tables_sql.specs.Tables.{AreNumbered};
 ghost use Rattle.room_model.specs.Room.{Room};
-ghost use Rattle.room_columns.specs.Rows.{area_row};
-ghost use Rattle.room_schema.specs.Schema.{room_schema, areas_table};
-ghost use Rattle.room_statements.specs.Stands.{House, Stands, StandsFor, numbered};
-ghost use Rattle.room_statements.specs.Writes.{AppendsArea};
-ghost use Rattle.room_statements.specs.declared.areas.TheConstants.{ALL_AREAS, PUT_AREA};
+ghost use Rattle.room_tables_rows.specs.Areas.{area_row};
+ghost use Rattle.room_tables_schema.specs.Schema.{room_schema, areas_table};
+ghost use Rattle.room_tables_rows.specs.Stands.{House, Stands, StandsFor, numbered};
+ghost use Rattle.room_tables_rows.specs.Writes.{AppendsArea};
+ghost use Rattle.room_tables_rows.specs.declared.areas.TheConstants.{ALL_AREAS, PUT_AREA};
 ghost use Rattle.room_tables.specs.Failures.{AreNoPlan, FailsToRead, FailsToWrite, IfStorage};
 
-use room_columns::areas::area_columns;
-use room_columns::columns::Stored;
 use room_place::plans::Area;
-use room_schema::faults::Fault;
-use room_statements::areas::{ALL_AREAS, PUT_AREA};
+use room_tables_rows::areas::{ALL_AREAS, PUT_AREA, area_columns};
+use room_tables_rows::columns::Stored;
+use room_tables_schema::faults::Fault;
+use room_tables_sql::reading::select;
+use room_tables_sql::writing::write;
 use sqlite::{Alter, Connection, Row, Transaction};
 use std::alloc::Global;
-use table_laws::reading::select;
-use table_laws::writing::write;
 
 /// The areas of the plan, in its order. Rows that are not numbered from 1 on are `Storage`.
 pub fn all_areas<S: Alter>(alloc: Global, conn: &mut Connection<S>) -> Result<Vec<Area>, Fault>

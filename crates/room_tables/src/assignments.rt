@@ -1,12 +1,12 @@
 //! Assignments in their table.
 
 ghost use Rattle.room_types.specs.declared.changes.Change.TheVariants as change;
-ghost use Rattle.room_schema.specs.Schema.{assignments_table};
-ghost use Rattle.room_statements.specs.declared.assignments.TheConstants.{ALL_ASSIGNMENTS, ASSIGNMENTS_OF, ASSIGNMENT_AT, DROP_ASSIGNMENT, PUT_ASSIGNMENT};
-ghost use Rattle.room_statements.proofs.AssignmentsTable.{assignments_are, assignments_of_chooses, assignments_dropped};
+ghost use Rattle.room_tables_schema.specs.Schema.{assignments_table};
+ghost use Rattle.room_tables_rows.specs.declared.assignments.TheConstants.{ALL_ASSIGNMENTS, ASSIGNMENTS_OF, ASSIGNMENT_AT, DROP_ASSIGNMENT, PUT_ASSIGNMENT};
+ghost use Rattle.room_tables_rows.proofs.AssignmentsTable.{assignments_are, assignments_of_chooses, assignments_dropped};
 
 use crate::tables::{Dropped, Owned, Statements, Table};
-use room_statements::assignments::{
+use room_tables_rows::assignments::{
     ALL_ASSIGNMENTS, ASSIGNMENT_AT, ASSIGNMENTS_OF, DROP_ASSIGNMENT, PUT_ASSIGNMENT,
 };
 use room_types::tables::Assignment;

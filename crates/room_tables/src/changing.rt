@@ -3,22 +3,22 @@
 ghost use Rattle.std.specs.Prelude.{◌≡◌, IsTrue, OnOk, OnErr, IfErr};
 ghost use Rattle.sqlite.specs.Held.{state};
 ghost use Rattle.sqlite.specs.State.{HasCleanDisk, Survives};
-ghost use Rattle.table_laws.specs.Outcomes.{Keeps};
+ghost use Rattle.room_tables_sql.specs.Outcomes.{Keeps};
 ghost use Rattle.room_types.specs.declared.changes.Change.TheVariants.{Settle};
-ghost use Rattle.room_schema.specs.Schema.{room_schema};
-ghost use Rattle.room_statements.specs.Writes.{Makes};
+ghost use Rattle.room_tables_schema.specs.Schema.{room_schema};
+ghost use Rattle.room_tables_rows.specs.Writes.{Makes};
 ghost use Rattle.room_tables.specs.Failures.{FailsToWrite, IfStorage};
 
 use crate::loading::row_at_inside;
 use crate::tables::{Dropped, Table};
 use room_place::plans::DivisionNumber;
-use room_schema::faults::Fault;
+use room_tables_schema::faults::Fault;
+use room_tables_sql::writing::write;
 use room_types::callsign::Callsign;
 use room_types::changes::Change;
 use room_types::codes::Status;
 use room_types::tables::{Assignment, Loan, Offer, Vehicle};
 use sqlite::{Alter, Transaction};
-use table_laws::writing::write;
 
 /// Puts a row in its key's place.
 pub fn put<X: Table, S: Alter>(tx: &mut Transaction<'_, S>, row: &X) -> Result<(), Fault>

@@ -1,12 +1,12 @@
 //! Divisions in their table.
 
 ghost use Rattle.room_types.specs.declared.changes.Change.TheVariants as change;
-ghost use Rattle.room_schema.specs.Schema.{divisions_table};
-ghost use Rattle.room_statements.specs.declared.divisions.TheConstants.{ALL_DIVISIONS, DIVISION_AT, PUT_DIVISION};
-ghost use Rattle.room_statements.proofs.DivisionsTable.{divisions_are};
+ghost use Rattle.room_tables_schema.specs.Schema.{divisions_table};
+ghost use Rattle.room_tables_rows.specs.declared.divisions.TheConstants.{ALL_DIVISIONS, DIVISION_AT, PUT_DIVISION};
+ghost use Rattle.room_tables_rows.proofs.DivisionsTable.{divisions_are};
 
 use crate::tables::{Statements, Table};
-use room_statements::divisions::{ALL_DIVISIONS, DIVISION_AT, PUT_DIVISION};
+use room_tables_rows::divisions::{ALL_DIVISIONS, DIVISION_AT, PUT_DIVISION};
 use room_types::tables::Division;
 
 impl Table for Division {

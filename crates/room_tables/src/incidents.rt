@@ -4,29 +4,29 @@ ghost use Rattle.std.specs.Prelude.{◌≡◌, false, IfOk, OnOk, OnErr, ◌==�
 ghost use Rattle.sqlite_value.specs.declared.value.Value.TheVariants.{Int};
 ghost use Rattle.sqlite.specs.Held.{state};
 ghost use Rattle.sqlite.specs.State.{HasCleanDisk, IsUnchanged, Survives};
-ghost use Rattle.table_laws.specs.Outcomes.{Keeps};
-ghost use Rattle.table_laws.specs.Typed.{number};
+ghost use Rattle.room_tables_sql.specs.Outcomes.{Keeps};
+ghost use Rattle.room_tables_sql.specs.Typed.{number};
 ghost use Rattle.room_types.specs.Codes.{is_active, state_number};
 ghost use Rattle.room_types.specs.declared.changes.Change.TheVariants as change;
 ghost use Rattle.room_types.specs.declared.codes.State.TheVariants.{Active};
 ghost use Rattle.room_types.specs.Keys.{pair_cmp, incident_key};
 ghost use Rattle.room_model.specs.Room.{Room};
-ghost use Rattle.room_columns.specs.Readable.{is_incident_row};
-ghost use Rattle.room_columns.specs.Rows.{incident_row};
-ghost use Rattle.room_schema.specs.Schema.{room_schema, incidents_table};
-ghost use Rattle.room_statements.specs.Stands.{House, Stands};
-ghost use Rattle.room_statements.specs.declared.incidents.TheConstants.{ACTIVE_INCIDENTS, ALL_INCIDENTS, INCIDENTS_OPENED, INCIDENT_AT, PUT_INCIDENT};
-ghost use Rattle.room_statements.proofs.IncidentsTable.{incidents_are};
+ghost use Rattle.room_tables_rows.specs.Incidents.{is_incident_row};
+ghost use Rattle.room_tables_rows.specs.Incidents.{incident_row};
+ghost use Rattle.room_tables_schema.specs.Schema.{room_schema, incidents_table};
+ghost use Rattle.room_tables_rows.specs.Stands.{House, Stands};
+ghost use Rattle.room_tables_rows.specs.declared.incidents.TheConstants.{ACTIVE_INCIDENTS, ALL_INCIDENTS, INCIDENTS_OPENED, INCIDENT_AT, PUT_INCIDENT};
+ghost use Rattle.room_tables_rows.proofs.IncidentsTable.{incidents_are};
 ghost use Rattle.room_tables.specs.Failures.{AreNoRows, FailsToRead, IfStorage};
 
 use crate::reading::load;
 use crate::tables::{Statements, Table};
-use room_columns::columns::{Field, second};
 use room_place::plans::DivisionNumber;
-use room_schema::faults::Fault;
-use room_statements::incidents::{
+use room_tables_rows::columns::{Field, second};
+use room_tables_rows::incidents::{
     ACTIVE_INCIDENTS, ALL_INCIDENTS, INCIDENT_AT, INCIDENTS_OPENED, PUT_INCIDENT,
 };
+use room_tables_schema::faults::Fault;
 use room_types::codes::State;
 use room_types::rows::Rows;
 use room_types::tables::Incident;

@@ -3,20 +3,20 @@
 ghost use Rattle.std.specs.Prelude.{◌≡◌, false, filter, IfOk, OnOk, OnErr, IfErr, [], ◌∷◌};
 ghost use Rattle.sqlite.specs.Held.{state};
 ghost use Rattle.sqlite.specs.State.{HasCleanDisk, IsUnchanged, Survives};
-ghost use Rattle.table_laws.specs.Outcomes.{Keeps};
-ghost use Rattle.table_laws.specs.Tables.{AreNumbered};
-ghost use Rattle.table_laws.specs.Typed.{number};
+ghost use Rattle.room_tables_sql.specs.Outcomes.{Keeps};
+ghost use Rattle.room_tables_sql.specs.Tables.{AreNumbered};
+ghost use Rattle.room_tables_sql.specs.Typed.{number};
 ghost use Rattle.room_types.specs.Keyed.{row_at};
 ghost use Rattle.room_model.specs.Room.{Room};
-ghost use Rattle.room_schema.specs.Schema.{room_schema};
-ghost use Rattle.room_statements.specs.Stands.{House, Stands, StandsFor};
+ghost use Rattle.room_tables_schema.specs.Schema.{room_schema};
+ghost use Rattle.room_tables_rows.specs.Stands.{House, Stands, StandsFor};
 ghost use Rattle.room_tables.specs.Failures.{AreNoRows, AreMoreThanOne, FailsToRead, IfStorage};
 
 use crate::reading::{find, find_inside, load};
 use crate::tables::{Owned, Table};
-use room_columns::columns::Field;
 use room_place::plans::DivisionNumber;
-use room_schema::faults::Fault;
+use room_tables_rows::columns::Field;
+use room_tables_schema::faults::Fault;
 use room_types::rows::Rows;
 use sqlite::{Alter, Connection, Transaction};
 use std::alloc::Global;

@@ -1,12 +1,12 @@
 //! Loans in their table.
 
 ghost use Rattle.room_types.specs.declared.changes.Change.TheVariants as change;
-ghost use Rattle.room_schema.specs.Schema.{loans_table};
-ghost use Rattle.room_statements.specs.declared.loans.TheConstants.{ALL_LOANS, DROP_LOAN, LOANS_OF, LOAN_AT, PUT_LOAN};
-ghost use Rattle.room_statements.proofs.LoansTable.{loans_are, loans_of_chooses, loans_dropped};
+ghost use Rattle.room_tables_schema.specs.Schema.{loans_table};
+ghost use Rattle.room_tables_rows.specs.declared.loans.TheConstants.{ALL_LOANS, DROP_LOAN, LOANS_OF, LOAN_AT, PUT_LOAN};
+ghost use Rattle.room_tables_rows.proofs.LoansTable.{loans_are, loans_of_chooses, loans_dropped};
 
 use crate::tables::{Dropped, Owned, Statements, Table};
-use room_statements::loans::{ALL_LOANS, DROP_LOAN, LOAN_AT, LOANS_OF, PUT_LOAN};
+use room_tables_rows::loans::{ALL_LOANS, DROP_LOAN, LOAN_AT, LOANS_OF, PUT_LOAN};
 use room_types::tables::Loan;
 
 impl Table for Loan {

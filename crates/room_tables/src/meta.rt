@@ -3,27 +3,28 @@
 ghost use Rattle.std.specs.Prelude.{◌≡◌, ◌↔◌, false, [], ◌∷◌, string_bytes, IsTrue, IfOk, OnOk, OnErr, IfErr};
 ghost use Rattle.sqlite.specs.Held.{state};
 ghost use Rattle.sqlite.specs.State.{HasCleanDisk, IsUnchanged, Survives};
-ghost use Rattle.table_laws.specs.Outcomes.{Keeps};
-ghost use Rattle.table_laws.specs.Tables.{AreNumbered};
+ghost use Rattle.room_tables_sql.specs.Outcomes.{Keeps};
+ghost use Rattle.room_tables_sql.specs.Tables.{AreNumbered};
 ghost use Rattle.room_model.specs.Room.{Room};
-ghost use Rattle.room_columns.specs.Readable.{is_meta_row};
-ghost use Rattle.room_columns.specs.Rows.{meta_row};
-ghost use Rattle.room_schema.specs.Definitions.{IsBlank};
-ghost use Rattle.room_schema.specs.Schema.{room_schema, meta_table};
-ghost use Rattle.room_schema.specs.Versions.{BeginsAsRoom};
-ghost use Rattle.room_statements.specs.Stands.{House, Stands, StandsFor, empty_room};
-ghost use Rattle.room_statements.specs.Versions.{IsOfFirstVersion, OneTells};
-ghost use Rattle.room_statements.specs.Writes.{Changes};
-ghost use Rattle.room_statements.specs.declared.meta.TheConstants.{ALL_META, PUT_META};
+ghost use Rattle.room_tables_rows.specs.Meta.{is_meta_row};
+ghost use Rattle.room_tables_rows.specs.Meta.{meta_row};
+ghost use Rattle.room_tables_schema.specs.Definitions.{IsBlank};
+ghost use Rattle.room_tables_schema.specs.Schema.{room_schema, meta_table};
+ghost use Rattle.room_tables_schema.specs.Versions.{BeginsAsRoom};
+ghost use Rattle.room_tables_rows.specs.Stands.{House, Stands, StandsFor, empty_room};
+ghost use Rattle.room_tables_rows.specs.Versions.{IsOfFirstVersion, OneTells};
+ghost use Rattle.room_tables_rows.specs.Writes.{Changes};
+ghost use Rattle.room_tables_rows.specs.declared.meta.TheConstants.{ALL_META, PUT_META};
 ghost use Rattle.room_tables.specs.Failures.{AreNotJustOne, FailsToRead, FailsToWrite, IfStorage};
 
-use room_columns::meta::{FIRST_VERSION, is_of_version, meta_columns, zone_of};
-use room_schema::faults::Fault;
-use room_statements::meta::{ALL_META, PUT_META};
+use room_tables_rows::meta::{
+    ALL_META, FIRST_VERSION, PUT_META, is_of_version, meta_columns, zone_of,
+};
+use room_tables_schema::faults::Fault;
+use room_tables_sql::reading::select;
+use room_tables_sql::writing::write;
 use sqlite::{Alter, Connection, Row, Transaction};
 use std::alloc::Global;
-use table_laws::reading::select;
-use table_laws::writing::write;
 
 /// The zone in which the days of the room begin. Anything but one row of this version is `Storage`.
 pub fn zone<S: Alter>(alloc: Global, conn: &mut Connection<S>) -> Result<String, Fault>

@@ -5,16 +5,16 @@ ghost use Rattle.std.specs.Prelude.{◌≡◌, ◌↔◌, ℕ, false, map, IsTru
 ghost use Rattle.sqlite_trees.specs.Tree.{rowid};
 ghost use Rattle.sqlite.specs.Held.{state};
 ghost use Rattle.sqlite.specs.State.{HasCleanDisk, IsUnchanged, Survives};
-ghost use Rattle.table_laws.specs.Outcomes.{Keeps};
-ghost use Rattle.table_laws.specs.Tables.{AreNumbered, RowidsRise};
-ghost use Rattle.room_schema.specs.Schema.{room_schema, room_tables};
+ghost use Rattle.room_tables_sql.specs.Outcomes.{Keeps};
+ghost use Rattle.room_tables_sql.specs.Tables.{AreNumbered, RowidsRise};
+ghost use Rattle.room_tables_schema.specs.Schema.{room_schema, room_tables};
 ghost use Rattle.room_tables.specs.Failures.{FailsToRead, IfStorage};
 ghost use Rattle.room_tables.specs.Numbering.{SelectsRowids, SelectEach, AreAllNumbered, integer_in};
 
-use room_schema::faults::Fault;
+use room_tables_schema::faults::Fault;
+use room_tables_sql::reading::select;
 use sqlite::{Alter, Connection, Row};
 use sqlite_value::value::ValueRef;
-use table_laws::reading::select;
 
 // The rowids of each table in their order, the tables in the order in which they are made.
 const ROWIDS: [&str; 13] = [

@@ -1,12 +1,12 @@
 //! Offers in their table.
 
 ghost use Rattle.room_types.specs.declared.changes.Change.TheVariants as change;
-ghost use Rattle.room_schema.specs.Schema.{offers_table};
-ghost use Rattle.room_statements.specs.declared.offers.TheConstants.{ALL_OFFERS, DROP_OFFER, OFFERS_OF, OFFER_AT, PUT_OFFER};
-ghost use Rattle.room_statements.proofs.OffersTable.{offers_are, offers_of_chooses, offers_dropped};
+ghost use Rattle.room_tables_schema.specs.Schema.{offers_table};
+ghost use Rattle.room_tables_rows.specs.declared.offers.TheConstants.{ALL_OFFERS, DROP_OFFER, OFFERS_OF, OFFER_AT, PUT_OFFER};
+ghost use Rattle.room_tables_rows.proofs.OffersTable.{offers_are, offers_of_chooses, offers_dropped};
 
 use crate::tables::{Dropped, Owned, Statements, Table};
-use room_statements::offers::{ALL_OFFERS, DROP_OFFER, OFFER_AT, OFFERS_OF, PUT_OFFER};
+use room_tables_rows::offers::{ALL_OFFERS, DROP_OFFER, OFFER_AT, OFFERS_OF, PUT_OFFER};
 use room_types::tables::Offer;
 
 impl Table for Offer {

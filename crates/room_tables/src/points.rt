@@ -1,12 +1,12 @@
 //! Standby points in their table.
 
 ghost use Rattle.room_types.specs.declared.changes.Change.TheVariants as change;
-ghost use Rattle.room_schema.specs.Schema.{points_table};
-ghost use Rattle.room_statements.specs.declared.points.TheConstants.{ALL_POINTS, POINTS_OF, POINT_AT, PUT_POINT};
-ghost use Rattle.room_statements.proofs.PointsTable.{points_are, points_of_chooses};
+ghost use Rattle.room_tables_schema.specs.Schema.{points_table};
+ghost use Rattle.room_tables_rows.specs.declared.points.TheConstants.{ALL_POINTS, POINTS_OF, POINT_AT, PUT_POINT};
+ghost use Rattle.room_tables_rows.proofs.PointsTable.{points_are, points_of_chooses};
 
 use crate::tables::{Owned, Statements, Table};
-use room_statements::points::{ALL_POINTS, POINT_AT, POINTS_OF, PUT_POINT};
+use room_tables_rows::points::{ALL_POINTS, POINT_AT, POINTS_OF, PUT_POINT};
 use room_types::tables::Point;
 
 impl Table for Point {

@@ -6,18 +6,18 @@ ghost use Rattle.sqlite.specs.Held.{state};
 ghost use Rattle.sqlite.specs.Listing.{understood};
 ghost use Rattle.sqlite.specs.State.{HasCleanDisk, IsUnchanged, Shown, Survives};
 ghost use Rattle.sqlite.specs.Values.{bound};
-ghost use Rattle.table_laws.specs.Outcomes.{Keeps};
+ghost use Rattle.room_tables_sql.specs.Outcomes.{Keeps};
 ghost use Rattle.room_types.specs.Keyed.{IsKeyed, put_row};
-ghost use Rattle.room_statements.specs.Finds.{listed};
+ghost use Rattle.room_tables_rows.specs.Finds.{listed};
 ghost use Rattle.room_tables.specs.Failures.{AreNoRows, AreMoreThanOne, FailsToRead, HasStranger, IfStorage};
 
-use room_columns::columns::Stored;
-use room_schema::faults::Fault;
+use room_tables_rows::columns::Stored;
+use room_tables_schema::faults::Fault;
+use room_tables_sql::reading::{select, select_inside};
 use room_types::rows::{Row, Rows};
 use sqlite::{Alter, Connection, Transaction};
 use sqlite_value::value::ValueRef;
 use std::alloc::Global;
-use table_laws::reading::{select, select_inside};
 
 /// The rows that a selection shows. A row that is none of its table is `Storage`, and so are rows
 /// whose keys don't rise.

@@ -2,12 +2,12 @@
 
 ghost use Rattle.std.specs.Prelude.{◌≡◌, ℕ, List, [], ◌∷◌};
 ghost use Rattle.sqlite_schema.specs.declared.schema.Table.{Table as SchemaTable};
-ghost use Rattle.table_laws.specs.Typed.{number};
+ghost use Rattle.room_tables_sql.specs.Typed.{number};
 ghost use Rattle.room_types.specs.declared.changes.Change.{Change};
 ghost use Rattle.room_model.specs.Room.{Room};
-ghost use Rattle.room_statements.specs.Tables.{IsDropped, IsTable, SelectsChosen, Texts};
+ghost use Rattle.room_tables_rows.specs.Tables.{IsDropped, IsTable, SelectsChosen, Texts};
 
-use room_columns::rows::StoredRow;
+use room_tables_rows::rows::StoredRow;
 
 /// The texts of the statements that every table has.
 #[derive(Clone, Copy)]

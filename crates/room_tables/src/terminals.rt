@@ -4,30 +4,31 @@ ghost use Rattle.std.specs.Prelude.{◌≡◌, false, filter, IsTrue, IfOk, OnOk
 ghost use Rattle.sqlite_value.specs.declared.value.Value.TheVariants.{Text};
 ghost use Rattle.sqlite.specs.Held.{state};
 ghost use Rattle.sqlite.specs.State.{HasCleanDisk, IsUnchanged, Survives};
-ghost use Rattle.table_laws.specs.Outcomes.{Keeps};
-ghost use Rattle.table_laws.specs.Tables.{AreNumbered};
+ghost use Rattle.room_tables_sql.specs.Outcomes.{Keeps};
+ghost use Rattle.room_tables_sql.specs.Tables.{AreNumbered};
 ghost use Rattle.room_types.specs.Keyed.{IsKeyed, put_row};
 ghost use Rattle.room_model.specs.Enrol.{is_crew, terminal_at as found_terminal, terminal_key, token_cmp};
 ghost use Rattle.room_model.specs.Room.{Room};
-ghost use Rattle.room_columns.specs.Rows.{terminal_row};
-ghost use Rattle.room_columns.specs.Readable.{is_terminal_row};
-ghost use Rattle.room_schema.specs.Schema.{room_schema, terminals_table};
-ghost use Rattle.room_statements.specs.Stands.{House, Stands, StandsFor};
-ghost use Rattle.room_statements.specs.Writes.{Changes};
-ghost use Rattle.room_statements.specs.declared.terminals.TheConstants.{ALL_TERMINALS, CREW_TERMINALS, PUT_TERMINAL, TERMINAL_AT};
+ghost use Rattle.room_tables_rows.specs.Terminals.{terminal_row};
+ghost use Rattle.room_tables_rows.specs.Terminals.{is_terminal_row};
+ghost use Rattle.room_tables_schema.specs.Schema.{room_schema, terminals_table};
+ghost use Rattle.room_tables_rows.specs.Stands.{House, Stands, StandsFor};
+ghost use Rattle.room_tables_rows.specs.Writes.{Changes};
+ghost use Rattle.room_tables_rows.specs.declared.terminals.TheConstants.{ALL_TERMINALS, CREW_TERMINALS, PUT_TERMINAL, TERMINAL_AT};
 ghost use Rattle.room_tables.specs.Failures.{AreNoRows, AreMoreThanOne, FailsToRead, FailsToWrite, HasStranger, IfStorage};
 
 use crate::reading::{find, list};
-use room_columns::columns::Field;
-use room_columns::terminals::terminal_columns;
-use room_schema::faults::Fault;
-use room_statements::terminals::{ALL_TERMINALS, CREW_TERMINALS, PUT_TERMINAL, TERMINAL_AT};
+use room_tables_rows::columns::Field;
+use room_tables_rows::terminals::{
+    ALL_TERMINALS, CREW_TERMINALS, PUT_TERMINAL, TERMINAL_AT, terminal_columns,
+};
+use room_tables_schema::faults::Fault;
+use room_tables_sql::writing::write;
 use room_types::callsign::Callsign;
 use room_types::fleet::Terminal;
 use room_types::token::Token;
 use sqlite::{Alter, Connection, Transaction};
 use std::alloc::Global;
-use table_laws::writing::write;
 
 /// All terminals, in the order of their tokens.
 pub fn all_terminals<S: Alter>(

@@ -1,12 +1,12 @@
 //! Vehicles in their table.
 
 ghost use Rattle.room_types.specs.declared.changes.Change.TheVariants as change;
-ghost use Rattle.room_schema.specs.Schema.{vehicles_table};
-ghost use Rattle.room_statements.specs.declared.vehicles.TheConstants.{ALL_VEHICLES, PUT_VEHICLE, VEHICLES_HELD, VEHICLE_AT};
-ghost use Rattle.room_statements.proofs.VehiclesTable.{vehicles_are, vehicles_held_chooses};
+ghost use Rattle.room_tables_schema.specs.Schema.{vehicles_table};
+ghost use Rattle.room_tables_rows.specs.declared.vehicles.TheConstants.{ALL_VEHICLES, PUT_VEHICLE, VEHICLES_HELD, VEHICLE_AT};
+ghost use Rattle.room_tables_rows.proofs.VehiclesTable.{vehicles_are, vehicles_held_chooses};
 
 use crate::tables::{Owned, Statements, Table};
-use room_statements::vehicles::{ALL_VEHICLES, PUT_VEHICLE, VEHICLE_AT, VEHICLES_HELD};
+use room_tables_rows::vehicles::{ALL_VEHICLES, PUT_VEHICLE, VEHICLE_AT, VEHICLES_HELD};
 use room_types::tables::Vehicle;
 
 impl Table for Vehicle {

@@ -1,5 +1,5 @@
 use Rattle.std.proofs.Common.{◌∙◌, sym, ap, refl, [], inl, inr, append-nil}
-use Rattle.room_answers.specs.Replies.{fixed_bytes}
+use Rattle.room_http_answers.specs.Replies.{fixed_bytes}
 use Rattle.room_http.proofs.TalkLemmas.{IsTalk-one}
 use Rattle.room_http.proofs.answering.answer.Goals as goal
 

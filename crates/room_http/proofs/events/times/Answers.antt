@@ -1,8 +1,8 @@
 use Rattle.std.proofs.Common.{refl, pos, w64, ◌+ℤ◌}
 use Rattle.std.proofs.lemmas.Int.{to_z-of_z}
 use Rattle.jiff_core.specs.Calendar.{days_from_civil}
-use Rattle.room_days.proofs.DayLemmas.{inner_days, midnight_fits}
-use Rattle.room_days.specs.Days.{zone_of}
+use Rattle.room_http_time.proofs.DayLemmas.{inner_days, midnight_fits}
+use Rattle.room_http_time.specs.Days.{zone_of}
 use Rattle.room_http.proofs.events.times.Goals as goal
 
 pub returns : goal.returns

@@ -1,7 +1,7 @@
 use Rattle.std.proofs.Common.{◌≡◌, ◌≤◌, false, ◌+◌, ◌-◌, ◌*◌, length, List}
 use Rattle.std.specs.Io.KnownBytes.{prepend_known}
-use Rattle.room_message.specs.declared.limits.TheConstants.{INBOX_ROOM}
-use Rattle.room_message.specs.Streams.{CountsBy}
+use Rattle.room_http_messages.specs.declared.limits.TheConstants.{INBOX_ROOM}
+use Rattle.room_http_messages.specs.Streams.{CountsBy}
 use Rattle.room_http.specs.Talk.{Timed}
 use Rattle.room_http.proofs.ServeLemmas.{Going}
 use Rattle.room_http.proofs.serving.serve.Given as goal

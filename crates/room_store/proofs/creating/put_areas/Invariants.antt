@@ -2,7 +2,7 @@ use Rattle.std.proofs.Common.{IsTrue, [], take, ◌≡◌}
 use Rattle.sqlite.specs.Held.{state}
 use Rattle.sqlite.specs.State.{HasCleanDisk, KeepsCommit, Survives}
 use Rattle.room_model.specs.Room.{Room}
-use Rattle.room_schema.specs.Schema.{room_schema}
+use Rattle.room_tables_schema.specs.Schema.{room_schema}
 use Rattle.room_tables.specs.Stands.{House, Stands}
 use Rattle.room_store.proofs.creating.put_areas.Given as goal
 

@@ -1,8 +1,16 @@
 use Rattle.std.proofs.Common.{arith}
 use Rattle.sqlite.specs.Held.{state}
 use Rattle.sqlite.specs.State.{HasCleanDisk}
-use Rattle.room_columns.specs.Rows.{assignment_row, call_row, division_row, incident_row, loan_row, offer_row, point_row, turn_row, vehicle_row}
-use Rattle.room_schema.specs.Schema.{assignments_table, calls_table, divisions_table, incidents_table, loans_table, offers_table, points_table, turns_table, vehicles_table}
+use Rattle.room_tables_rows.specs.Assignments.{assignment_row}
+use Rattle.room_tables_rows.specs.Calls.{call_row}
+use Rattle.room_tables_rows.specs.Divisions.{division_row}
+use Rattle.room_tables_rows.specs.Incidents.{incident_row}
+use Rattle.room_tables_rows.specs.Loans.{loan_row}
+use Rattle.room_tables_rows.specs.Offers.{offer_row}
+use Rattle.room_tables_rows.specs.Points.{point_row}
+use Rattle.room_tables_rows.specs.Turns.{turn_row}
+use Rattle.room_tables_rows.specs.Vehicles.{vehicle_row}
+use Rattle.room_tables_schema.specs.Schema.{assignments_table, calls_table, divisions_table, incidents_table, loans_table, offers_table, points_table, turns_table, vehicles_table}
 use Rattle.room_store.proofs.ReadLaws.{Looked, fails, held_before, looked, stops}
 use Rattle.room_store.proofs.whole.read_rows.Goals as goal
 

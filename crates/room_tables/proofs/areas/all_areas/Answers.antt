@@ -2,11 +2,11 @@ use Rattle.std.proofs.Common.{arith, ◌∙◌}
 use Rattle.std.proofs.lemmas.Result.{IfOk-weaker}
 use Rattle.sqlite.specs.Held.{state}
 use Rattle.sqlite.specs.State.{HasCleanDisk}
-use Rattle.table_laws.proofs.Refusals.{plain_here}
-use Rattle.room_schema.specs.Schema.{room_schema}
-use Rattle.room_statements.specs.declared.areas.TheConstants.{ALL_AREAS}
-use Rattle.room_statements.proofs.AreasTable.{all_areas_means}
-use Rattle.room_statements.proofs.Starts.{areas_found, areas_are}
+use Rattle.room_tables_sql.proofs.Refusals.{plain_here}
+use Rattle.room_tables_schema.specs.Schema.{room_schema}
+use Rattle.room_tables_rows.specs.declared.areas.TheConstants.{ALL_AREAS}
+use Rattle.room_tables_rows.proofs.AreasTable.{all_areas_means}
+use Rattle.room_tables_rows.proofs.Starts.{areas_found, areas_are}
 use Rattle.room_tables.proofs.areas.all_areas.Goals as goal
 
 pub select-requires : goal.select-requires

@@ -1,7 +1,7 @@
 use Rattle.std.proofs.Common.{◌≡◌, ◌+◌, inl, inr, sym, arith}
 use Rattle.std.proofs.lemmas.Grind.{common_steps}
-use Rattle.room_statements.proofs.PlanLaws.{areas_more}
-use Rattle.room_columns.specs.Readable.{is_area_row}
+use Rattle.room_tables_rows.proofs.PlanLaws.{areas_more}
+use Rattle.room_tables_rows.specs.Areas.{is_area_row}
 use Rattle.room_tables.proofs.Unread.{misnumbered_at, stranger_at}
 use Rattle.room_tables.proofs.areas.areas_in.Goals as goal
 

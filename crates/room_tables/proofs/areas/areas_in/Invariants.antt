@@ -1,6 +1,6 @@
 use Rattle.std.proofs.Common.{◌≡◌, map, take, length}
-use Rattle.room_columns.specs.Rows.{area_row}
-use Rattle.room_statements.specs.Stands.{numbered}
+use Rattle.room_tables_rows.specs.Areas.{area_row}
+use Rattle.room_tables_rows.specs.Stands.{numbered}
 use Rattle.room_tables.proofs.areas.areas_in.Given as goal
 
 abbrev pub invariant-loop-index : goal.invariant-loop-index

@@ -1,7 +1,7 @@
 use Rattle.std.proofs.Common.{arith}
 use Rattle.sqlite.specs.Held.{state}
 use Rattle.sqlite.specs.State.{HasCleanDisk}
-use Rattle.room_statements.proofs.Starts.{put_area_makes}
+use Rattle.room_tables_rows.proofs.Starts.{put_area_makes}
 use Rattle.room_tables.proofs.areas.put_area.Goals as goal
 
 pub returns-clause-ok : goal.returns-clause-ok

@@ -1,12 +1,12 @@
 -- What was shown is what was asked for.
-use Rattle.room_schema.specs.Schema.{room_schema}
-use Rattle.room_statements.proofs.CallsTable.{calls_of_are, calls_of_means}
-use Rattle.room_statements.specs.declared.calls.TheConstants.{CALLS_OF}
+use Rattle.room_tables_schema.specs.Schema.{room_schema}
+use Rattle.room_tables_rows.proofs.CallsTable.{calls_of_are, calls_of_means}
+use Rattle.room_tables_rows.specs.declared.calls.TheConstants.{CALLS_OF}
 use Rattle.sqlite.specs.Held.{state}
 use Rattle.sqlite.specs.State.{HasCleanDisk}
 use Rattle.std.proofs.Common.{arith}
 use Rattle.std.proofs.lemmas.Result.{IfOk-weaker}
-use Rattle.table_laws.proofs.Refusals.{plain_here}
+use Rattle.room_tables_sql.proofs.Refusals.{plain_here}
 use Rattle.room_tables.proofs.calls.calls_of.Goals as goal
 
 pub load-requires : goal.load-requires

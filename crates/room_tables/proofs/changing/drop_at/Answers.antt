@@ -2,7 +2,7 @@
 use Rattle.std.proofs.Common.{arith}
 use Rattle.sqlite.specs.Held.{state}
 use Rattle.sqlite.specs.State.{HasCleanDisk}
-use Rattle.room_statements.proofs.Puts.{drop_makes}
+use Rattle.room_tables_rows.proofs.Puts.{drop_makes}
 use Rattle.room_tables.proofs.changing.drop_at.Goals as goal
 
 pub returns-clause-ok : goal.returns-clause-ok

@@ -2,7 +2,7 @@
 use Rattle.std.proofs.Common.{arith}
 use Rattle.sqlite.specs.Held.{state}
 use Rattle.sqlite.specs.State.{HasCleanDisk}
-use Rattle.room_statements.proofs.Puts.{put_makes}
+use Rattle.room_tables_rows.proofs.Puts.{put_makes}
 use Rattle.room_tables.proofs.changing.put.Goals as goal
 
 pub returns-clause-ok : goal.returns-clause-ok

@@ -1,14 +1,14 @@
 -- What was shown is what was asked for.
-use Rattle.room_schema.specs.Schema.{room_schema}
-use Rattle.room_statements.proofs.IncidentsTable.{incidents_opened_are, incidents_opened_means}
-use Rattle.room_statements.specs.declared.incidents.TheConstants.{INCIDENTS_OPENED}
+use Rattle.room_tables_schema.specs.Schema.{room_schema}
+use Rattle.room_tables_rows.proofs.IncidentsTable.{incidents_opened_are, incidents_opened_means}
+use Rattle.room_tables_rows.specs.declared.incidents.TheConstants.{INCIDENTS_OPENED}
 use Rattle.sqlite.specs.Held.{state}
 use Rattle.sqlite.specs.State.{HasCleanDisk}
 use Rattle.std.proofs.Common.{arith}
 use Rattle.std.proofs.lemmas.Int.{to_z-of_z}
 use Rattle.std.proofs.lemmas.Result.{IfOk-weaker}
 use Rattle.std.specs.Int.{w64}
-use Rattle.table_laws.proofs.Refusals.{plain_here}
+use Rattle.room_tables_sql.proofs.Refusals.{plain_here}
 use Rattle.room_tables.proofs.incidents.incidents_opened.Goals as goal
 
 pub load-requires : goal.load-requires

@@ -4,9 +4,9 @@ use Rattle.std.proofs.lemmas.Result.{IfOk-weaker}
 use Rattle.sqlite.specs.Held.{state}
 use Rattle.sqlite.specs.State.{HasCleanDisk}
 use Rattle.sqlite_exec.proofs.LoopsLemmas.{ok_both}
-use Rattle.table_laws.proofs.Refusals.{plain_here}
-use Rattle.room_schema.specs.Schema.{room_schema}
-use Rattle.room_statements.proofs.Loads.{all_rows}
+use Rattle.room_tables_sql.proofs.Refusals.{plain_here}
+use Rattle.room_tables_schema.specs.Schema.{room_schema}
+use Rattle.room_tables_rows.proofs.Loads.{all_rows}
 use Rattle.room_tables.proofs.loading.all_rows.Goals as goal
 
 pub load-requires : goal.load-requires

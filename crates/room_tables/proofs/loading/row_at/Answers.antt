@@ -3,9 +3,9 @@ use Rattle.std.proofs.Common.{arith}
 use Rattle.std.proofs.lemmas.Result.{IfOk-weaker}
 use Rattle.sqlite.specs.Held.{state}
 use Rattle.sqlite.specs.State.{HasCleanDisk}
-use Rattle.table_laws.proofs.Refusals.{plain_here}
-use Rattle.room_schema.specs.Schema.{room_schema}
-use Rattle.room_statements.proofs.Loads.{row_of_key}
+use Rattle.room_tables_sql.proofs.Refusals.{plain_here}
+use Rattle.room_tables_schema.specs.Schema.{room_schema}
+use Rattle.room_tables_rows.proofs.Loads.{row_of_key}
 use Rattle.room_tables.proofs.loading.row_at.Goals as goal
 
 pub find-requires : goal.find-requires

@@ -1,7 +1,7 @@
 use Rattle.std.proofs.Common.{arith}
 use Rattle.sqlite.specs.Held.{state}
 use Rattle.sqlite.specs.State.{HasCleanDisk}
-use Rattle.room_statements.proofs.FirstVersion.{all_meta_begins, first_shown, shows_first}
+use Rattle.room_tables_rows.proofs.FirstVersion.{all_meta_begins, first_shown, shows_first}
 use Rattle.room_tables.proofs.meta.is_of_first_version.Goals as goal
 
 pub select-requires : goal.select-requires

@@ -3,11 +3,11 @@ use Rattle.std.specs.Prelude.{string_bytes}
 use Rattle.std.proofs.lemmas.Result.{IfOk-weaker}
 use Rattle.sqlite.specs.Held.{state}
 use Rattle.sqlite.specs.State.{HasCleanDisk}
-use Rattle.table_laws.proofs.Refusals.{plain_here}
-use Rattle.room_schema.specs.Schema.{room_schema}
-use Rattle.room_statements.specs.declared.meta.TheConstants.{ALL_META}
-use Rattle.room_statements.proofs.MetaTable.{all_meta_means}
-use Rattle.room_statements.proofs.Starts.{zone_found, zone_is}
+use Rattle.room_tables_sql.proofs.Refusals.{plain_here}
+use Rattle.room_tables_schema.specs.Schema.{room_schema}
+use Rattle.room_tables_rows.specs.declared.meta.TheConstants.{ALL_META}
+use Rattle.room_tables_rows.proofs.MetaTable.{all_meta_means}
+use Rattle.room_tables_rows.proofs.Starts.{zone_found, zone_is}
 use Rattle.room_tables.proofs.meta.zone.Goals as goal
 
 pub select-requires : goal.select-requires

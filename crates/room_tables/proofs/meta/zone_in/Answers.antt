@@ -1,5 +1,5 @@
 use Rattle.std.proofs.Common.{inl, sym, arith}
-use Rattle.room_columns.specs.Readable.{is_meta_row}
+use Rattle.room_tables_rows.specs.Meta.{is_meta_row}
 use Rattle.room_tables.proofs.Unread.{stranger_at}
 use Rattle.room_tables.proofs.meta.zone_in.Goals as goal
 

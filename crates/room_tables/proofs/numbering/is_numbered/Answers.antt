@@ -1,9 +1,9 @@
 use Rattle.std.proofs.Common.{arith}
 use Rattle.sqlite.specs.Held.{state}
 use Rattle.sqlite.specs.State.{HasCleanDisk}
-use Rattle.table_laws.proofs.Refusals.{plain_here}
-use Rattle.table_laws.proofs.Openings.{rowids_tell}
-use Rattle.room_schema.specs.Schema.{room_schema}
+use Rattle.room_tables_sql.proofs.Refusals.{plain_here}
+use Rattle.room_tables_sql.proofs.Openings.{rowids_tell}
+use Rattle.room_tables_schema.specs.Schema.{room_schema}
 use Rattle.room_tables.proofs.numbering.is_numbered.Goals as goal
 
 pub select-requires : goal.select-requires

@@ -2,7 +2,7 @@ use Rattle.std.proofs.Common.{drop}
 use Rattle.std.specs.Prelude.{◌↔◌}
 use Rattle.sqlite.specs.Values.{or_null}
 use Rattle.sqlite_value.specs.declared.value.Value.TheVariants.{Int}
-use Rattle.table_laws.specs.Tables.{RowidsRise}
+use Rattle.room_tables_sql.specs.Tables.{RowidsRise}
 use Rattle.room_tables.proofs.Rowids.{RiseFrom}
 use Rattle.room_tables.proofs.numbering.rise.Given as goal
 

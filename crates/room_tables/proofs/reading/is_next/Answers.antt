@@ -1,5 +1,5 @@
 use Rattle.std.proofs.Common.{◌≡◌, true, is_lt}
-use Rattle.room_statements.proofs.Found.{put_last}
+use Rattle.room_tables_rows.proofs.Found.{put_last}
 use Rattle.room_tables.proofs.Unread.{next_or_not}
 use Rattle.room_tables.proofs.reading.is_next.Goals as goal
 

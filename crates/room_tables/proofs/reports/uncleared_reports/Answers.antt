@@ -1,12 +1,12 @@
 -- What was shown is what was asked for.
-use Rattle.room_schema.specs.Schema.{room_schema}
-use Rattle.room_statements.proofs.ReportsTable.{uncleared_reports_are, uncleared_reports_means}
-use Rattle.room_statements.specs.declared.reports.TheConstants.{UNCLEARED_REPORTS}
+use Rattle.room_tables_schema.specs.Schema.{room_schema}
+use Rattle.room_tables_rows.proofs.ReportsTable.{uncleared_reports_are, uncleared_reports_means}
+use Rattle.room_tables_rows.specs.declared.reports.TheConstants.{UNCLEARED_REPORTS}
 use Rattle.sqlite.specs.Held.{state}
 use Rattle.sqlite.specs.State.{HasCleanDisk}
 use Rattle.std.proofs.Common.{arith}
 use Rattle.std.proofs.lemmas.Result.{IfOk-weaker}
-use Rattle.table_laws.proofs.Refusals.{plain_here}
+use Rattle.room_tables_sql.proofs.Refusals.{plain_here}
 use Rattle.room_tables.proofs.reports.uncleared_reports.Goals as goal
 
 pub load-requires : goal.load-requires

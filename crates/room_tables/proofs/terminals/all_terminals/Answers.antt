@@ -1,10 +1,10 @@
 use Rattle.std.proofs.Common.{arith}
 use Rattle.sqlite.specs.Held.{state}
 use Rattle.sqlite.specs.State.{HasCleanDisk}
-use Rattle.table_laws.proofs.Refusals.{plain_here}
-use Rattle.room_schema.specs.Schema.{room_schema}
-use Rattle.room_statements.specs.declared.terminals.TheConstants.{ALL_TERMINALS}
-use Rattle.room_statements.proofs.TerminalsTable.{all_terminals_means, all_terminals_are}
+use Rattle.room_tables_sql.proofs.Refusals.{plain_here}
+use Rattle.room_tables_schema.specs.Schema.{room_schema}
+use Rattle.room_tables_rows.specs.declared.terminals.TheConstants.{ALL_TERMINALS}
+use Rattle.room_tables_rows.proofs.TerminalsTable.{all_terminals_means, all_terminals_are}
 use Rattle.room_tables.proofs.terminals.all_terminals.Goals as goal
 
 pub list-requires : goal.list-requires

@@ -1,12 +1,12 @@
 -- What was shown is what was asked for.
-use Rattle.room_schema.specs.Schema.{room_schema}
-use Rattle.room_statements.proofs.TerminalsTable.{crew_terminals_are, crew_terminals_means}
-use Rattle.room_statements.specs.declared.terminals.TheConstants.{CREW_TERMINALS}
+use Rattle.room_tables_schema.specs.Schema.{room_schema}
+use Rattle.room_tables_rows.proofs.TerminalsTable.{crew_terminals_are, crew_terminals_means}
+use Rattle.room_tables_rows.specs.declared.terminals.TheConstants.{CREW_TERMINALS}
 use Rattle.sqlite.specs.Held.{state}
 use Rattle.sqlite.specs.State.{HasCleanDisk}
 use Rattle.std.proofs.Common.{arith}
 use Rattle.std.proofs.lemmas.Result.{IfOk-weaker}
-use Rattle.table_laws.proofs.Refusals.{plain_here}
+use Rattle.room_tables_sql.proofs.Refusals.{plain_here}
 use Rattle.room_tables.proofs.terminals.crew_terminals.Goals as goal
 
 pub list-requires : goal.list-requires

@@ -1,5 +1,5 @@
 -- What ran is the change.
-use Rattle.room_statements.proofs.TerminalsTable.{put_terminal_makes}
+use Rattle.room_tables_rows.proofs.TerminalsTable.{put_terminal_makes}
 use Rattle.sqlite.specs.Held.{state}
 use Rattle.sqlite.specs.State.{HasCleanDisk}
 use Rattle.std.proofs.Common.{arith}

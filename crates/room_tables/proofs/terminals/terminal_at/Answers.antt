@@ -1,12 +1,12 @@
 -- What was shown is what was asked for.
-use Rattle.room_schema.specs.Schema.{room_schema}
-use Rattle.room_statements.proofs.TerminalsTable.{terminal_at_is, terminal_at_means}
-use Rattle.room_statements.specs.declared.terminals.TheConstants.{TERMINAL_AT}
+use Rattle.room_tables_schema.specs.Schema.{room_schema}
+use Rattle.room_tables_rows.proofs.TerminalsTable.{terminal_at_is, terminal_at_means}
+use Rattle.room_tables_rows.specs.declared.terminals.TheConstants.{TERMINAL_AT}
 use Rattle.sqlite.specs.Held.{state}
 use Rattle.sqlite.specs.State.{HasCleanDisk}
 use Rattle.std.proofs.Common.{arith}
 use Rattle.std.proofs.lemmas.Result.{IfOk-weaker}
-use Rattle.table_laws.proofs.Refusals.{plain_here}
+use Rattle.room_tables_sql.proofs.Refusals.{plain_here}
 use Rattle.room_tables.proofs.terminals.terminal_at.Goals as goal
 
 pub find-requires : goal.find-requires

@@ -1,0 +1,66 @@
+//! The example room, made in memory.
+ghost use Rattle.std.specs.Prelude.{◌≡◌, ◌⊎◌, IfOk, IfErr};
+ghost use Rattle.sqlite.specs.Steps.{over_memory};
+ghost use Rattle.room_types.specs.declared.refusals.Refusal.TheVariants as refusal;
+ghost use Rattle.room_service.specs.Rooms.{IsWant};
+ghost use Rattle.room_store.specs.Creating.{in_order, new_room};
+ghost use Rattle.room_store.specs.Keeping.{IsReady, IsRoom};
+ghost use Rattle.room_store.specs.declared.creating.CreateFault.TheVariants.{Memory, Storage};
+ghost use Rattle.dispatch_room_example.specs.Example.{example_plan, example_terminals, room_with_fleet, terminals_with_crews};
+
+use crate::example::{fleet, plan, terminals};
+use room_store::creating::CreateFault;
+use room_store::store::Store;
+use room_types::refusals::Refusal;
+use sqlite::{Connection, MemStore};
+use std::alloc::Global;
+
+/// The example room, made anew in memory: its plan and terminals, and then its fleet, enrolled row by
+/// row. A fault is of memory or of storage.
+pub fn example_room(alloc: Global) -> Result<Store<MemStore>, CreateFault>
+    ensures ready { IfOk result (IsReady over_memory) }
+    ensures zone { IfOk result (λ store. store.plan.zone ≡ example_plan.zone) }
+    ensures room { IfOk result (λ store. IsRoom over_memory store terminals_with_crews room_with_fleet) }
+    ensures fault { IfErr result (λ fault. (fault ≡ Memory) ⊎ (fault ≡ Storage)) }
+{
+    let mut store = empty_room(alloc)?;
+    let mut fates = Vec::new(alloc);
+    match store.import(&fleet(), &mut fates) {
+        Ok(()) => Ok(store),
+        Err(refusal) => {
+            let _ = store.close();
+            Err(fault_of(refusal))
+        }
+    }
+}
+
+// The room before any vehicle is enrolled.
+fn empty_room(alloc: Global) -> Result<Store<MemStore>, CreateFault>
+    ensures ready { IfOk result (IsReady over_memory) }
+    ensures zone { IfOk result (λ store. store.plan.zone ≡ example_plan.zone) }
+    ensures room { IfOk result (λ store. IsRoom over_memory store (in_order example_terminals) (new_room example_plan)) }
+    ensures fault { IfErr result (λ fault. (fault ≡ Memory) ⊎ (fault ≡ Storage)) }
+{
+    let Ok(plan) = plan(alloc) else {
+        return Err(CreateFault::Memory);
+    };
+    let Ok(conn) = Connection::open_in_memory(alloc) else {
+        return Err(CreateFault::Memory);
+    };
+    match Store::create(alloc, conn, &plan, &terminals()) {
+        Ok(store) => Ok(store),
+        Err((fault, _)) => Err(fault),
+    }
+}
+
+// A want of memory or storage, as a fault of making the room.
+fn fault_of(want: Refusal) -> CreateFault
+    requires { IsWant want }
+    ensures memory { want ≡ refusal.Memory → result ≡ Memory }
+    ensures storage { want ≡ refusal.Storage → result ≡ Storage }
+{
+    match want {
+        Refusal::Memory => CreateFault::Memory,
+        _ => CreateFault::Storage,
+    }
+}

@@ -1,9 +1,0 @@
-use Rattle.room_bodies.specs.Roles.{role_of}
-use Rattle.room_bodies.proofs.RoleLaws.{addressed, asked_is}
-use Rattle.room_bodies.proofs.laws.requests_are_addressed.Goals as goal
-
-pub returns-clause-asks : goal.returns-clause-asks
-returns-clause-asks c = λ t body a who r asked may. addressed (role_of t) a who r (asked_is t body a asked).0 may
-
-pub returns-clause-numbered : goal.returns-clause-numbered
-returns-clause-numbered c = λ t body a asked. (asked_is t body a asked).1

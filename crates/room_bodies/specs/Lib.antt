@@ -1,4 +1,0 @@
-pub mod Asking
-pub mod Bodies
-pub mod Fields
-pub mod Roles

@@ -1,0 +1,11 @@
+-- What an answer and its moment alone decide.
+use Rattle.std.specs.Prelude.{◌≡◌, ℕ, List, Bool, Result}
+use Rattle.room_types.specs.declared.answers.Answer.{Answer}
+use Rattle.room_types.specs.declared.refusals.Refusal.{Refusal}
+use Rattle.room_http_answers.specs.Replies.{IsReply}
+
+-- equal answers at equal moments have equal bytes
+abbrev pub IsOneReply : Type 0
+IsOneReply =
+    (answer : Result Answer Refusal) (at : ℕ) (head_only closing : Bool) (bytes others : List ℕ)
+    → IsReply answer at head_only closing bytes → IsReply answer at head_only closing others → bytes ≡ others

@@ -1,0 +1,113 @@
+-- Lemmas on reads.
+use Rattle.std.proofs.Common.{◌≡◌, ◌∙◌, ap, refl, arith, ℕ, ◌+◌, ◌-◌, ◌<◌, List, [], ◌∷◌, ◌++◌, length, append-nil, append_assoc, subst, drop, Bool, true, false, Option, Some, None, Result, Ok, Err}
+use Rattle.std.specs.Io.KnownBytes.{prepend_known, Keeps, Consumes, IsAtEnd}
+use Rattle.std.proofs.lemmas.List.{nil_from_length, drop-append-le}
+use Rattle.httparse.specs.Grammar.{print_request}
+use Rattle.room_http_messages.specs.declared.endings.Ending.{Ending}
+use Rattle.room_http_messages.specs.declared.endings.Ending.TheVariants.{End, Cut, ReadFault, Turns, Refused}
+use Rattle.room_http_messages.specs.declared.messages.Layout.{Layout}
+use Rattle.room_http_messages.specs.Messages.{WholeMessage, HasMessage, IsPart}
+use Rattle.room_http_messages.specs.Readings.{StopsAs, SaysOf, FirstIs, end_of}
+use Rattle.room_http_messages.specs.Streams.{CountsBy, Fills, Reads}
+use Rattle.room_http_messages.proofs.StreamLemmas.{Keeps-refl, Keeps-trans}
+
+CountsBy-none : (known : Option ℕ) → CountsBy 0 known known
+CountsBy-none None = refl
+CountsBy-none (Some n) = omega arith
+
+CountsBy-trans : (j k m : ℕ) (a b c : Option ℕ) → CountsBy j a b → CountsBy k b c → m ≡ j + k → CountsBy m a c
+CountsBy-trans j k m None None c first second is = second
+CountsBy-trans j k m None (Some n) c first second is = absurd (cc)
+CountsBy-trans j k m (Some n) None None first second is = tt
+CountsBy-trans j k m (Some n) None (Some x) first second is = absurd (cc)
+CountsBy-trans j k m (Some n) (Some x) None first second is = tt
+CountsBy-trans j k m (Some n) (Some x) (Some y) first second is = omega arith
+
+-- the stream that bytes go from to the inbox stays the same
+same_stream : (old new : Option (List ℕ)) (before more after : List ℕ) → after ≡ before ++ more → Consumes old new more
+    → Keeps (prepend_known before old) (prepend_known after new)
+same_stream None new before more after is taken = tt
+same_stream (Some old) None before more after is taken = taken
+same_stream (Some old) (Some new) before more after is taken = rw (is, taken) (append_assoc before more new)
+
+module _ {R : Type 0} (left : R → Option (List ℕ)) (reads : R → Option ℕ) where
+  pub Reads-none : (r : R) (bytes : List ℕ) (turns : ℕ) → Reads left reads r r bytes bytes turns turns
+  Reads-none r bytes turns =
+      let none : turns - turns ≡ 0 = omega arith in
+      record { same = Keeps-refl _; spent = omega arith; count = rw none (CountsBy-none (reads r)); room = omega arith }
+
+  pub Reads-trans : {a b c : R} {x y z : List ℕ} {s t u : ℕ} → Reads left reads a b x y s t → Reads left reads b c y z t u → Reads left reads a c x z s u
+  Reads-trans {s = s} {t = t} {u = u} first second = record {
+    same = Keeps-trans _ _ _ first.same second.same;
+    spent = omega (arith, first.spent, second.spent);
+    count = CountsBy-trans (s - t) (t - u) (s - u) _ _ _ first.count second.count (omega (arith, first.spent, second.spent));
+    room = omega (arith, first.room, second.room);
+  }
+
+  pub Reads-one : {E : Type 0} (failed ended : R → Bool) (old new : R) (before after : List ℕ) (n t u : ℕ)
+      → Fills {E = E} left reads failed ended old new before after (Ok n) → 0 < t → u ≡ t - 1 → Reads left reads old new before after t u
+  Reads-one failed ended old new before after n t u f some is =
+      let one : t - u ≡ 1 = omega arith in
+      record {
+        same = same_stream (left old) (left new) before f.bytes.0 after f.bytes.2 f.bytes.3;
+        spent = omega arith;
+        count = rw one f.count;
+        room = omega (arith, f.fits);
+      }
+
+-- a read that found the end ends the stream
+pub stops_at_end : (before bytes more : List ℕ) (turns : ℕ) (failed ended : Bool) (left : Option (List ℕ))
+    → length more ≡ 0 → bytes ≡ before ++ more → IsPart before → failed ≡ false → ended ≡ true → IsAtEnd left
+    → StopsAs bytes turns failed ended left (end_of bytes)
+stops_at_end before bytes more turns failed ended left none is part sound found end =
+    go bytes (is ∙ ap (λ t. before ++ t) (nil_from_length more none) ∙ append-nil before)
+  where
+    go : (bytes : List ℕ) → bytes ≡ before → StopsAs bytes turns failed ended left (end_of bytes)
+    go [] same = (refl, found, end, sound)
+    go (byte ∷ rest) same = ((omega arith, rw same part), found, end, sound)
+
+-- a part of a message that is short of so many bytes is one still with more
+pub part-append : (count : ℕ) (bytes after piece : List ℕ) → after ≡ bytes ++ piece
+    → ((more : List ℕ) → length (bytes ++ more) < count → IsPart (bytes ++ more))
+    → (more : List ℕ) → length (after ++ more) < count → IsPart (after ++ more)
+part-append count bytes after piece is part more short =
+    let same : after ++ more ≡ bytes ++ (piece ++ more) = rw is (append_assoc bytes piece more) in
+    rw same (part (piece ++ more) (rw same at short))
+
+-- bytes that follow leave a message at the front
+message-append : (bytes more : List ℕ) (m : WholeMessage) (rest : List ℕ) → HasMessage bytes m rest → HasMessage (bytes ++ more) m (rest ++ more)
+message-append bytes more m rest x = record {
+  begins = record {
+    reads = (
+      x.begins.reads.0,
+      ap (λ t. t ++ more) x.begins.reads.1 ∙ append_assoc (print_request m.head) (m.body ++ rest) more
+          ∙ ap (λ t. print_request m.head ++ t) (append_assoc m.body rest more),
+    );
+    few = x.begins.few;
+    fits = x.begins.fits;
+  };
+  sound = x.sound;
+  size = x.size;
+}
+
+-- what is said of the bytes that are kept and of the reader holds of the stream
+says_first : (kept more : List ℕ) (turns : ℕ) (failed ended : Bool) (result : Result Layout Ending)
+    → SaysOf kept turns failed ended (Some more) result → FirstIs (kept ++ more) kept result
+says_first kept more turns failed ended (Ok layout) says =
+    let whole = says.0 in
+    let rest = drop-append-le layout.body.end kept more whole.3.content.1 in
+    (whole.0, rw rest (message-append kept more whole.0 (drop layout.body.end kept) whole.1), whole.2)
+says_first kept more turns failed ended (Err End) says = λ _. rw (says.0, says.2) refl
+says_first kept more turns failed ended (Err Cut) says = λ _. rw (says.2, append-nil) says.0
+says_first kept more turns failed ended (Err (Refused r head_only)) says = λ _. says.0 more
+says_first kept more turns failed ended (Err ReadFault) says = λ is. absurd (cc)
+says_first kept more turns failed ended (Err Turns) says = λ is. absurd (cc)
+
+pub first_outcome : (old new : Option (List ℕ)) (before after : List ℕ) (turns : ℕ) (failed ended : Bool) (result : Result Layout Ending)
+    → Keeps (prepend_known before old) (prepend_known after new) → SaysOf after turns failed ended new result
+    → (stream : List ℕ) → prepend_known before old ≡ Some stream → FirstIs stream after result
+first_outcome None new before after turns failed ended result same says stream is = absurd (cc)
+first_outcome (Some old) None before after turns failed ended result same says stream is = absurd same
+first_outcome (Some old) (Some new) before after turns failed ended result same says stream is =
+    let whole : before ++ old ≡ stream = cc in
+    subst (λ (s : List ℕ). FirstIs s after result) (same ∙ whole) (says_first after new turns failed ended result says)

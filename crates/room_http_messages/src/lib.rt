@@ -1,0 +1,19 @@
+//! Requests of HTTP/1.0 and HTTP/1.1 read from a stream of bytes, and answers written to one.
+//!
+//! A stream is read piece by piece into an `Inbox`, and `read_message` finds the message at its
+//! front, or says why there is none. What is found doesn't depend on how the stream was cut.
+#![tactic(auto)]
+
+pub mod connection;
+pub mod endings;
+pub mod fields;
+pub mod inbox;
+pub mod laws;
+pub mod limits;
+pub mod looks;
+pub mod messages;
+pub mod reading;
+pub mod rules;
+pub mod sinks;
+pub mod sources;
+pub mod wires;

@@ -1,0 +1,109 @@
+-- What the fields of a body ask for: exactly the members named, each of its form and range.
+use Rattle.std.specs.Prelude.{ℕ, if◌then◌else◌, Option, Some, None, option_map, option_and_then, codes}
+use Rattle.serde_json.specs.Data.{Data}
+use Rattle.room_types.specs.Texts.{Callsign}
+use Rattle.room_types.specs.declared.asks.Ask.{Ask}
+use Rattle.room_types.specs.declared.asks.Ask.TheVariants as ask
+use Rattle.room_types.specs.declared.asks.CallForm.{CallForm}
+use Rattle.room_types.specs.declared.asks.Press.{Press}
+use Rattle.room_http_requests.specs.declared.targets.Target.{Target}
+use Rattle.room_http_requests.specs.declared.targets.Target.TheVariants as target
+use Rattle.room_http_requests.specs.Fields.{button_at, callsign_at, has_members, needs_at, note_at, number_at, place_at, point_at}
+
+-- what is found next, of what was found
+unfoldable pub and_then : {A B : Type 0} → Option A → (A → Option B) → Option B
+and_then found next = option_and_then next found
+
+-- what was found in an object of so many members
+unfoldable pub exactly : {A : Type 0} → ℕ → Data → Option A → Option A
+exactly count fields found = if has_members count fields then found else None
+
+-- an ask that takes no fields
+abbrev pub no_fields : Ask → Data → Option Ask
+no_fields a fields = exactly 0 fields (Some a)
+
+-- a call: serial 1 to 2147483647, a place, class 1 to 3, needs, a note
+unfoldable pub call_form : Data → Option CallForm
+call_form fields = exactly 5 fields (
+    and_then (number_at 1 2147483647 (codes "serial") fields) (λ serial.
+    and_then (place_at (codes "place") fields) (λ place.
+    and_then (number_at 1 3 (codes "class") fields) (λ class.
+    and_then (needs_at (codes "needs") fields) (λ needs.
+    and_then (note_at (codes "note") fields) (λ note.
+    Some (record { serial = serial; place = place; class = class; needs = needs; note = note })))))))
+
+-- a vehicle for an incident
+unfoldable pub mobilise : ℕ → Data → Option Ask
+mobilise incident fields = exactly 1 fields (
+    and_then (callsign_at (codes "vehicle") fields) (λ vehicle.
+    Some (ask.Mobilise incident vehicle)))
+
+-- new needs of an incident
+unfoldable pub needs_change : ℕ → Data → Option Ask
+needs_change incident fields = exactly 1 fields (
+    and_then (needs_at (codes "needs") fields) (λ needs.
+    Some (ask.Needs incident needs)))
+
+-- an incident into another, 1 to 2147483647
+unfoldable pub merge : ℕ → Data → Option Ask
+merge incident fields = exactly 1 fields (
+    and_then (number_at 1 2147483647 (codes "into") fields) (λ into.
+    Some (ask.Merge incident into)))
+
+-- a vehicle to a standby point, or to none
+unfoldable pub standby : Callsign → Data → Option Ask
+standby vehicle fields = exactly 1 fields (
+    and_then (point_at (codes "point") fields) (λ point.
+    Some (ask.Standby vehicle point)))
+
+-- a vehicle on duty at a place until a moment, 0 to 4102444799
+unfoldable pub duty : Callsign → Data → Option Ask
+duty vehicle fields = exactly 2 fields (
+    and_then (place_at (codes "place") fields) (λ place.
+    and_then (number_at 0 4102444799 (codes "until") fields) (λ until.
+    Some (ask.Duty vehicle place until))))
+
+-- a vehicle offered to a division, 1 to 9, until a moment
+unfoldable pub lend : Callsign → Data → Option Ask
+lend vehicle fields = exactly 2 fields (
+    and_then (number_at 1 9 (codes "to") fields) (λ to.
+    and_then (number_at 0 4102444799 (codes "until") fields) (λ until.
+    Some (ask.Lend vehicle to until))))
+
+-- a standby point's place and cover, 0 to 9
+unfoldable pub point_form : ℕ → Data → Option Ask
+point_form point fields = exactly 2 fields (
+    and_then (place_at (codes "place") fields) (λ place.
+    and_then (number_at 0 9 (codes "cover") fields) (λ cover.
+    Some (ask.SetPoint point place cover))))
+
+-- a report: number 1 to 2147483647, a button's name, order 0 to 2147483647, a place
+unfoldable pub press : Data → Option Press
+press fields = exactly 4 fields (
+    and_then (number_at 1 2147483647 (codes "number") fields) (λ number.
+    and_then (button_at (codes "button") fields) (λ button.
+    and_then (number_at 0 2147483647 (codes "order") fields) (λ order.
+    and_then (place_at (codes "place") fields) (λ place.
+    Some (record { number = number; button = button; order = order; place = place }))))))
+
+-- what the fields ask for of a target; none of one that takes no body
+abbrev pub posted : Target → Data → Option Ask
+posted target.Call fields = option_map ask.Call (call_form fields)
+posted (target.Mobilise n) fields = mobilise n fields
+posted (target.Needs n) fields = needs_change n fields
+posted (target.Merge n) fields = merge n fields
+posted (target.Close n) fields = no_fields (ask.Close n) fields
+posted (target.StandDown c) fields = no_fields (ask.StandDown c) fields
+posted (target.Standby c) fields = standby c fields
+posted (target.Duty c) fields = duty c fields
+posted (target.Off c) fields = no_fields (ask.Off c) fields
+posted (target.Lend c) fields = lend c fields
+posted (target.Withdraw c) fields = no_fields (ask.Withdraw c) fields
+posted (target.Decline c) fields = no_fields (ask.Decline c) fields
+posted (target.Accept c) fields = no_fields (ask.Accept c) fields
+posted (target.Recall c) fields = no_fields (ask.Recall c) fields
+posted (target.GiveBack c) fields = no_fields (ask.GiveBack c) fields
+posted (target.Clear c n) fields = no_fields (ask.Clear c n) fields
+posted (target.SetPoint n) fields = point_form n fields
+posted target.Report fields = option_map ask.Report (press fields)
+posted other fields = None

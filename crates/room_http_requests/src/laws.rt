@@ -1,0 +1,51 @@
+//! What holds of paths and asks. A law is the contract of a function that does nothing.
+
+ghost use Rattle.room_http_requests.specs.Examples.{AreRouted, Name, NameNothing, incident_names, other_names, requests, stray_days, stray_incidents, stray_numbers, stray_paths, stray_points, stray_vehicles, vehicle_names};
+ghost use Rattle.std.specs.Prelude.{◌≡◌, ℕ, ℤ, List, Some, true};
+ghost use Rattle.room_types.specs.declared.asks.Ask.{Ask};
+ghost use Rattle.room_types.specs.declared.asks.Who.{Who};
+ghost use Rattle.room_http_time.specs.Dates.{Date};
+ghost use Rattle.room_http_requests.specs.declared.targets.Target.{Target};
+ghost use Rattle.room_model.specs.Events.{IsNumbered};
+ghost use Rattle.room_model.specs.Room.{Room};
+ghost use Rattle.room_model.specs.Step.{is_for};
+ghost use Rattle.room_http_requests.specs.Asking.{wanted_by};
+ghost use Rattle.room_http_requests.specs.Roles.{is_known, is_of, role_of};
+
+/// Each path is found by its targets.
+pub fn targets_name_paths()
+    ensures incidents { Name incident_names }
+    ensures vehicles { Name vehicle_names }
+    ensures others { Name other_names }
+{}
+
+/// Targets that miss a path narrowly name nothing: with a number out of range or with a leading
+/// zero, a day that no calendar has, a slash too many, a query.
+pub fn strays_name_nothing()
+    ensures paths { NameNothing stray_paths }
+    ensures incidents { NameNothing stray_incidents }
+    ensures numbers { NameNothing stray_numbers }
+    ensures vehicles { NameNothing stray_vehicles }
+    ensures points { NameNothing stray_points }
+    ensures days { NameNothing stray_days }
+{}
+
+/// The methods of a path are taken, others are refused, and a target that names nothing is refused
+/// by any method.
+pub fn paths_take_methods()
+    ensures { AreRouted requests }
+{}
+
+ghost use Rattle.room_types.specs.declared.asks.Ask.TheVariants as ask;
+ghost use Rattle.room_http_requests.specs.declared.targets.Target.TheVariants as target;
+ghost use Rattle.room_http_requests.specs.declared.asking.Wanted.TheVariants as wanted;
+
+/// An ask that a request makes is for any known terminal of its target's role, and a report's number
+/// is from 1. So a request that passed the test of its role is addressed.
+pub fn requests_are_addressed()
+    ensures asks { (t : Target) (body : List ℕ) (a : Ask) (who : Who) (r : Room) → wanted_by t body ≡ Some (wanted.Ask a)
+        → is_of (role_of t) who ≡ true → is_for who a r ≡ is_known who r }
+    ensures times { (day : Date) (from to : ℤ) (who : Who) (r : Room) → is_of (role_of (target.Times day)) who ≡ true
+        → is_for who (ask.Times from to) r ≡ is_known who r }
+    ensures numbered { (t : Target) (body : List ℕ) (a : Ask) → wanted_by t body ≡ Some (wanted.Ask a) → IsNumbered a }
+{}

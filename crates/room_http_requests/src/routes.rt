@@ -1,0 +1,97 @@
+//! The paths in a router, and the one that a request names.
+ghost use Rattle.std.specs.Prelude.{◌≡◌, true, OnOk, IfErr};
+ghost use Rattle.room_http_requests.specs.Paths.{table, with_path, is_free_for, path_at, is_allowed};
+ghost use Rattle.room_http_requests.specs.Targets.{target_of, routed};
+ghost use Rattle.room_types.specs.declared.refusals.Refusal.TheVariants.{Memory};
+
+use crate::parameters::text_of;
+use crate::paths::{PATHS, Path};
+use crate::targets::{Target, named_by};
+use matchit::{InsertError, Router};
+use room_types::refusals::{Allow, Refusal};
+use std::alloc::Global;
+
+/// All paths of the room, ready to be looked up.
+#[derive(Drop)]
+pub struct Routes {
+    router: Router<Path>,
+    ghost rows: { router ≡ table },
+}
+
+/// Adds a path. An error is want of memory.
+#[tactic(auto, unfolding(crate::specs::Paths::with_path, crate::specs::Paths::is_free_for))]
+fn add(router: &mut Router<Path>, path: Path) -> Result<(), Refusal>
+    requires { is_free_for router.old path ≡ true }
+    ensures ok { OnOk result (router.new ≡ with_path router.old path) }
+    ensures err { IfErr result (λ refusal. refusal ≡ Memory) }
+{
+    match router.insert(path.pattern(), path) {
+        Ok(()) => Ok(()),
+        Err(InsertError::OutOfMemory) => Err(Refusal::Memory),
+        Err(_) => unreachable!(),
+    }
+}
+
+impl Routes {
+    /// All paths in a router. An error is want of memory.
+    #[tactic(auto, unfolding(crate::specs::Paths::table))]
+    pub fn new(alloc: Global) -> Result<Routes, Refusal>
+        ensures { IfErr result (λ refusal. refusal ≡ Memory) }
+    {
+        let mut router = Router::new(alloc);
+        for path in PATHS {
+            add(&mut router, path)?;
+        }
+        Ok(Routes { router })
+    }
+
+    /// The path that a target names, without its parameters.
+    #[tactic(auto, unfolding(crate::specs::Paths::path_at))]
+    fn path_at(&self, target: &str) -> Option<Path>
+        ensures { result ≡ path_at target.now }
+    {
+        match self.router.at(target) {
+            Ok(found) => Some(*found.value),
+            Err(_) => None,
+        }
+    }
+
+    /// What a target names: none where it is no path of the room, or a parameter is not of its form.
+    #[tactic(auto, unfolding(crate::specs::Targets::target_of))]
+    fn target_of(&self, target: &[u8]) -> Option<Target>
+        ensures { result ≡ target_of target.now }
+    {
+        let target = text_of(target)?;
+        let path = self.path_at(target)?;
+        named_by(path, target)
+    }
+
+    /// What a request names by its method and target.
+    ///
+    /// Refused as `NoPath` where the target is no path of the room or a parameter is not of its form
+    /// or range, then as `WrongMethod` where the path doesn't take the method. Methods are compared
+    /// with case, and HEAD is taken where GET is.
+    pub fn route(&self, method: &[u8], target: &[u8]) -> Result<Target, Refusal>
+        ensures { result ≡ routed method.now target.now }
+    {
+        let Some(target) = self.target_of(target) else {
+            return Err(Refusal::NoPath);
+        };
+        let allow = target.path().allow();
+        if is_allowed(allow, method) {
+            Ok(target)
+        } else {
+            Err(Refusal::WrongMethod(allow))
+        }
+    }
+}
+
+/// Whether a method is one of those.
+fn is_allowed(allow: Allow, method: &[u8]) -> bool
+    ensures { result ≡ is_allowed allow method.now }
+{
+    match allow {
+        Allow::GetHead => matches!(method, b"GET" | b"HEAD"),
+        Allow::Post => matches!(method, b"POST"),
+    }
+}

@@ -1,5 +1,0 @@
-use Rattle.room_message.proofs.LawLemmas.{one_message_law}
-use Rattle.room_message.proofs.laws.one_message.Goals as goal
-
-pub returns : goal.returns
-returns c = one_message_law

@@ -1,5 +1,0 @@
-use Rattle.room_message.proofs.LawLemmas.{one_reading_law}
-use Rattle.room_message.proofs.laws.one_reading.Goals as goal
-
-pub returns : goal.returns
-returns c = one_reading_law

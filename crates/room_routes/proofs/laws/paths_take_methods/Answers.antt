@@ -1,9 +1,0 @@
-use Rattle.std.proofs.Common.{refl}
-use Rattle.matchit.proofs.OnLiterals.{matchit_on_literals}
-use Rattle.room_routes.specs.Paths.{path_at, table, with_path}
-use Rattle.room_routes.specs.Targets.{target_of}
-use Rattle.room_routes.proofs.laws.paths_take_methods.Goals as goal
-
-pub returns : goal.returns
-unfolding target_of path_at table with_path matchit_on_literals
-returns c = refl

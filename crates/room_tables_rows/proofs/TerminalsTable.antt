@@ -1,0 +1,83 @@
+-- What the statements on the table terminals say, and what they make of a room. (Written by tools/tables.py.)
+use Rattle.room_model.specs.Enrol.{is_crew, terminal_key, token_cmp}
+use Rattle.room_model.specs.Room.{Room}
+use Rattle.room_tables_rows.proofs.Kept.{with_terminals}
+use Rattle.room_tables_rows.proofs.Loads.{Shows, ShowsAll, ShowsRow, all_rows, chosen_rows, row_of_key}
+use Rattle.room_tables_rows.proofs.Puts.{put_changes}
+use Rattle.room_tables_rows.proofs.RowLaws.{terminal_faithful}
+use Rattle.room_tables_rows.proofs.Tests.{cast-text_or_null, equal-crew}
+use Rattle.room_tables_rows.specs.Stands.{House}
+use Rattle.room_tables_rows.specs.Tables.{IsHeld, PutsRow, SelectsChosen}
+use Rattle.room_tables_rows.specs.Terminals.{terminal_row}
+use Rattle.room_tables_rows.specs.Writes.{Changes}
+use Rattle.room_tables_rows.specs.declared.terminals.TheConstants.{ALL_TERMINALS, CREW_TERMINALS, PUT_TERMINAL, TERMINAL_AT}
+use Rattle.room_tables_schema.specs.Schema.{room_schema, terminals_table}
+use Rattle.room_tables_sql.proofs.ColumnValues.{cast-Int}
+use Rattle.room_tables_sql.proofs.Comparisons.{and_last, conflict_of_one, tie-texts}
+use Rattle.room_tables_sql.proofs.StoredRows.{stores_row}
+use Rattle.room_tables_sql.specs.Outcomes.{Inside}
+use Rattle.room_tables_sql.specs.Statements.{Selects, StandsAlone, Stores, Upserts, equals, row_update, row_values}
+use Rattle.room_types.specs.Keyed.{put_row, row_at}
+use Rattle.room_types.specs.Texts.{Callsign, Token}
+use Rattle.room_types.specs.declared.fleet.Terminal.{Terminal}
+use Rattle.sqlite.specs.Listing.{understood}
+use Rattle.sqlite.specs.State.{Executes, State}
+use Rattle.sqlite_schema.specs.Rules.{equal}
+use Rattle.sqlite_tied.specs.Compute.{everything}
+use Rattle.sqlite_value.specs.Order.{column}
+use Rattle.sqlite_value.specs.declared.keys.Collation.TheVariants.{Binary}
+use Rattle.sqlite_value.specs.declared.value.Value.TheVariants.{Text}
+use Rattle.std.proofs.Common.{List, Ok, [], filter, refl, ℕ, ◌∷◌, ◌≡◌}
+use Rattle.std.specs.Ordering.{is_eq}
+
+abbrev all_of : House → Room → List Terminal
+all_of house room = house.terminals
+
+pub terminals_alone : StandsAlone room_schema 2 terminals_table
+terminals_alone = record { is_there = refl; unreferenced = λ olds news. refl; uncounted = refl }
+
+abbrev pub terminals_held : IsHeld token_cmp terminal_key terminal_row terminals_table all_of
+terminals_held = record { faithful = terminal_faithful; others = (2 ∷ 3 ∷ 4 ∷ []); places_are = refl; at = 2; alone = terminals_alone; held = λ trees house room h. h.terminals }
+
+pub all_terminals_means : Selects room_schema ALL_TERMINALS.now 2 (1 ∷ 2 ∷ 3 ∷ 4 ∷ []) (1 ∷ []) ([])
+unfolding understood everything
+all_terminals_means = record { names = _; command = refl; plain = (refl, refl); unlisted = refl }
+
+pub all_terminals_are : ShowsAll token_cmp terminal_key terminal_row terminals_table ALL_TERMINALS.now all_of
+all_terminals_are = all_rows terminals_held ALL_TERMINALS.now all_terminals_means
+
+pub terminal_at_means : Selects room_schema TERMINAL_AT.now 2 (1 ∷ 2 ∷ 3 ∷ 4 ∷ []) (1 ∷ []) (equals 1 0 ∷ [])
+unfolding understood everything
+terminal_at_means = record { names = _; command = refl; plain = (refl, refl); unlisted = refl }
+
+pub terminal_at_chooses : (k : Token) → SelectsChosen terminals_table terminal_row TERMINAL_AT.now (Text k ∷ []) (λ x. is_eq (token_cmp k (terminal_key x)))
+terminal_at_chooses k = record { terms = equals 1 0 ∷ []; selects = terminal_at_means; chooses = record { test = λ r. equal Binary (column r 0) (Text k); tells = λ r. and_last refl; same = λ x. tie-texts x.token k } }
+
+pub terminal_at_is : (k : Token) → ShowsRow terminal_row TERMINAL_AT.now (Text k ∷ []) (λ found house room. found ≡ row_at token_cmp terminal_key house.terminals k)
+terminal_at_is k = row_of_key terminals_held TERMINAL_AT.now (Text k ∷ []) k (terminal_at_chooses k)
+
+pub crew_terminals_means : Selects room_schema CREW_TERMINALS.now 2 (1 ∷ 2 ∷ 3 ∷ 4 ∷ []) (1 ∷ []) (equals 4 0 ∷ [])
+unfolding understood everything
+crew_terminals_means = record { names = _; command = refl; plain = (refl, refl); unlisted = refl }
+
+pub crew_terminals_chooses : (c : Callsign) → SelectsChosen terminals_table terminal_row CREW_TERMINALS.now (Text c ∷ []) (λ x. is_crew c x.who)
+crew_terminals_chooses c = record { terms = equals 4 0 ∷ []; selects = crew_terminals_means; chooses = record { test = λ r. equal Binary (column r 3) (Text c); tells = λ r. and_last refl; same = λ x. equal-crew x.who c } }
+
+pub crew_terminals_are : (c : Callsign) → Shows terminal_row CREW_TERMINALS.now (Text c ∷ []) (λ found house room. found ≡ filter (λ x. is_crew c x.who) house.terminals)
+crew_terminals_are c = chosen_rows terminals_held CREW_TERMINALS.now (Text c ∷ []) (λ x. is_crew c x.who) (crew_terminals_chooses c)
+
+pub put_terminal_means : Upserts room_schema PUT_TERMINAL.now 2 terminals_table (1 ∷ []) 4 (row_values 4) (row_update 4)
+unfolding understood everything
+put_terminal_means = record { command = refl; plain = (refl, refl) }
+
+pub terminal_stores : (x : Terminal) → Stores room_schema terminals_table (1 ∷ 2 ∷ 3 ∷ 4 ∷ []) (1 ∷ []) 4 (row_values 4) (row_update 4) (terminal_row x)
+unfolding Rattle.sqlite_value.specs.Keys.first_key
+terminal_stores x = stores_row room_schema terminals_table (1 ∷ 2 ∷ 3 ∷ 4 ∷ []) (1 ∷ []) 4 (terminal_row x)
+    (refl, (cast-Int _, (cast-Int _, (cast-text_or_null _, tt)))) refl (λ id. refl) (λ id r. conflict_of_one (column r 1) (Text x.token) refl) (λ id r. refl) (λ id r. refl)
+
+pub terminal_puts : PutsRow terminals_table terminal_row 2 PUT_TERMINAL.now
+terminal_puts = record { columns = 4; values = row_values 4; update = row_update 4; upserts = put_terminal_means; stores = terminal_stores }
+
+pub put_terminal_makes : (x : Terminal) (old new : State) (count : ℕ) → old.now.schema ≡ room_schema → Inside old new → Executes PUT_TERMINAL.now (terminal_row x) old new (Ok count)
+    → Changes old new (λ house. record house { terminals = put_row token_cmp terminal_key house.terminals x }) (λ room. room)
+put_terminal_makes x = put_changes terminals_held PUT_TERMINAL.now terminal_puts x (λ house. record house { terminals = put_row token_cmp terminal_key house.terminals x }) (λ room. room) (λ old new house room h only is. with_terminals old new house room h only _ is)

@@ -1,0 +1,18 @@
+-- What `meta` tells of the version of a file, whatever the other tables are.
+use Rattle.std.specs.Prelude.{◌≡◌, ℕ, List, [], ◌∷◌}
+use Rattle.sqlite_value.specs.Order.{Row, column}
+use Rattle.sqlite_trees.specs.Tree.{Trees}
+use Rattle.room_tables_sql.specs.Typed.{number}
+use Rattle.room_tables_schema.specs.Schema.{meta_table}
+
+-- The table `meta` has one row, and it tells the first version of these tables, which had no offers.
+pub record IsOfFirstVersion (trees : Trees) : Type 0 where
+  pub row : Row
+  pub alone : trees meta_table.tree ≡ row ∷ []
+  pub version : column row 2 ≡ number 1
+
+-- one row of `meta` was read, and it tells this version
+abbrev pub OneTells : ℕ → List Row → Type 0
+OneTells version [] = ⊥
+OneTells version (row ∷ []) = column row 1 ≡ number version
+OneTells version (_ ∷ _ ∷ _) = ⊥

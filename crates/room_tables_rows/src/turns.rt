@@ -1,0 +1,85 @@
+//! Turns: their columns, how they are read, and the statements on them.
+
+ghost use Rattle.room_tables_rows.specs.Turns.{is_turn_row};
+ghost use Rattle.room_tables_rows.specs.Turns.{turn_row};
+ghost use Rattle.room_tables_rows.specs.Keys.{numbered_cells};
+
+use crate::columns::{Field, Stored};
+use crate::fields::values_of;
+use crate::rows::{Columns, StoredRow};
+use room_types::callsign::Callsign;
+use room_types::numbers::Number;
+use room_types::tables::Turn;
+use sqlite::Row;
+
+impl Stored for Turn {
+    ghost cells = { turn_row };
+
+    ghost is_row = { is_turn_row };
+
+    fn read(row: &Row) -> Option<Turn> {
+        let (callsign, (order, (division, (incident, (kind, times))))) = values_of(row, 12)?;
+        let (ordered, (acknowledged, (scene, (left, (hospital, (ended, (stood_down, ()))))))) =
+            times;
+        Some(Turn {
+            callsign,
+            order,
+            division,
+            incident,
+            kind,
+            ordered,
+            acknowledged,
+            scene,
+            left,
+            hospital,
+            ended,
+            stood_down,
+        })
+    }
+}
+
+impl StoredRow for Turn {
+    ghost key_cells = { numbered_cells };
+
+    fn columns(&self) -> Columns<'_> {
+        Columns::of(&[
+            self.callsign.store(),
+            self.order.store(),
+            self.division.store(),
+            self.incident.store(),
+            self.kind.store(),
+            self.ordered.store(),
+            self.acknowledged.store(),
+            self.scene.store(),
+            self.left.store(),
+            self.hospital.store(),
+            self.ended.store(),
+            self.stood_down.store(),
+        ])
+    }
+
+    fn key_columns(key: &(Callsign, Number)) -> Columns<'_> {
+        Columns::of(&[key.0.store(), key.1.store()])
+    }
+}
+
+pub const ALL_TURNS: &str = "SELECT callsign, ord, division, incident, kind, ordered, \
+    acknowledged, scene, left_at, hospital, ended, stood_down \
+    FROM turns ORDER BY callsign, ord";
+
+pub const TURN_AT: &str = "SELECT callsign, ord, division, incident, kind, ordered, acknowledged, \
+    scene, left_at, hospital, ended, stood_down \
+    FROM turns WHERE callsign = ?1 AND ord = ?2 ORDER BY callsign, ord";
+
+pub const TURNS_OF: &str = "SELECT callsign, ord, division, incident, kind, ordered, acknowledged, \
+    scene, left_at, hospital, ended, stood_down \
+    FROM turns WHERE incident = ?1 AND division = ?2 ORDER BY callsign, ord";
+
+pub const PUT_TURN: &str = "INSERT INTO turns VALUES (?1, ?2, ?3, ?4, ?5, ?6, ?7, ?8, ?9, ?10, \
+    ?11, ?12) \
+    ON CONFLICT (callsign, ord) \
+    DO UPDATE SET callsign = excluded.callsign, ord = excluded.ord, \
+    division = excluded.division, incident = excluded.incident, kind = excluded.kind, \
+    ordered = excluded.ordered, acknowledged = excluded.acknowledged, scene = excluded.scene, \
+    left_at = excluded.left_at, hospital = excluded.hospital, ended = excluded.ended, \
+    stood_down = excluded.stood_down";

@@ -1,0 +1,58 @@
+-- What the texts that define tables and indexes make of a schema and of the rows.
+use Rattle.std.specs.Prelude.{◌≡◌, ◌⊎◌, ℕ, List, [], ◌∷◌, ◌++◌, Err, Contains}
+use Rattle.std.specs.List.{AllByRecursion}
+use Rattle.sqlite_trees.specs.Tree.{Trees}
+use Rattle.sqlite_schema.specs.declared.schema.Table.{Table}
+use Rattle.sqlite_schema.specs.declared.schema.Index.{Index}
+use Rattle.sqlite_schema.specs.declared.schema.Schema.{Schema}
+use Rattle.sqlite_catalog.specs.Change.{created, indexed, KeepsRows}
+use Rattle.sqlite.specs.Effect.{Database}
+use Rattle.sqlite.specs.State.{State, ExecutesInside, Survives}
+use Rattle.sqlite.specs.declared.error.Error.{Error}
+use Rattle.room_tables_sql.specs.Statements.{Creates, Indexes}
+use Rattle.room_tables_schema.specs.Faults.{fault_of}
+use Rattle.room_tables_schema.specs.declared.faults.Fault.{Fault}
+use Rattle.room_tables_schema.specs.Schema.{meta_tree, areas_tree, terminals_tree, divisions_tree, incidents_tree, calls_tree, vehicles_tree, turns_tree, assignments_tree, points_tree, loans_tree, reports_tree, offers_tree}
+
+-- the text makes a table or an index, which takes one schema to the next
+abbrev pub Defines : Schema → List ℕ → Schema → Type 0
+Defines schema text next =
+    ((table : Table) × Creates schema text table × (next ≡ created schema table))
+    ⊎ ((at : ℕ) × (table : Table) × (index : Index) × Indexes schema text at table index × (next ≡ indexed schema table index))
+
+-- the texts, one after the other, take one schema to the last
+abbrev pub Lead : Schema → List (List ℕ) → Schema → Type 0
+Lead schema [] last = schema ≡ last
+Lead schema (text ∷ more) last = (next : Schema) × Defines schema text next × Lead next more last
+
+-- The tables that were there keep their rows, and those that were made have none.
+pub record Grows (old new : Database) : Type 0 where
+  pub made : List Table
+  pub tables_are : new.schema.tables ≡ old.schema.tables ++ made
+  pub kept : KeepsRows old.schema.tables old.trees new.trees
+  pub blank : AllByRecursion (λ t. new.trees t.tree ≡ []) made
+
+-- One of the texts failed at a state that the transaction came to, and this is the fault that tells of it.
+pub record FailsAt (texts : List (List ℕ)) (old mid new : State) (fault : Fault) : Type 0 where
+  pub text : List ℕ
+  pub listed : Contains texts text
+  pub reached : Survives old mid (λ _. ⊥)
+  pub error : Error
+  pub failed : ExecutesInside 0 text [] mid new (Err error)
+  pub fault_is : fault ≡ fault_of error
+
+-- no table of a room has a row
+pub record IsBlank (trees : Trees) : Type 0 where
+  pub meta : trees meta_tree ≡ []
+  pub areas : trees areas_tree ≡ []
+  pub terminals : trees terminals_tree ≡ []
+  pub divisions : trees divisions_tree ≡ []
+  pub incidents : trees incidents_tree ≡ []
+  pub calls : trees calls_tree ≡ []
+  pub vehicles : trees vehicles_tree ≡ []
+  pub turns : trees turns_tree ≡ []
+  pub assignments : trees assignments_tree ≡ []
+  pub points : trees points_tree ≡ []
+  pub loans : trees loans_tree ≡ []
+  pub reports : trees reports_tree ≡ []
+  pub offers : trees offers_tree ≡ []
