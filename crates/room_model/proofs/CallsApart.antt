@@ -37,8 +37,7 @@ use Rattle.room_model.specs.Decisions.{changes_of}
 use Rattle.room_model.specs.Moments.{age, number_limit}
 use Rattle.room_model.specs.Queries.{is_candidate, is_nearer, kept_call, last_number, link_target}
 use Rattle.room_model.specs.Room.{IsInOrder, Room, apply}
-use Rattle.room_model.specs.ShareChanges.{IsPlain}
-use Rattle.room_model.specs.Shares.{own}
+use Rattle.room_model.specs.Shares.{IsPlain, own}
 use Rattle.room_model.specs.Step.{position_asks}
 use Rattle.room_model.specs.WellFormed.{IsWellFormed}
 use Rattle.room_model.specs.Working.{names_incident, names_moment, reads_incident, reads_number, working}

@@ -42,7 +42,7 @@ use Rattle.room_model.specs.Queries.{assignment_at, borrowed, calls_of, held, in
 use Rattle.room_model.specs.Queue.{clear, clear_found, show_queue}
 use Rattle.room_model.specs.Reports.{back_changes, drop_changes, ends_turn, is_due, is_home, order_of, outcome_of, report_held, report_in, report_kept, report_somewhere, turn_changes}
 use Rattle.room_model.specs.Room.{Room}
-use Rattle.room_model.specs.ShareChanges.{ArePlain, IsPlain}
+use Rattle.room_model.specs.Shares.{ArePlain, IsPlain}
 use Rattle.room_model.specs.Step.{crew_asks, decided, desk_asks, position_asks}
 use Rattle.room_model.specs.Vehicles.{duty, mobilise, mobilise_held, mobilised, off, off_duty, on_duty, show_vehicles, stand_down, stand_down_held, standby, standby_at, stands_by, turn_stood_down}
 use Rattle.room_types.specs.declared.answers.Answer.TheVariants as answer

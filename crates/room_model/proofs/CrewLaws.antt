@@ -26,8 +26,7 @@ use Rattle.room_model.specs.InHand.{in_hand}
 use Rattle.room_model.specs.Queries.{assignment_at, borrowed, held, kept_report, loan_at, open_turn, vehicle_at}
 use Rattle.room_model.specs.Reports.{order_of, report_held, report_in, report_kept, report_somewhere}
 use Rattle.room_model.specs.Room.{IsInOrder, Room, apply, apply_one}
-use Rattle.room_model.specs.ShareChanges.{ArePlain, IsPlain}
-use Rattle.room_model.specs.Shares.{mine}
+use Rattle.room_model.specs.Shares.{ArePlain, IsPlain, mine}
 use Rattle.room_model.specs.Step.{crew_asks, room_after}
 use Rattle.room_types.specs.declared.asks.Ask.TheVariants as ask
 

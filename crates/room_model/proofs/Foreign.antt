@@ -24,7 +24,7 @@ use Rattle.room_types.specs.Texts.{Callsign}
 use Rattle.room_model.proofs.OwnChanges.{in_order_one, own_apply_one}
 use Rattle.room_model.proofs.Tests.{row_key}
 use Rattle.room_model.specs.Room.{IsInOrder, Room, apply, apply_one, settled}
-use Rattle.room_model.specs.ShareChanges.{share_one}
+use Rattle.room_model.proofs.ShareChanges.{share_one}
 use Rattle.room_model.specs.Shares.{own}
 
 -- neither the old row nor the new one is the division's

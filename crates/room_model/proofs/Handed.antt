@@ -31,8 +31,8 @@ use Rattle.room_model.specs.Decisions.{Decided, changes_of, done, refuse_if, whe
 use Rattle.room_model.specs.Loans.{accept, accepted, decline, declined, give_back, given_back, lend, lender_of, loan_row, offer_row, offered, recall, recall_lent, withdraw, withdrawn}
 use Rattle.room_model.specs.Queries.{borrowed, held, lent, loan_at, offer_at, offered_by, offered_to, vehicle_at}
 use Rattle.room_model.specs.Room.{Room, apply, apply_one, settled}
-use Rattle.room_model.specs.ShareChanges.{IsPlain, share_one}
-use Rattle.room_model.specs.Shares.{own}
+use Rattle.room_model.proofs.ShareChanges.{share_one}
+use Rattle.room_model.specs.Shares.{IsPlain, own}
 use Rattle.room_model.specs.Step.{desk_asks}
 use Rattle.room_model.specs.WellFormed.{IsWellFormed, LoanAgrees, OfferAgrees}
 use Rattle.room_types.specs.declared.asks.Ask.TheVariants as ask

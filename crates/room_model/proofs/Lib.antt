@@ -30,9 +30,11 @@ pub mod QueueLaws
 pub mod RepeatLaws
 pub mod ReportsApart
 pub mod Runs
+pub mod ShareChanges
 pub mod Sights
 pub mod SliceLaws
 pub mod SliceLookUps
+pub mod StatusLaws
 pub mod Tests
 pub mod TurnChanges
 pub mod VehicleAgreements

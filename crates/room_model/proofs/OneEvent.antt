@@ -29,8 +29,7 @@ use Rattle.room_model.specs.Proposals.{all_proposed, propose}
 use Rattle.room_model.specs.Queries.{borrowed, held, incident_of, is_attended, lent, offered_by, open_turn, point_of, served}
 use Rattle.room_model.specs.Queue.{clear, clear_found, show_queue}
 use Rattle.room_model.specs.Room.{IsInOrder, Room, apply}
-use Rattle.room_model.specs.ShareChanges.{ArePlain}
-use Rattle.room_model.specs.Shares.{own}
+use Rattle.room_model.specs.Shares.{ArePlain, own}
 use Rattle.room_model.specs.Step.{desk_asks, room_after}
 use Rattle.room_model.specs.Vehicles.{duty, mobilise, mobilise_held, mobilised, off, off_duty, on_duty, show_vehicles, stand_down, stand_down_held, standby, standby_at, stands_by, turn_stood_down}
 use Rattle.room_model.specs.WellFormed.{IsWellFormed}

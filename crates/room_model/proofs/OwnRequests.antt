@@ -26,8 +26,8 @@ use Rattle.room_model.specs.Decisions.{answer_of, changes_of}
 use Rattle.room_model.specs.Loans.{accept, accepted, decline, declined, loan_row}
 use Rattle.room_model.specs.Queries.{offer_at, offered_to, vehicle_at}
 use Rattle.room_model.specs.Room.{Room, apply, apply_one, settled}
-use Rattle.room_model.specs.ShareChanges.{ArePlain, share_after, share_one}
-use Rattle.room_model.specs.Shares.{own}
+use Rattle.room_model.proofs.ShareChanges.{share_after, share_one}
+use Rattle.room_model.specs.Shares.{ArePlain, own}
 use Rattle.room_model.specs.Step.{desk_asks}
 use Rattle.room_model.specs.WellFormed.{IsWellFormed, OfferAgrees}
 use Rattle.room_types.specs.declared.asks.Ask.TheVariants as ask

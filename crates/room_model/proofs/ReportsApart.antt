@@ -36,8 +36,8 @@ use Rattle.room_model.specs.Decisions.{Decided, changes_of, tell}
 use Rattle.room_model.specs.Queries.{assignment_at, borrowed, held, kept_report, loan_at, open_turn, vehicle_at}
 use Rattle.room_model.specs.Reports.{back_changes, drop_changes, ends_turn, is_due, is_home, order_of, outcome_of, report_acts, report_held, report_in, report_kept, report_row, report_somewhere, status_after, take_report, turn_after, turn_changes, vehicle_after, with_report}
 use Rattle.room_model.specs.Room.{IsInOrder, Room, apply, apply_one}
-use Rattle.room_model.specs.ShareChanges.{ArePlain, IsPlain, share_after}
-use Rattle.room_model.specs.Shares.{own}
+use Rattle.room_model.proofs.ShareChanges.{share_after}
+use Rattle.room_model.specs.Shares.{ArePlain, IsPlain, own}
 use Rattle.room_model.specs.Step.{crew_asks, room_after}
 use Rattle.room_model.specs.WellFormed.{IsWellFormed}
 use Rattle.room_types.specs.declared.answers.Answer.TheVariants as answer

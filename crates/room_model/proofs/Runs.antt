@@ -30,7 +30,7 @@ use Rattle.room_model.specs.Queries.{kept_call, kept_report, lent, loan_at, offe
 use Rattle.room_model.specs.Room.{Room, apply}
 use Rattle.room_model.specs.Run.{is_desk, room_run, told}
 use Rattle.room_model.specs.Shares.{own}
-use Rattle.room_model.specs.Step.{IsAddressed, answer_to, decided, desk_asks, room_after}
+use Rattle.room_model.specs.Step.{answer_to, decided, desk_asks, room_after}
 use Rattle.room_model.specs.WellFormed.{IsWellFormed}
 use Rattle.room_types.specs.declared.asks.Ask.TheVariants as ask
 

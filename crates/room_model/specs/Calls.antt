@@ -20,17 +20,50 @@ use Rattle.room_types.specs.declared.refusals.Refusal.TheVariants as refusal
 
 -- a call form, with its position and moment
 abbrev pub new_call : ℕ → CallForm → ℕ → NewCall
-new_call p f at = record { position = p; serial = f.serial; place = f.place; class = f.class; needs = f.needs; note = f.note; at = at }
+new_call p f at = record {
+  position = p;
+  serial = f.serial;
+  place = f.place;
+  class = f.class;
+  needs = f.needs;
+  note = f.note;
+  at = at;
+}
 
 abbrev pub call_row : ℕ → ℕ → Bool → NewCall → Call
-call_row d n linked new = record { position = new.position; serial = new.serial; division = d; incident = n; given = n; linked = linked; place = new.place; class = new.class; needs = new.needs; note = new.note; at = new.at }
+call_row d n linked new = record {
+  position = new.position;
+  serial = new.serial;
+  division = d;
+  incident = n;
+  given = n;
+  linked = linked;
+  place = new.place;
+  class = new.class;
+  needs = new.needs;
+  note = new.note;
+  at = new.at;
+}
 
 -- an incident with one more call: the lower class, the larger needs, the earlier opening
 abbrev pub with_call : NewCall → Incident → Incident
-with_call new i = record i { class = min i.class new.class; needs = larger i.needs new.needs; opened = min i.opened new.at }
+with_call new i = record i {
+  class = min i.class new.class;
+  needs = larger i.needs new.needs;
+  opened = min i.opened new.at;
+}
 
 abbrev pub new_incident : ℕ → ℕ → NewCall → Incident
-new_incident d n new = record { division = d; number = n; place = new.place; class = new.class; needs = new.needs; opened = new.at; first_order = None; state = Active }
+new_incident d n new = record {
+  division = d;
+  number = n;
+  place = new.place;
+  class = new.class;
+  needs = new.needs;
+  opened = new.at;
+  first_order = None;
+  state = Active;
+}
 
 -- a call that makes an incident
 abbrev pub call_new : ℕ → NewCall → Option Division → Decided
@@ -43,7 +76,8 @@ call_new d new (Some v) = refuse_if (nat_le number_limit v.last_incident) refusa
 
 -- a call that is linked, where there is an incident for it
 abbrev pub call_taken : ℕ → NewCall → Option Incident → Option Division → Decided
-call_taken d new (Some i) v = tell (answer.Called d i.number true) (PutIncident (with_call new i) ∷ PutCall (call_row d i.number true new) ∷ [])
+call_taken d new (Some i) v = tell (answer.Called d i.number true)
+    (PutIncident (with_call new i) ∷ PutCall (call_row d i.number true new) ∷ [])
 call_taken d new None v = call_new d new v
 
 -- a call that is not kept, in its division
@@ -51,7 +85,9 @@ unfoldable pub call_in : ℕ → NewCall → Room → Decided
 call_in d new r = call_taken d new (link_target d new.place new.at r) (last_number d r)
 
 abbrev pub same_call : Call → NewCall → Bool
-same_call c new = same_place c.place new.place && (c.class == new.class && (same_needs c.needs new.needs && same_note c.note new.note))
+same_call c new =
+    same_place c.place new.place
+    && (c.class == new.class && (same_needs c.needs new.needs && same_note c.note new.note))
 
 abbrev pub call_somewhere : Option ℕ → NewCall → Room → Decided
 call_somewhere None new r = Err refusal.OutsideArea
@@ -59,7 +95,8 @@ call_somewhere (Some d) new r = call_in d new r
 
 -- a kept serial gets its kept reply before anything else
 abbrev pub call_kept : Option Call → NewCall → Room → Decided
-call_kept (Some k) new r = refuse_if (not (same_call k new)) refusal.SerialReused (show (answer.Called k.division k.given k.linked))
+call_kept (Some k) new r = refuse_if (not (same_call k new)) refusal.SerialReused
+    (show (answer.Called k.division k.given k.linked))
 call_kept None new r = call_somewhere (division_of r.plan new.place) new r
 
 abbrev pub take_call : NewCall → Room → Decided

@@ -77,14 +77,19 @@ newly_recalled d c (Some l) = cond (l.borrower == d && not l.recalled) (Some (Re
 
 -- a vehicle that a give-back or a Home report sends to d
 abbrev pub arrival : ℕ → Callsign → Room → Room → Option Crossing
-arrival d c r after = cond (is_loan_ended d (loan_at c r) (loan_at c after)) (option_map Arrive (vehicle_at c after)) None
+arrival d c r after = cond (is_loan_ended d (loan_at c r) (loan_at c after))
+    (option_map Arrive (vehicle_at c after)) None
 
 -- what a request of another desk h, that is done, hands to d
 abbrev pub cross_other : ℕ → ℕ → Ask → Room → Room → Option Crossing
-cross_other d h (ask.Lend c to until) r after = cond (to == d) (option_map OfferIn (offer_at c after)) None
-cross_other d h (ask.Withdraw c) r after = cond (is_offered_to d (offer_at c r)) (Some (Withdrawn c)) None
-cross_other d h (ask.Decline c) r after = cond (is_offered_by d (offer_at c r)) (Some (Declined c)) None
-cross_other d h (ask.Accept c) r after = cond (is_offered_by d (offer_at c r)) (option_map Left (loan_at c after)) None
+cross_other d h (ask.Lend c to until) r after =
+    cond (to == d) (option_map OfferIn (offer_at c after)) None
+cross_other d h (ask.Withdraw c) r after =
+    cond (is_offered_to d (offer_at c r)) (Some (Withdrawn c)) None
+cross_other d h (ask.Decline c) r after =
+    cond (is_offered_by d (offer_at c r)) (Some (Declined c)) None
+cross_other d h (ask.Accept c) r after =
+    cond (is_offered_by d (offer_at c r)) (option_map Left (loan_at c after)) None
 cross_other d h (ask.Recall c) r after = newly_recalled d c (lent h c r)
 cross_other d h (ask.GiveBack c) r after = arrival d c r after
 cross_other d h a r after = None
@@ -99,15 +104,19 @@ cross_own done e (ask.Accept c) r = cond done (with_vehicle e (vehicle_at c r)) 
 cross_own done e a r = Asked e
 
 abbrev pub cross_desk : ℕ → ℕ → Event → Room → Option Crossing
-cross_desk d h e r = cond (h == d) (Some (cross_own (is_ok (decided e r)) e e.ask r)) (cond (is_ok (decided e r)) (cross_other d h e.ask r (room_after e r)) None)
+cross_desk d h e r = cond (h == d)
+    (Some (cross_own (is_ok (decided e r)) e e.ask r))
+    (cond (is_ok (decided e r)) (cross_other d h e.ask r (room_after e r)) None)
 
 abbrev pub cross_call : ℕ → Event → CallForm → Option Call → Room → Option Crossing
 cross_call d e f (Some k) r = None
-cross_call d e f None r = cond (is_division_of d (division_of r.plan f.place)) (Some (CallIn e)) None
+cross_call d e f None r =
+    cond (is_division_of d (division_of r.plan f.place)) (Some (CallIn e)) None
 
 abbrev pub cross_report : ℕ → Event → Callsign → Option Report → Room → Room → Option Crossing
 cross_report d e c (Some k) r after = None
-cross_report d e c None r after = cond (is_held_by d (vehicle_at c r)) (Some (ReportIn e)) (arrival d c r after)
+cross_report d e c None r after =
+    cond (is_held_by d (vehicle_at c r)) (Some (ReportIn e)) (arrival d c r after)
 
 abbrev pub cross_position : ℕ → ℕ → Event → Ask → Room → Option Crossing
 cross_position d p e (ask.Call f) r = cross_call d e f (kept_call p f.serial r) r

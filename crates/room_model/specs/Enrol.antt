@@ -1,4 +1,5 @@
--- What becomes of a fleet row: the vehicle and its crew's terminal are new, or they are there, or the row is refused.
+-- What becomes of a fleet row: the vehicle and its crew's terminal are new, or they are there, or
+-- the row is refused.
 use Rattle.std.specs.Cmp.Lexicographic.{slice_cmp}
 use Rattle.std.specs.Ordering.{nat_cmp}
 use Rattle.std.specs.Prelude.{Bool, List, None, Option, Some, cond, false, is_some, option_map, true, ℕ, ◌&&◌, ◌==◌, ◌≡◌}
@@ -44,20 +45,34 @@ is_crews_terminal c (Some t) = is_crew c t.who
 
 -- the vehicle is there as the row has it, but for its place
 abbrev pub is_same_vehicle : Vehicle → Option Terminal → FleetRow → Bool
-is_same_vehicle v t x = v.home == x.division && (same_kind v.kind x.kind && is_crews_terminal x.callsign t)
+is_same_vehicle v t x =
+    v.home == x.division && (same_kind v.kind x.kind && is_crews_terminal x.callsign t)
 
 abbrev pub fate_by : Option Vehicle → Option Terminal → FleetRow → RowFate
 fate_by (Some v) t x = cond (is_same_vehicle v t x) Same (Refused refusal.CallsignTaken)
 fate_by None (Some t) x = Refused refusal.TokenTaken
 fate_by None None x = Added
 
--- a division outside the plan is refused first, then a callsign that is taken, then a token that is taken
+-- a division outside the plan is refused first, then a callsign that is taken, then a token
 abbrev pub fate_of : Room → List Terminal → FleetRow → RowFate
-fate_of r ts x = cond (has_division r.plan x.division) (fate_by (row_at callsign_cmp vehicle_key r.vehicles x.callsign) (terminal_at x.token ts) x) (Refused refusal.NoSuchDivision)
+fate_of r ts x = cond (has_division r.plan x.division)
+    (fate_by (row_at callsign_cmp vehicle_key r.vehicles x.callsign) (terminal_at x.token ts) x)
+    (Refused refusal.NoSuchDivision)
 
 -- a vehicle that is added is off duty at home, its shift is over, and it has used no numbers
 abbrev pub new_vehicle : FleetRow → Vehicle
-new_vehicle x = record { callsign = x.callsign; home = x.division; holder = x.division; kind = x.kind; place = x.place; status = OffDuty; shift_end = 0; post = None; last_order = 0; last_report = 0 }
+new_vehicle x = record {
+  callsign = x.callsign;
+  home = x.division;
+  holder = x.division;
+  kind = x.kind;
+  place = x.place;
+  status = OffDuty;
+  shift_end = 0;
+  post = None;
+  last_order = 0;
+  last_report = 0;
+}
 
 abbrev pub new_terminal : FleetRow → Terminal
 new_terminal x = record { token = x.token; who = Crew x.callsign }
@@ -85,13 +100,21 @@ room_enrolled r ts x = room_by (fate_of r ts x) x r
 abbrev pub terminals_enrolled : Room → List Terminal → FleetRow → List Terminal
 terminals_enrolled r ts x = terminals_by (fate_of r ts x) x ts
 
--- the terminals fit the room: a token names one terminal, each vehicle has exactly one crew terminal, each crew's vehicle is there, each desk's division is in the plan
+-- the terminals fit the room: a token names one terminal, each vehicle has exactly one crew
+-- terminal, each crew's vehicle is there, each desk's division is in the plan
 pub record AreTerminals (r : Room) (ts : List Terminal) : Type 0 where
   pub keyed : IsKeyed token_cmp terminal_key ts
-  pub has_crew : (c : Callsign) → is_some (row_at callsign_cmp vehicle_key r.vehicles c) ≡ true → (k : Token) × (terminal_at k ts ≡ Some (record { token = k; who = Crew c }))
-  pub one_crew : (j k : Token) (c : Callsign) → terminal_at j ts ≡ Some (record { token = j; who = Crew c }) → terminal_at k ts ≡ Some (record { token = k; who = Crew c }) → j ≡ k
-  pub crews : (k : Token) (c : Callsign) → terminal_at k ts ≡ Some (record { token = k; who = Crew c }) → is_some (row_at callsign_cmp vehicle_key r.vehicles c) ≡ true
-  pub desks : (k : Token) (d : ℕ) → terminal_at k ts ≡ Some (record { token = k; who = Desk d }) → has_division r.plan d ≡ true
+  pub has_crew : (c : Callsign) →
+      is_some (row_at callsign_cmp vehicle_key r.vehicles c) ≡ true →
+      (k : Token) × (terminal_at k ts ≡ Some (record { token = k; who = Crew c }))
+  pub one_crew : (j k : Token) (c : Callsign) →
+      terminal_at j ts ≡ Some (record { token = j; who = Crew c }) →
+      terminal_at k ts ≡ Some (record { token = k; who = Crew c }) → j ≡ k
+  pub crews : (k : Token) (c : Callsign) →
+      terminal_at k ts ≡ Some (record { token = k; who = Crew c }) →
+      is_some (row_at callsign_cmp vehicle_key r.vehicles c) ≡ true
+  pub desks : (k : Token) (d : ℕ) →
+      terminal_at k ts ≡ Some (record { token = k; who = Desk d }) → has_division r.plan d ≡ true
 
 -- the home and kind of a callsign's vehicle
 abbrev pub home_and_kind : Vehicle → ℕ × Kind

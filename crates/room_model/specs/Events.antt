@@ -36,7 +36,8 @@ AreAddressed (e ∷ es) r = IsAddressed e r × IsNumbered e.ask × AreAddressed 
 -- none offers a vehicle, answers an offer, recalls or gives back, and no loan changes
 abbrev pub AreLocal : List Event → Room → Type 0
 AreLocal [] r = Unit {0}
-AreLocal (e ∷ es) r = (is_local e.ask ≡ true) × ((room_after e r).loans ≡ r.loans) × AreLocal es (room_after e r)
+AreLocal (e ∷ es) r =
+    (is_local e.ask ≡ true) × ((room_after e r).loans ≡ r.loans) × AreLocal es (room_after e r)
 
 -- what a division is handed, without the events that hand it nothing
 abbrev pub received : List (Option Crossing) → List Crossing

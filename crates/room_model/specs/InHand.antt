@@ -7,4 +7,6 @@ use Rattle.room_model.specs.Shares.{mine}
 
 -- the vehicle's rows, and of its reports that of one number alone
 abbrev pub in_hand : Callsign → ℕ → Room → Room
-in_hand c n r = record (mine c r) { reports = filter (λ x. same_callsign x.callsign c && x.number == n) r.reports }
+in_hand c n r = record (mine c r) {
+  reports = filter (λ x. same_callsign x.callsign c && x.number == n) r.reports;
+}

@@ -24,25 +24,42 @@ lacking d i r k = need_of i.needs k - served d i.number k r
 
 -- ---- incidents
 abbrev pub incident_line : ℕ → Room → Incident → IncidentLine
-incident_line d r i = record { number = i.number; place = i.place; class = i.class; needs = i.needs; lack = needs_by (lacking d i r); opened = i.opened; calls = length (calls_of d i.number r) }
+incident_line d r i = record {
+  number = i.number;
+  place = i.place;
+  class = i.class;
+  needs = i.needs;
+  lack = needs_by (lacking d i r);
+  opened = i.opened;
+  calls = length (calls_of d i.number r);
+}
 
 unfoldable pub show_incidents : ℕ → Room → Decided
 show_incidents d r = show (answer.Incidents (map (incident_line d r) (active_incidents d r)))
 
 -- ---- needs
 abbrev pub is_below : Counts → (Kind → ℕ) → Bool
-is_below n got = nat_lt n.ambulances (got Ambulance) || (nat_lt n.cars (got Car) || nat_lt n.support (got Support))
+is_below n got =
+    nat_lt n.ambulances (got Ambulance)
+    || (nat_lt n.cars (got Car) || nat_lt n.support (got Support))
 
 abbrev pub needs_changed : Counts → (Kind → ℕ) → Incident → Decided
-needs_changed n got i = refuse_if (is_below n got) refusal.BelowServed (done (PutIncident (record i { needs = n }) ∷ []))
+needs_changed n got i = refuse_if (is_below n got) refusal.BelowServed
+    (done (PutIncident (record i { needs = n }) ∷ []))
 
 unfoldable pub change_needs : ℕ → ℕ → Counts → Room → Decided
-change_needs d n needs r = where_active (incident_of d n r) (needs_changed needs (λ k. served d n k r))
+change_needs d n needs r =
+    where_active (incident_of d n r) (needs_changed needs (λ k. served d n k r))
 
 -- ---- merge
 -- the incident that another goes into
 abbrev pub joined : Incident → Incident → Incident
-joined n m = record m { class = min n.class m.class; needs = larger n.needs m.needs; opened = min n.opened m.opened; first_order = earlier n.first_order m.first_order }
+joined n m = record m {
+  class = min n.class m.class;
+  needs = larger n.needs m.needs;
+  opened = min n.opened m.opened;
+  first_order = earlier n.first_order m.first_order;
+}
 
 abbrev pub moved_call : ℕ → Call → Change
 moved_call m c = PutCall (record c { incident = m })
@@ -53,7 +70,9 @@ merge_both n m attended calls =
     (refuse_if (not (is_active n.state)) refusal.IncidentNotOpen
     (refuse_if (not (is_active m.state)) refusal.IncidentNotOpen
     (refuse_if attended refusal.StillAssigned
-    (done (PutIncident (joined n m) ∷ PutIncident (record n { state = Merged m.number }) ∷ map (moved_call m.number) calls)))))
+    (done (PutIncident (joined n m)
+    ∷ PutIncident (record n { state = Merged m.number })
+    ∷ map (moved_call m.number) calls)))))
 
 abbrev pub merge_of : Option Incident → Option Incident → Bool → List Call → Decided
 merge_of None m attended calls = Err refusal.NoSuchIncident
@@ -61,11 +80,13 @@ merge_of (Some n) None attended calls = Err refusal.NoSuchIncident
 merge_of (Some n) (Some m) attended calls = merge_both n m attended calls
 
 unfoldable pub merge : ℕ → ℕ → ℕ → Room → Decided
-merge d n m r = merge_of (incident_of d n r) (incident_of d m r) (is_attended d n r) (calls_of d n r)
+merge d n m r =
+    merge_of (incident_of d n r) (incident_of d m r) (is_attended d n r) (calls_of d n r)
 
 -- ---- close
 abbrev pub close_active : Bool → Incident → Decided
-close_active attended i = refuse_if attended refusal.StillAssigned (done (PutIncident (record i { state = Closed }) ∷ []))
+close_active attended i = refuse_if attended refusal.StillAssigned
+    (done (PutIncident (record i { state = Closed }) ∷ []))
 
 unfoldable pub close : ℕ → ℕ → Room → Decided
 close d n r = where_active (incident_of d n r) (close_active (is_attended d n r))

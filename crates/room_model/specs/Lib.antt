@@ -1,25 +1,43 @@
+-- The meaning of the room. Read from the top: what a room is, what an event makes of it, and what a
+-- division sees of that. Go on to the requests as you need them.
+
+-- ---- the main law's words
+-- a room: a plan, and lists of rows
 pub mod Room
+-- who sends events, and which events reach a room
+pub mod Events
+-- what is decided of an event, and the room after it
+pub mod Step
+-- the same over a list of events
+pub mod Run
+-- the rows of the room that one division owns
 pub mod Shares
+-- what an event hands to a division
+pub mod Crossing
+-- what becomes of a division by what it is handed alone
+pub mod Alone
+-- ---- what the other laws speak of
+-- what always holds of a room
+pub mod WellFormed
+-- what becomes of a row of a fleet
+pub mod Enrol
+-- the few rows that a request reads
+pub mod Working
+pub mod InHand
 pub mod Slices
-pub mod Moments
-pub mod Queries
+-- ---- the requests, a group a file, as Step cites them
+-- the form of each decision, and what it asks of the room
 pub mod Decisions
+pub mod Queries
+pub mod Moments
+-- calls, and a desk's asks
 pub mod Calls
 pub mod Incidents
+pub mod Proposals
 pub mod Vehicles
 pub mod Loans
 pub mod Points
-pub mod Proposals
 pub mod Queue
 pub mod DayTimes
+-- a crew's asks
 pub mod Reports
-pub mod Step
-pub mod Run
-pub mod Enrol
-pub mod Crossing
-pub mod Alone
-pub mod WellFormed
-pub mod Working
-pub mod ShareChanges
-pub mod Events
-pub mod InHand

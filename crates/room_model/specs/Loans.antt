@@ -17,7 +17,13 @@ use Rattle.room_types.specs.declared.refusals.Refusal.TheVariants as refusal
 
 -- ---- lend
 abbrev pub offer_row : Vehicle → ℕ → ℕ → ℕ → ℕ → Offer
-offer_row v d to until at = record { callsign = v.callsign; lender = d; borrower = to; since = at; until = until }
+offer_row v d to until at = record {
+  callsign = v.callsign;
+  lender = d;
+  borrower = to;
+  since = at;
+  until = until;
+}
 
 abbrev pub offered : List Area → ℕ → ℕ → ℕ → ℕ → Vehicle → Decided
 offered plan d to until at v =
@@ -26,7 +32,8 @@ offered plan d to until at v =
     (refuse_if (is_busy v.status) refusal.StillAssigned
     (refuse_if (not (is_free v.status)) refusal.WrongStatus
     (refuse_if (nat_le v.shift_end at) refusal.ShiftOver
-    (done (PutVehicle (record v { status = Offered; post = None }) ∷ PutOffer (offer_row v d to until at) ∷ []))))))
+    (done (PutVehicle (record v { status = Offered; post = None })
+    ∷ PutOffer (offer_row v d to until at) ∷ []))))))
 
 unfoldable pub lend : ℕ → Callsign → ℕ → ℕ → ℕ → Room → Decided
 lend d c to until at r = where_held (held d c r) (lent d c r) (offered r.plan d to until at)
@@ -34,7 +41,8 @@ lend d c to until at r = where_held (held d c r) (lent d c r) (offered r.plan d 
 -- ---- withdraw
 abbrev pub withdrawn : Option Offer → Vehicle → Decided
 withdrawn None v = Err refusal.NoSuchOffer
-withdrawn (Some o) v = done (PutVehicle (record v { status = Available }) ∷ DropOffer v.callsign ∷ [])
+withdrawn (Some o) v =
+    done (PutVehicle (record v { status = Available }) ∷ DropOffer v.callsign ∷ [])
 
 unfoldable pub withdraw : ℕ → Callsign → Room → Decided
 withdraw d c r = where_held (held d c r) (lent d c r) (withdrawn (offered_by d c r))
@@ -48,11 +56,19 @@ unfoldable pub decline : ℕ → Callsign → Room → Decided
 decline d c r = declined (offered_to d c r)
 
 abbrev pub loan_row : Offer → ℕ → Loan
-loan_row o at = record { callsign = o.callsign; lender = o.lender; borrower = o.borrower; since = at; until = o.until; recalled = false }
+loan_row o at = record {
+  callsign = o.callsign;
+  lender = o.lender;
+  borrower = o.borrower;
+  since = at;
+  until = o.until;
+  recalled = false;
+}
 
 abbrev pub accepted : Option Offer → ℕ → Decided
 accepted None at = Err refusal.NoSuchOffer
-accepted (Some o) at = done (Settle o.callsign o.borrower ∷ DropOffer o.callsign ∷ PutLoan (loan_row o at) ∷ [])
+accepted (Some o) at =
+    done (Settle o.callsign o.borrower ∷ DropOffer o.callsign ∷ PutLoan (loan_row o at) ∷ [])
 
 unfoldable pub accept : ℕ → Callsign → ℕ → Room → Decided
 accept d c at r = accepted (offered_to d c r) at
@@ -76,7 +92,8 @@ abbrev pub given_back : ℕ → Option Loan → Vehicle → Decided
 given_back d l v =
     refuse_if (v.home == d) refusal.NoSuchLoan
     (refuse_if (is_busy v.status) refusal.StillAssigned
-    (done (PutVehicle (record v { holder = lender_of v l; post = None }) ∷ DropLoan v.callsign ∷ [])))
+    (done (PutVehicle (record v { holder = lender_of v l; post = None })
+    ∷ DropLoan v.callsign ∷ [])))
 
 unfoldable pub give_back : ℕ → Callsign → Room → Decided
 give_back d c r = where_held (held d c r) (lent d c r) (given_back d (borrowed d c r))

@@ -20,13 +20,20 @@ use Rattle.room_types.specs.declared.answers.Answer.TheVariants as answer
 
 -- those that don't break cover first, then the nearer, then by callsign
 abbrev pub proposal_cmp : Proposal → Proposal → Ordering
-proposal_cmp a b = ordering_then (bool_cmp a.breaks b.breaks) (ordering_then (nat_cmp a.distance b.distance) (callsign_cmp a.callsign b.callsign))
+proposal_cmp a b =
+    ordering_then (bool_cmp a.breaks b.breaks)
+    (ordering_then (nat_cmp a.distance b.distance) (callsign_cmp a.callsign b.callsign))
 
 abbrev pub is_before : Proposal → Proposal → Bool
 is_before a b = is_lt (proposal_cmp a b)
 
 abbrev pub proposal_of : ℕ → Incident → ℕ → Room → Vehicle → Proposal
-proposal_of d i at r v = record { breaks = breaks_cover d at r v; distance = distance v.place i.place; kind = v.kind; callsign = v.callsign }
+proposal_of d i at r v = record {
+  breaks = breaks_cover d at r v;
+  distance = distance v.place i.place;
+  kind = v.kind;
+  callsign = v.callsign;
+}
 
 -- the eligible vehicles of a kind
 abbrev pub eligible : ℕ → Kind → ℕ → Room → List Vehicle
@@ -45,7 +52,10 @@ abbrev pub AreProposed : ℕ → Incident → ℕ → Room → Kind → List Pro
 AreProposed d i at r k ps = AreFirst is_before (lacking d i r k) None (candidates d i k at r) ps
 
 abbrev pub all_proposed : ℕ → Incident → ℕ → Room → List Proposal
-all_proposed d i at r = proposed d i at r Ambulance ++ (proposed d i at r Car ++ proposed d i at r Support)
+all_proposed d i at r =
+    proposed d i at r Ambulance
+    ++ (proposed d i at r Car ++ proposed d i at r Support)
 
 unfoldable pub propose : ℕ → ℕ → ℕ → Room → Decided
-propose d n at r = where_active (incident_of d n r) (λ i. show (answer.Proposals (all_proposed d i at r)))
+propose d n at r =
+    where_active (incident_of d n r) (λ i. show (answer.Proposals (all_proposed d i at r)))

@@ -58,11 +58,13 @@ offers_of d r = filter (owns_offer d) r.offers
 
 -- the vehicle's assignment in the division
 unfoldable pub assignment_of : ℕ → Callsign → Room → Option Assignment
-assignment_of d c r = keep (λ a. a.division == d) (row_at callsign_cmp assignment_key r.assignments c)
+assignment_of d c r =
+    keep (λ a. a.division == d) (row_at callsign_cmp assignment_key r.assignments c)
 
 -- the vehicle's open turn in the division
 unfoldable pub open_turn : ℕ → Callsign → Room → Option Turn
-open_turn d c r = first (filter (λ t. t.division == d && (same_callsign t.callsign c && is_none t.ended)) r.turns)
+open_turn d c r =
+    first (filter (λ t. t.division == d && (same_callsign t.callsign c && is_none t.ended)) r.turns)
 
 -- ---- incidents
 unfoldable pub incident_of : ℕ → ℕ → Room → Option Incident
@@ -73,7 +75,10 @@ active_incidents d r = filter (λ i. i.division == d && is_active i.state) r.inc
 
 -- the active and closed incidents opened from one moment and before another
 unfoldable pub incidents_opened : ℕ → ℤ → ℤ → Room → List Incident
-incidents_opened d from to r = filter (λ i. i.division == d && (not (is_merged i.state) && (int_le from (pos i.opened) && int_lt (pos i.opened) to))) r.incidents
+incidents_opened d from to r = filter
+    (λ i. i.division == d
+    && (not (is_merged i.state) && (int_le from (pos i.opened) && int_lt (pos i.opened) to)))
+    r.incidents
 
 -- the calls that belong to an incident now
 unfoldable pub calls_of : ℕ → ℕ → Room → List Call
@@ -89,7 +94,9 @@ counts t = is_none t.ended || (is_some t.scene || (is_some t.left || is_some t.h
 
 -- how many turns of the kind the incident has got
 unfoldable pub served : ℕ → ℕ → Kind → Room → ℕ
-served d n k r = length (filter (λ t. t.division == d && (t.incident == n && (same_kind t.kind k && counts t))) r.turns)
+served d n k r = length (filter
+    (λ t. t.division == d && (t.incident == n && (same_kind t.kind k && counts t)))
+    r.turns)
 
 -- the incident has an open turn
 unfoldable pub is_attended : ℕ → ℕ → Room → Bool
@@ -97,11 +104,15 @@ is_attended d n r = list_any (λ t. t.division == d && (t.incident == n && is_no
 
 -- an active incident of the division, near and young enough
 abbrev pub is_candidate : ℕ → Place → ℕ → Incident → Bool
-is_candidate d p at i = i.division == d && (is_active i.state && (nat_le (distance i.place p) 200 && nat_le (age at i.opened) 900))
+is_candidate d p at i =
+    i.division == d
+    && (is_active i.state && (nat_le (distance i.place p) 200 && nat_le (age at i.opened) 900))
 
 -- by distance, and then by number
 abbrev pub is_nearer : Place → Incident → Incident → Bool
-is_nearer p i j = nat_lt (distance i.place p) (distance j.place p) || (distance i.place p == distance j.place p && nat_lt i.number j.number)
+is_nearer p i j =
+    nat_lt (distance i.place p) (distance j.place p)
+    || (distance i.place p == distance j.place p && nat_lt i.number j.number)
 
 -- the incident that a call at this place is linked to
 unfoldable pub link_target : ℕ → Place → ℕ → Room → Option Incident

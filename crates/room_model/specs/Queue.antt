@@ -24,60 +24,106 @@ use Rattle.room_types.specs.declared.refusals.Refusal.TheVariants as refusal
 
 -- 1: an active incident that nobody serves
 abbrev pub is_unserved : ℕ → ℕ → Room → Bool
-is_unserved d n r = served d n Ambulance r == 0 && (served d n Car r == 0 && served d n Support r == 0)
+is_unserved d n r =
+    served d n Ambulance r == 0 && (served d n Car r == 0 && served d n Support r == 0)
 
 abbrev pub unserved : ℕ → ℕ → Room → Incident → Option Entry
-unserved d at r i = cond (i.division == d && (is_active i.state && (is_unserved d i.number r && nat_lt 180 (age at i.opened))))
-    (Some (record { rank = 1; since = i.opened; number = i.number; callsign = None })) None
+unserved d at r i = cond
+    (i.division == d
+    && (is_active i.state && (is_unserved d i.number r && nat_lt 180 (age at i.opened))))
+    (Some (record {
+      rank = 1;
+      since = i.opened;
+      number = i.number;
+      callsign = None;
+    })) None
 
 -- 2: an order that is not acknowledged
 abbrev pub unread_turn : ℕ → Vehicle → Option Turn → Option Entry
 unread_turn at v None = None
 unread_turn at v (Some t) = cond (is_none t.acknowledged && nat_lt 60 (age at t.ordered))
-    (Some (record { rank = 2; since = t.ordered; number = t.incident; callsign = Some v.callsign })) None
+    (Some (record {
+      rank = 2;
+      since = t.ordered;
+      number = t.incident;
+      callsign = Some v.callsign;
+    })) None
 
 abbrev pub unread : ℕ → ℕ → Room → Vehicle → Option Entry
-unread d at r v = cond (v.holder == d && is_mobilised v.status) (unread_turn at v (open_turn d v.callsign r)) None
+unread d at r v = cond (v.holder == d && is_mobilised v.status)
+    (unread_turn at v (open_turn d v.callsign r)) None
 
 -- 3: a vehicle that is on its way for too long
 abbrev pub slow_incident : ℕ → Vehicle → Option Incident → Option Entry
 slow_incident at v None = None
 slow_incident at v (Some i) = cond (nat_lt (scene_limit i.class) (age at i.opened))
-    (Some (record { rank = 3; since = i.opened; number = i.number; callsign = Some v.callsign })) None
+    (Some (record {
+      rank = 3;
+      since = i.opened;
+      number = i.number;
+      callsign = Some v.callsign;
+    })) None
 
 abbrev pub slow_turn : ℕ → ℕ → Room → Vehicle → Option Turn → Option Entry
 slow_turn d at r v None = None
 slow_turn d at r v (Some t) = slow_incident at v (incident_of d t.incident r)
 
 abbrev pub slow : ℕ → ℕ → Room → Vehicle → Option Entry
-slow d at r v = cond (v.holder == d && is_mobilised v.status) (slow_turn d at r v (open_turn d v.callsign r)) None
+slow d at r v = cond (v.holder == d && is_mobilised v.status)
+    (slow_turn d at r v (open_turn d v.callsign r)) None
 
 -- 4: a report out of turn
 abbrev pub is_exception : ℕ → Report → Bool
 is_exception d x = x.division == d && (not (is_normal x.outcome) && not x.cleared)
 
 abbrev pub exception : ℕ → Report → Option Entry
-exception d x = cond (is_exception d x) (Some (record { rank = 4; since = x.at; number = x.number; callsign = Some x.callsign })) None
+exception d x = cond (is_exception d x)
+    (Some (record {
+      rank = 4;
+      since = x.at;
+      number = x.number;
+      callsign = Some x.callsign;
+    })) None
 
 -- 5: a loan that is over
 abbrev pub overdue : ℕ → ℕ → Loan → Option Entry
 overdue d at l = cond (owns_loan d l && nat_lt l.until at)
-    (Some (record { rank = 5; since = l.until; number = cond (l.lender == d) l.borrower l.lender; callsign = Some l.callsign })) None
+    (Some (record {
+      rank = 5;
+      since = l.until;
+      number = cond (l.lender == d) l.borrower l.lender;
+      callsign = Some l.callsign;
+    })) None
 
 -- 6: a shift that is over
 abbrev pub shift_over : ℕ → ℕ → Vehicle → Option Entry
 shift_over d at v = cond (v.holder == d && (not (is_off v.status) && nat_le v.shift_end at))
-    (Some (record { rank = 6; since = v.shift_end; number = 0; callsign = Some v.callsign })) None
+    (Some (record {
+      rank = 6;
+      since = v.shift_end;
+      number = 0;
+      callsign = Some v.callsign;
+    })) None
 
 -- 7: a point with too few vehicles
 abbrev pub uncovered : ℕ → ℕ → Room → Point → Option Entry
 uncovered d at r p = cond (p.division == d && nat_lt (length (holders d p.number at r)) p.cover)
-    (Some (record { rank = 7; since = 0; number = p.number; callsign = None })) None
+    (Some (record {
+      rank = 7;
+      since = 0;
+      number = p.number;
+      callsign = None;
+    })) None
 
 -- 8: an offer that nobody answers
 abbrev pub unanswered : ℕ → ℕ → Offer → Option Entry
 unanswered d at o = cond (owns_offer d o && nat_lt 300 (age at o.since))
-    (Some (record { rank = 8; since = o.since; number = cond (o.lender == d) o.borrower o.lender; callsign = Some o.callsign })) None
+    (Some (record {
+      rank = 8;
+      since = o.since;
+      number = cond (o.lender == d) o.borrower o.lender;
+      callsign = Some o.callsign;
+    })) None
 
 -- all entries of the division
 unfoldable pub entries : ℕ → ℕ → Room → List Entry
@@ -108,7 +154,8 @@ show_queue d at r = show (answer.Queue (ordered_from [] (entries d at r)))
 -- ---- clear
 abbrev pub clear_found : Option Report → Decided
 clear_found None = Err refusal.NoSuchException
-clear_found (Some x) = refuse_if (x.cleared || is_normal x.outcome) refusal.NoSuchException (done (PutReport (record x { cleared = true }) ∷ []))
+clear_found (Some x) = refuse_if (x.cleared || is_normal x.outcome) refusal.NoSuchException
+    (done (PutReport (record x { cleared = true }) ∷ []))
 
 unfoldable pub clear : ℕ → Callsign → ℕ → Room → Decided
 clear d c n r = clear_found (report_of d c n r)

@@ -1,4 +1,5 @@
--- A crew's reports.
+-- A crew's reports. The table of buttons comes first: what each makes of a status. Then what a
+-- report comes to, what it changes, and last whose report it is.
 use Rattle.std.specs.Prelude.{Bool, Err, List, None, Option, Some, [], cond, false, is_some, max, nat_lt, not, true, ℕ, ◌&&◌, ◌++◌, ◌==◌, ◌||◌, ◌∷◌}
 use Rattle.room_place.specs.Places.{same_place}
 use Rattle.room_types.specs.declared.asks.Press.{Press}
@@ -25,8 +26,10 @@ use Rattle.room_types.specs.declared.answers.Answer.TheVariants as answer
 use Rattle.room_types.specs.declared.codes.Button.TheVariants as button
 use Rattle.room_types.specs.declared.refusals.Refusal.TheVariants as refusal
 
+-- ---- the table
 -- the outcome of one button, out of those of all seven in their order
-abbrev pub of_button : Button → Outcome → Outcome → Outcome → Outcome → Outcome → Outcome → Outcome → Outcome
+abbrev pub of_button : Button →
+    Outcome → Outcome → Outcome → Outcome → Outcome → Outcome → Outcome → Outcome
 of_button button.Position position mobile scene leave hospital back home = position
 of_button button.Mobile position mobile scene leave hospital back home = mobile
 of_button button.Scene position mobile scene leave hospital back home = scene
@@ -40,7 +43,8 @@ of_button button.Home position mobile scene leave hospital back home = home
 abbrev pub press : Status → Button → Bool → Outcome
 press OffDuty b seen = of_button b Wrong Wrong Wrong Wrong Wrong Wrong Wrong
 press Available b seen = of_button b Normal Wrong Wrong Wrong Wrong Wrong Normal
-press Mobilised b seen = of_button b Normal Normal (cond seen Normal Skipped) Skipped Skipped Skipped Skipped
+press Mobilised b seen =
+    of_button b Normal Normal (cond seen Normal Skipped) Skipped Skipped Skipped Skipped
 press AtScene b seen = of_button b Normal Wrong Normal Normal Skipped Normal Skipped
 press Leaving b seen = of_button b Normal Wrong Wrong Normal Normal Skipped Skipped
 press AtHospital b seen = of_button b Normal Wrong Wrong Wrong Normal Normal Skipped
@@ -58,33 +62,6 @@ status_after s button.Return = Returning
 status_after Offered button.Home = Offered
 status_after s button.Home = Available
 
-abbrev pub turn_after : Button → ℕ → Turn → Turn
-turn_after button.Position at t = t
-turn_after button.Mobile at t = record t { acknowledged = first_of t.acknowledged at }
-turn_after button.Scene at t = record t { scene = first_of t.scene at }
-turn_after button.Leave at t = record t { left = first_of t.left at }
-turn_after button.Hospital at t = record t { hospital = first_of t.hospital at }
-turn_after button.Return at t = record t { ended = Some at }
-turn_after button.Home at t = record t { ended = Some at }
-
-abbrev pub ends_turn : Button → Bool
-ends_turn button.Position = false
-ends_turn button.Mobile = false
-ends_turn button.Scene = false
-ends_turn button.Leave = false
-ends_turn button.Hospital = false
-ends_turn button.Return = true
-ends_turn button.Home = true
-
-abbrev pub is_home : Button → Bool
-is_home button.Position = false
-is_home button.Mobile = false
-is_home button.Scene = false
-is_home button.Leave = false
-is_home button.Hospital = false
-is_home button.Return = false
-is_home button.Home = true
-
 -- the button speaks of an order
 abbrev pub names_order : Button → Bool
 names_order button.Position = false
@@ -95,6 +72,37 @@ names_order button.Hospital = true
 names_order button.Return = true
 names_order button.Home = false
 
+-- what a button that acts writes into the open turn
+abbrev pub turn_after : Button → ℕ → Turn → Turn
+turn_after button.Position at t = t
+turn_after button.Mobile at t = record t { acknowledged = first_of t.acknowledged at }
+turn_after button.Scene at t = record t { scene = first_of t.scene at }
+turn_after button.Leave at t = record t { left = first_of t.left at }
+turn_after button.Hospital at t = record t { hospital = first_of t.hospital at }
+turn_after button.Return at t = record t { ended = Some at }
+turn_after button.Home at t = record t { ended = Some at }
+
+-- the button ends the turn, and with it the assignment
+abbrev pub ends_turn : Button → Bool
+ends_turn button.Position = false
+ends_turn button.Mobile = false
+ends_turn button.Scene = false
+ends_turn button.Leave = false
+ends_turn button.Hospital = false
+ends_turn button.Return = true
+ends_turn button.Home = true
+
+-- the button that takes a lent vehicle back
+abbrev pub is_home : Button → Bool
+is_home button.Position = false
+is_home button.Mobile = false
+is_home button.Scene = false
+is_home button.Leave = false
+is_home button.Hospital = false
+is_home button.Return = false
+is_home button.Home = true
+
+-- ---- what a report comes to
 abbrev pub is_acknowledged : Option Turn → Bool
 is_acknowledged None = false
 is_acknowledged (Some t) = is_some t.acknowledged
@@ -106,41 +114,71 @@ outcome_of v t p =
     (cond (names_order p.button && not (p.order == v.last_order)) Stale
     (press v.status p.button (is_acknowledged t)))
 
+-- ---- what a report changes
 -- the vehicle has to go back to its lender
 abbrev pub is_due : ℕ → Option Loan → Bool
 is_due at None = false
 is_due at (Some l) = l.recalled || nat_lt l.until at
 
+-- every report counts for the last number
 abbrev pub with_report : Vehicle → Press → Vehicle
 with_report v p = record v { last_report = max v.last_report p.number }
 
+-- the vehicle after a report that acts, which may send it back to its lender
 abbrev pub vehicle_after : Vehicle → Option Loan → Press → Bool → Vehicle
-vehicle_after v l p back = record (with_report v p) { status = status_after v.status p.button; place = p.place; holder = cond back (lender_of v l) v.holder; post = cond back None v.post }
+vehicle_after v l p back = record (with_report v p) {
+  status = status_after v.status p.button;
+  place = p.place;
+  holder = cond back (lender_of v l) v.holder;
+  post = cond back None v.post;
+}
 
 abbrev pub report_row : Vehicle → Press → ℕ → Outcome → Status → Report
-report_row v p at o s = record { callsign = v.callsign; number = p.number; button = p.button; order = p.order; place = p.place; at = at; division = v.holder; outcome = o; status = s; cleared = false }
+report_row v p at o s = record {
+  callsign = v.callsign;
+  number = p.number;
+  button = p.button;
+  order = p.order;
+  place = p.place;
+  at = at;
+  division = v.holder;
+  outcome = o;
+  status = s;
+  cleared = false;
+}
 
 abbrev pub turn_changes : Button → ℕ → Option Turn → List Change
 turn_changes b at None = []
 turn_changes b at (Some t) = PutTurn (turn_after b at t) ∷ []
 
-abbrev pub back_changes : Callsign → Bool → List Change
-back_changes c false = []
-back_changes c true = DropLoan c ∷ []
-
 abbrev pub drop_changes : Callsign → Bool → List Change
 drop_changes c false = []
 drop_changes c true = DropAssignment c ∷ []
 
--- the vehicle's row comes last
-abbrev pub report_acts : Vehicle → Option Turn → Option Loan → Press → ℕ → Outcome → Bool → List Change
-report_acts v t l p at o back = PutReport (report_row v p at o (status_after v.status p.button)) ∷ turn_changes p.button at t ++ (drop_changes v.callsign (ends_turn p.button) ++ (back_changes v.callsign back ++ PutVehicle (vehicle_after v l p back) ∷ []))
+abbrev pub back_changes : Callsign → Bool → List Change
+back_changes c false = []
+back_changes c true = DropLoan c ∷ []
 
+-- a report that acts; the vehicle's row comes last
+abbrev pub report_acts :
+    Vehicle → Option Turn → Option Loan → Press → ℕ → Outcome → Bool → List Change
+report_acts v t l p at o back =
+    PutReport (report_row v p at o (status_after v.status p.button))
+    ∷ turn_changes p.button at t
+    ++ (drop_changes v.callsign (ends_turn p.button)
+    ++ (back_changes v.callsign back
+    ++ PutVehicle (vehicle_after v l p back) ∷ []))
+
+-- a report that does not act is kept, and changes no more
 abbrev pub report_made : Vehicle → Option Turn → Option Loan → Press → ℕ → Outcome → Decided
 report_made v t l p at o = cond (acts o)
-    (tell (answer.Reported p.number o (status_after v.status p.button)) (report_acts v t l p at o (is_home p.button && is_due at l)))
-    (tell (answer.Reported p.number o v.status) (PutReport (report_row v p at o v.status) ∷ PutVehicle (with_report v p) ∷ []))
+    (tell (answer.Reported p.number o (status_after v.status p.button))
+    (report_acts v t l p at o (is_home p.button && is_due at l)))
+    (tell (answer.Reported p.number o v.status)
+    (PutReport (report_row v p at o v.status)
+    ∷ PutVehicle (with_report v p) ∷ []))
 
+-- ---- whose report it is
 abbrev pub report_held : Option Vehicle → Option Turn → Option Loan → Press → ℕ → Decided
 report_held None t l p at = Err refusal.NoSuchVehicle
 report_held (Some v) t l p at = report_made v t l p at (outcome_of v t p)
@@ -158,7 +196,8 @@ report_somewhere (Some v) c p at r = report_in v.holder c p at r
 
 -- a kept number gets its kept reply before anything else
 abbrev pub report_kept : Option Report → Callsign → Press → ℕ → Room → Decided
-report_kept (Some k) c p at r = refuse_if (not (same_press k p)) refusal.NumberReused (show (answer.Reported k.number k.outcome k.status))
+report_kept (Some k) c p at r = refuse_if (not (same_press k p)) refusal.NumberReused
+    (show (answer.Reported k.number k.outcome k.status))
 report_kept None c p at r = report_somewhere (vehicle_at c r) c p at r
 
 abbrev pub take_report : Callsign → Press → ℕ → Room → Decided

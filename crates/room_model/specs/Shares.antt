@@ -1,7 +1,9 @@
 -- The rows that one division owns, and the rows of one vehicle.
-use Rattle.std.specs.Prelude.{[], filter, is_none, ℕ, ◌&&◌}
+use Rattle.std.specs.Prelude.{List, [], filter, is_none, ℕ, ◌&&◌, ◌∷◌}
 use Rattle.room_types.specs.Keys.{owns_assignment, owns_call, owns_division, owns_incident, owns_loan, owns_offer, owns_point, owns_report, owns_turn, owns_vehicle, same_callsign}
 use Rattle.room_types.specs.Texts.{Callsign}
+use Rattle.room_types.specs.declared.changes.Change.{Change}
+use Rattle.room_types.specs.declared.changes.Change.TheVariants.{Settle}
 use Rattle.room_model.specs.Room.{Room}
 
 -- the same plan, and the rows that division d owns
@@ -35,3 +37,12 @@ mine c r = record {
   offers = filter (λ x. same_callsign x.callsign c) r.offers;
   reports = filter (λ x. same_callsign x.callsign c) r.reports;
 }
+
+-- a row to put or to drop, which a share can follow by itself
+abbrev pub IsPlain : Change → Type 0
+IsPlain (Settle c d) = ⊥
+IsPlain x = Unit {0}
+
+abbrev pub ArePlain : List Change → Type 0
+ArePlain [] = Unit {0}
+ArePlain (c ∷ cs) = IsPlain c × ArePlain cs

@@ -24,11 +24,14 @@ room_of plan s = record {
   reports = s.reports;
 }
 
--- what the room has of vehicle c: the turn is that of its last order, where it is not ended, and the report that of number n
+-- what the room has of vehicle c: the turn is that of its last order, where it is not ended, and
+-- the report that of number n
 pub record AreCrewRows (c : Callsign) (n : ℕ) (r : Room) (x : CrewRows) : Type 0 where
   pub vehicle : row_at callsign_cmp vehicle_key r.vehicles c ≡ Some x.vehicle
   pub assignment : row_at callsign_cmp assignment_key r.assignments c ≡ x.assignment
-  pub turn : keep (λ t. is_none t.ended) (row_at numbered_cmp turn_key r.turns (c, x.vehicle.last_order)) ≡ x.turn
+  pub turn :
+      keep (λ t. is_none t.ended) (row_at numbered_cmp turn_key r.turns (c, x.vehicle.last_order))
+      ≡ x.turn
   pub loan : row_at callsign_cmp loan_key r.loans c ≡ x.loan
   pub offer : row_at callsign_cmp offer_key r.offers c ≡ x.offer
   pub report : row_at numbered_cmp report_key r.reports (c, n) ≡ x.report

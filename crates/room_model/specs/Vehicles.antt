@@ -23,17 +23,46 @@ use Rattle.room_types.specs.declared.refusals.Refusal.TheVariants as refusal
 
 -- ---- vehicles
 abbrev pub vehicle_line : ℕ → Room → Vehicle → VehicleLine
-vehicle_line d r v = record { callsign = v.callsign; home = v.home; incident = option_map (λ a. a.incident) (assignment_of d v.callsign r); kind = v.kind; place = v.place; post = v.post; shift_end = v.shift_end; status = v.status }
+vehicle_line d r v = record {
+  callsign = v.callsign;
+  home = v.home;
+  incident = option_map (λ a. a.incident) (assignment_of d v.callsign r);
+  kind = v.kind;
+  place = v.place;
+  post = v.post;
+  shift_end = v.shift_end;
+  status = v.status;
+}
 
 unfoldable pub show_vehicles : ℕ → Room → Decided
 show_vehicles d r = show (answer.Vehicles (map (vehicle_line d r) (all_held d r)))
 
 -- ---- mobilise
 abbrev pub turn_row : ℕ → ℕ → ℕ → Vehicle → Turn
-turn_row d n at v = record { callsign = v.callsign; order = v.last_order + 1; division = d; incident = n; kind = v.kind; ordered = at; acknowledged = None; scene = None; left = None; hospital = None; ended = None; stood_down = false }
+turn_row d n at v = record {
+  callsign = v.callsign;
+  order = v.last_order + 1;
+  division = d;
+  incident = n;
+  kind = v.kind;
+  ordered = at;
+  acknowledged = None;
+  scene = None;
+  left = None;
+  hospital = None;
+  ended = None;
+  stood_down = false;
+}
 
 abbrev pub assignment_row : ℕ → Incident → Vehicle → Assignment
-assignment_row d i v = record { callsign = v.callsign; division = d; incident = i.number; order = v.last_order + 1; place = i.place; class = i.class }
+assignment_row d i v = record {
+  callsign = v.callsign;
+  division = d;
+  incident = i.number;
+  order = v.last_order + 1;
+  place = i.place;
+  class = i.class;
+}
 
 abbrev pub mobilised : ℕ → Incident → ℕ → (Kind → ℕ) → Vehicle → Decided
 mobilised d i at got v =
@@ -51,7 +80,8 @@ abbrev pub mobilise_held : ℕ → Option Vehicle → Option Loan → ℕ → (K
 mobilise_held d v l at got i = where_held v l (mobilised d i at got)
 
 unfoldable pub mobilise : ℕ → ℕ → Callsign → ℕ → Room → Decided
-mobilise d n c at r = where_active (incident_of d n r) (mobilise_held d (held d c r) (lent d c r) at (λ k. served d n k r))
+mobilise d n c at r = where_active (incident_of d n r)
+    (mobilise_held d (held d c r) (lent d c r) at (λ k. served d n k r))
 
 -- ---- stand down
 abbrev pub turn_stood_down : ℕ → Option Turn → List Change
@@ -60,7 +90,9 @@ turn_stood_down at (Some t) = PutTurn (record t { ended = Some at; stood_down = 
 
 abbrev pub stand_down_held : ℕ → Option Turn → Vehicle → Decided
 stand_down_held at t v = refuse_if (not (is_mobilised v.status)) refusal.WrongStatus
-    (done (turn_stood_down at t ++ DropAssignment v.callsign ∷ PutVehicle (record v { status = Returning }) ∷ []))
+    (done (turn_stood_down at t
+    ++ DropAssignment v.callsign
+    ∷ PutVehicle (record v { status = Returning }) ∷ []))
 
 unfoldable pub stand_down : ℕ → Callsign → ℕ → Room → Decided
 stand_down d c at r = where_held (held d c r) (lent d c r) (stand_down_held at (open_turn d c r))
@@ -72,13 +104,17 @@ posted v p = done (PutVehicle (record v { post = p }) ∷ [])
 -- the point is looked up only where one is named
 abbrev pub standby_at : Option ℕ → (ℕ → Bool) → ℕ → Vehicle → Decided
 standby_at None has at v = posted v None
-standby_at (Some n) has at v = refuse_if (nat_le v.shift_end at) refusal.ShiftOver (refuse_if (not (has n)) refusal.NoSuchPoint (posted v (Some n)))
+standby_at (Some n) has at v =
+    refuse_if (nat_le v.shift_end at) refusal.ShiftOver
+    (refuse_if (not (has n)) refusal.NoSuchPoint (posted v (Some n)))
 
 abbrev pub stands_by : Option ℕ → (ℕ → Bool) → ℕ → Vehicle → Decided
-stands_by p has at v = refuse_if (not (is_free v.status)) refusal.WrongStatus (standby_at p has at v)
+stands_by p has at v =
+    refuse_if (not (is_free v.status)) refusal.WrongStatus (standby_at p has at v)
 
 unfoldable pub standby : ℕ → Callsign → Option ℕ → ℕ → Room → Decided
-standby d c p at r = where_held (held d c r) (lent d c r) (stands_by p (λ n. is_some (point_of d n r)) at)
+standby d c p at r = where_held (held d c r) (lent d c r)
+    (stands_by p (λ n. is_some (point_of d n r)) at)
 
 -- ---- duty
 abbrev pub on_duty : Place → ℕ → ℕ → Vehicle → Decided

@@ -42,7 +42,8 @@ names_report a k m = false
 abbrev pub reads_report : Ask → Report → Bool
 reads_report a x = not (is_normal x.outcome) && not x.cleared || names_report a x.callsign x.number
 
--- of division d's share: its row, vehicles, assignments, points, loans and offers; the incidents that are active or named, with their calls and turns; the exceptions
+-- of division d's share: its row, vehicles, assignments, points, loans and offers; the incidents
+-- that are active or named, with their calls and turns; the exceptions
 abbrev pub working : ℕ → Ask → Room → Room
 working d a r = record (own d r) {
   incidents = filter (λ i. i.division == d && reads_incident a i) r.incidents;

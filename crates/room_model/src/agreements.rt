@@ -1,5 +1,5 @@
 //! A well-formed room stays so. Each law is the contract of a function that does nothing.
-ghost use Rattle.std.specs.Prelude.{◌≡◌, List, None};
+ghost use Rattle.std.specs.Prelude.{◌≡◌, ◌↔◌, List, None};
 ghost use Rattle.room_place.specs.Choice.{Among};
 ghost use Rattle.room_types.specs.Texts.{Callsign};
 ghost use Rattle.room_types.specs.declared.asks.Event.{Event};
@@ -7,50 +7,92 @@ ghost use Rattle.room_types.specs.declared.fleet.FleetRow.{FleetRow};
 ghost use Rattle.room_types.specs.declared.fleet.Terminal.{Terminal};
 ghost use Rattle.room_types.specs.declared.tables.Assignment.{Assignment};
 ghost use Rattle.room_types.specs.declared.tables.Turn.{Turn};
-ghost use Rattle.room_model.specs.Room.{Room};
+ghost use Rattle.room_model.specs.Room.{IsInOrder, Room};
 ghost use Rattle.room_model.specs.Events.{AreAddressed, IsNumbered};
 ghost use Rattle.room_model.specs.Enrol.{AreTerminals, fate_again, fate_of, fleet_at, room_enrolled, terminals_enrolled};
 ghost use Rattle.room_model.specs.Run.{room_run};
 ghost use Rattle.room_model.specs.Step.{IsAddressed, room_after};
-ghost use Rattle.room_model.specs.WellFormed.{IsWellFormed};
+ghost use Rattle.room_model.specs.WellFormed.{AssignmentsAgree, AssignmentsStand, IsWellFormed, StatusTellsAssignments, StatusTellsTurns, TurnsAgree, TurnsStand};
 
 /// An addressed event leaves a well-formed room well-formed.
 pub fn an_event_keeps_the_agreements()
-    ensures { (e : Event) (r : Room) → IsWellFormed r → IsAddressed e r → IsNumbered e.ask → IsWellFormed (room_after e r) }
+    ensures { (e : Event) (r : Room) →
+        IsWellFormed r → IsAddressed e r → IsNumbered e.ask →
+        IsWellFormed (room_after e r) }
 {}
 
 /// So does any list of events that the room knows when it begins.
 pub fn a_run_keeps_the_agreements()
-    ensures { (es : List Event) (r : Room) → IsWellFormed r → AreAddressed es r → IsWellFormed (room_run es r) }
+    ensures { (es : List Event) (r : Room) →
+        IsWellFormed r → AreAddressed es r →
+        IsWellFormed (room_run es r) }
 {}
 
-/// After any events no vehicle is assigned to two incidents: over all divisions it has at most one assignment, and at most one open turn.
+/// After any events no vehicle is assigned to two incidents: over all divisions it has at most one
+/// assignment, and at most one open turn.
 pub fn no_vehicle_is_assigned_twice()
-    ensures assignments { (es : List Event) (r : Room) → IsWellFormed r → AreAddressed es r → (a b : Assignment) → Among a (room_run es r).assignments → Among b (room_run es r).assignments → a.callsign ≡ b.callsign → a ≡ b }
-    ensures turns { (es : List Event) (r : Room) → IsWellFormed r → AreAddressed es r → (t u : Turn) → Among t (room_run es r).turns → Among u (room_run es r).turns → t.ended ≡ None → u.ended ≡ None → t.callsign ≡ u.callsign → t ≡ u }
+    ensures assignments { (es : List Event) (r : Room) →
+        IsWellFormed r → AreAddressed es r → (a b : Assignment) →
+        Among a (room_run es r).assignments → Among b (room_run es r).assignments →
+        a.callsign ≡ b.callsign →
+        a ≡ b }
+    ensures turns { (es : List Event) (r : Room) →
+        IsWellFormed r → AreAddressed es r → (t u : Turn) → Among t (room_run es r).turns →
+        Among u (room_run es r).turns → t.ended ≡ None → u.ended ≡ None →
+        t.callsign ≡ u.callsign →
+        t ≡ u }
     // The two are of one order.
-    ensures together { (es : List Event) (r : Room) → IsWellFormed r → AreAddressed es r → (a : Assignment) (t : Turn) → Among a (room_run es r).assignments → Among t (room_run es r).turns → t.ended ≡ None → a.callsign ≡ t.callsign → (t.division ≡ a.division) × (t.incident ≡ a.incident) × (t.order ≡ a.order) }
+    ensures together { (es : List Event) (r : Room) →
+        IsWellFormed r → AreAddressed es r → (a : Assignment) (t : Turn) →
+        Among a (room_run es r).assignments → Among t (room_run es r).turns → t.ended ≡ None →
+        a.callsign ≡ t.callsign →
+        (t.division ≡ a.division) × (t.incident ≡ a.incident) × (t.order ≡ a.order) }
+{}
+
+/// In a well-formed room a vehicle is at status 2 to 5 exactly where it has an open turn, and
+/// exactly where it has an assignment.
+pub fn the_status_tells_who_is_sent()
+    ensures room { (r : Room) → IsWellFormed r → StatusTellsTurns r × StatusTellsAssignments r }
+    // This is all that the agreements say of the status: with the rest of them it gives them back.
+    ensures turns { (r : Room) → IsInOrder r →
+        (TurnsAgree r ↔ (TurnsStand r × StatusTellsTurns r)) }
+    ensures assignments { (r : Room) → IsInOrder r →
+        (AssignmentsAgree r ↔ (AssignmentsStand r × StatusTellsAssignments r)) }
 {}
 
 /// Who may ask may go on asking: what is addressed stays addressed, whatever happens in between.
 pub fn who_is_known_stays_known()
-    ensures { (es : List Event) (r : Room) (e : Event) → IsAddressed e r → IsAddressed e (room_run es r) }
+    ensures { (es : List Event) (r : Room) (e : Event) →
+        IsAddressed e r →
+        IsAddressed e (room_run es r) }
 {}
 
-/// No event adds a vehicle, or changes a vehicle's home or kind; so what becomes of a fleet row, and whether the terminals fit the room, stays as it was.
+/// No event adds a vehicle, or changes a vehicle's home or kind; so what becomes of a fleet row,
+/// and whether the terminals fit the room, stays as it was.
 pub fn the_fleet_stays()
-    ensures fleet { (es : List Event) (r : Room) (c : Callsign) → fleet_at c (room_run es r) ≡ fleet_at c r }
-    ensures fates { (es : List Event) (r : Room) (ts : List Terminal) (row : FleetRow) → fate_of (room_run es r) ts row ≡ fate_of r ts row }
-    ensures terminals { (es : List Event) (r : Room) (ts : List Terminal) → AreTerminals r ts → AreTerminals (room_run es r) ts }
+    ensures fleet { (es : List Event) (r : Room) (c : Callsign) →
+        fleet_at c (room_run es r) ≡ fleet_at c r }
+    ensures fates { (es : List Event) (r : Room) (ts : List Terminal) (row : FleetRow) →
+        fate_of (room_run es r) ts row ≡ fate_of r ts row }
+    ensures terminals { (es : List Event) (r : Room) (ts : List Terminal) →
+        AreTerminals r ts →
+        AreTerminals (room_run es r) ts }
 {}
 
 /// A fleet row that is enrolled keeps a room well-formed, and its terminals fit it.
 pub fn enrolment_keeps_the_agreements()
-    ensures room { (r : Room) (ts : List Terminal) (row : FleetRow) → IsWellFormed r → IsWellFormed (room_enrolled r ts row) }
-    ensures terminals { (r : Room) (ts : List Terminal) (row : FleetRow) → AreTerminals r ts → AreTerminals (room_enrolled r ts row) (terminals_enrolled r ts row) }
+    ensures room { (r : Room) (ts : List Terminal) (row : FleetRow) →
+        IsWellFormed r →
+        IsWellFormed (room_enrolled r ts row) }
+    ensures terminals { (r : Room) (ts : List Terminal) (row : FleetRow) →
+        AreTerminals r ts →
+        AreTerminals (room_enrolled r ts row) (terminals_enrolled r ts row) }
 {}
 
-/// A row that is enrolled again changes nothing: it is the same where it was added or the same, and else refused as before.
+/// A row that is enrolled again changes nothing: it is the same where it was added or the same, and
+/// else refused as before.
 pub fn enrolling_again_changes_nothing()
-    ensures { (r : Room) (ts : List Terminal) (row : FleetRow) → fate_of (room_enrolled r ts row) (terminals_enrolled r ts row) row ≡ fate_again (fate_of r ts row) }
+    ensures { (r : Room) (ts : List Terminal) (row : FleetRow) →
+        fate_of (room_enrolled r ts row) (terminals_enrolled r ts row) row
+        ≡ fate_again (fate_of r ts row) }
 {}

@@ -17,18 +17,39 @@ pub fn a_refusal_changes_nothing()
     ensures { (e : Event) (r : Room) (why : Refusal) → decided e r ≡ Err why → room_after e r ≡ r }
 {}
 
-/// Whatever happened in between: a report that was accepted and is sent again, with its number, button, order and place, changes nothing and gets its first answer.
+/// Whatever happened in between: a report that was accepted and is sent again, with its number,
+/// button, order and place, changes nothing and gets its first answer.
 pub fn a_repeated_report_acts_once()
-    ensures { (c : Callsign) (p : Press) (at later : ℕ) (r : Room) (es : List Event) → IsInOrder r → is_ok (answer_to (by_crew c (Report p) at) r) ≡ true → OnlyAnswers (by_crew c (Report p) later) (room_run es (room_after (by_crew c (Report p) at) r)) (answer_to (by_crew c (Report p) at) r) }
+    ensures { (c : Callsign) (p : Press) (at later : ℕ) (r : Room) (es : List Event) →
+        IsInOrder r → is_ok (answer_to (by_crew c (Report p) at) r) ≡ true →
+        OnlyAnswers (by_crew c (Report p) later)
+        (room_run es (room_after (by_crew c (Report p) at) r))
+        (answer_to (by_crew c (Report p) at) r) }
 {}
 
-/// Whatever happened in between: a call that was accepted and is sent again by its position, with its serial, place, class, needs and note, changes nothing and gets its first answer.
+/// Whatever happened in between: a call that was accepted and is sent again by its position, with
+/// its serial, place, class, needs and note, changes nothing and gets its first answer.
 pub fn a_repeated_call_acts_once()
-    ensures { (p : ℕ) (f : CallForm) (at later : ℕ) (r : Room) (es : List Event) → IsInOrder r → is_ok (answer_to (by_position p (Call f) at) r) ≡ true → OnlyAnswers (by_position p (Call f) later) (room_run es (room_after (by_position p (Call f) at) r)) (answer_to (by_position p (Call f) at) r) }
+    ensures { (p : ℕ) (f : CallForm) (at later : ℕ) (r : Room) (es : List Event) →
+        IsInOrder r → is_ok (answer_to (by_position p (Call f) at) r) ≡ true →
+        OnlyAnswers (by_position p (Call f) later)
+        (room_run es (room_after (by_position p (Call f) at) r))
+        (answer_to (by_position p (Call f) at) r) }
 {}
 
-/// Whatever happened in between: the number of a report that was accepted, and the serial of such a call, are refused for any other report or call, which changes nothing.
+/// Whatever happened in between: the number of a report that was accepted, and the serial of such a
+/// call, are refused for any other report or call, which changes nothing.
 pub fn a_used_number_is_refused()
-    ensures report { (c : Callsign) (p q : Press) (at later : ℕ) (r : Room) (es : List Event) → IsInOrder r → is_ok (answer_to (by_crew c (Report p) at) r) ≡ true → q.number ≡ p.number → q ≢ p → OnlyAnswers (by_crew c (Report q) later) (room_run es (room_after (by_crew c (Report p) at) r)) (Err NumberReused) }
-    ensures call { (p : ℕ) (f g : CallForm) (at later : ℕ) (r : Room) (es : List Event) → IsInOrder r → is_ok (answer_to (by_position p (Call f) at) r) ≡ true → g.serial ≡ f.serial → g ≢ f → OnlyAnswers (by_position p (Call g) later) (room_run es (room_after (by_position p (Call f) at) r)) (Err SerialReused) }
+    ensures report { (c : Callsign) (p q : Press) (at later : ℕ) (r : Room) (es : List Event) →
+        IsInOrder r → is_ok (answer_to (by_crew c (Report p) at) r) ≡ true → q.number ≡ p.number →
+        q ≢ p →
+        OnlyAnswers (by_crew c (Report q) later)
+        (room_run es (room_after (by_crew c (Report p) at) r))
+        (Err NumberReused) }
+    ensures call { (p : ℕ) (f g : CallForm) (at later : ℕ) (r : Room) (es : List Event) →
+        IsInOrder r → is_ok (answer_to (by_position p (Call f) at) r) ≡ true →
+        g.serial ≡ f.serial → g ≢ f →
+        OnlyAnswers (by_position p (Call g) later)
+        (room_run es (room_after (by_position p (Call f) at) r))
+        (Err SerialReused) }
 {}
