@@ -1,6 +1,6 @@
 #!/usr/bin/env python3
 """Writes what the statements on each table say into crates/room_tables_rows/proofs (or into the folder that is named).
-tests/generated.test finds out where it differs from what is committed."""
+tests/test_generated.py finds out where it differs from what is committed."""
 import os
 import re
 import sys
@@ -75,9 +75,7 @@ def compared(op, term, at, param, why):
 TABLES = [
     Table("meta", "meta", "List ℕ", NUMBER, ["1"], "NNT", 0, rows="(house.zone ∷ [])", of="house"),
     Table("areas", "area", "ℕ × Area", NUMBER, ["x.0"], "NNNNNN", 1, rows="(numbered 1 room.plan)"),
-    Table("terminals", "terminal", "Terminal", TOKEN, ["x.token"], "TNNU", 2, of="house", loads=[
-        load("crew_terminals", "CREW_TERMINALS", "(c : Callsign)", "λ x. is_crew c x.who", equal(3, "Text c", "equal-crew x.who c")),
-    ]),
+    Table("terminals", "terminal", "Terminal", TOKEN, ["x.token"], "TNNU", 2, of="house"),
     Table("divisions", "division", "Division", NUMBER, ["x.number"], "NN", 4),
     Table("incidents", "incident", "Incident", PAIR, ["x.division", "x.number"], "NNNNNNNNNONO", 5, loads=[
         load("active_incidents", "ACTIVE_INCIDENTS", "(d : ℕ)", "λ x. is_active x.state && x.division == d",
@@ -144,7 +142,7 @@ home("Rattle.room_types.specs.declared.fleet.Terminal", "Terminal")
 for t in ROWS:
     home(f"Rattle.room_types.specs.declared.tables.{t.kind}", t.kind)
 home("Rattle.room_model.specs.Room", "Room")
-home("Rattle.room_model.specs.Enrol", "token_cmp terminal_key is_crew")
+home("Rattle.room_model.specs.Enrol", "token_cmp terminal_key")
 home("Rattle.room_tables_rows.specs.Columns", "truth outcome_code")
 home("Rattle.room_tables_rows.specs.Keys", "number_cells text_cells pair_cells numbered_cells")
 home("Rattle.room_tables_rows.specs.Meta", "meta_key")
@@ -156,7 +154,7 @@ home("Rattle.room_tables_schema.specs.Schema", "room_schema " + " ".join(f"{t.na
 home("Rattle.room_tables_rows.specs.Stands", "House Stands StandsFor numbered empty_room")
 home("Rattle.room_tables_schema.specs.Definitions", "IsBlank")
 home("Rattle.room_tables_rows.specs.Writes", "Changes")
-home("Rattle.room_tables_rows.proofs.Tests", "equal-crew equal-active equal-false at_least-integers below-integers and_three cast-text_or_null")
+home("Rattle.room_tables_rows.proofs.Tests", "equal-active equal-false at_least-integers below-integers and_three cast-text_or_null")
 home("Rattle.room_tables_rows.specs.Tables", "IsHeld SelectsChosen PutsRow IsTable IsDropped")
 home("Rattle.room_tables_rows.proofs.Loads", "Shows ShowsRow ShowsAll chosen_rows row_of_key all_rows")
 home("Rattle.room_tables_rows.proofs.Puts", "put_changes")

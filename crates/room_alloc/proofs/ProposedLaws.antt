@@ -1,38 +1,28 @@
 -- What is proposed, in a room of the division's rows alone.
-use Rattle.std.proofs.Common.{Bool, Err, IfErr, IfOk, List, None, Ok, Result, Some, ap, false, inr, refl, sym, true, ℕ, ◌∙◌, ◌≡◌}
+use Rattle.std.proofs.Common.{Bool, Err, IfErr, IfOk, List, Ok, Result, Some, ap, false, inr, refl, sym, true, ℕ, ◌∙◌, ◌≡◌}
 use Rattle.std.specs.Prelude.{is_ok, not}
-use Rattle.room_place.specs.Choice.{chosen}
 use Rattle.room_place.specs.declared.plans.Area.{Area}
 use Rattle.room_types.specs.Codes.{is_active}
 use Rattle.room_types.specs.declared.answers.Answer.TheVariants as answer
 use Rattle.room_types.specs.declared.answers.Proposal.{Proposal}
 use Rattle.room_types.specs.declared.codes.Kind.TheVariants.{Ambulance, Car, Support}
-use Rattle.room_types.specs.declared.codes.Kind.{Kind}
 use Rattle.room_types.specs.declared.refusals.Refusal.TheVariants.{IncidentNotOpen, Memory}
 use Rattle.room_types.specs.declared.refusals.Refusal.{Refusal}
 use Rattle.room_types.specs.declared.slices.DivisionRows.{DivisionRows}
 use Rattle.room_types.specs.declared.tables.Incident.{Incident}
-use Rattle.room_types.specs.declared.tables.Point.{Point}
 use Rattle.room_model.proofs.ProposalLaws.{proposed_first}
 use Rattle.room_model.specs.Decisions.{Decided, answer_of, refuse_if, show, where_active}
-use Rattle.room_model.specs.Incidents.{lacking}
-use Rattle.room_model.specs.Proposals.{all_proposed, candidates, is_before, propose, proposed}
+use Rattle.room_model.specs.Proposals.{all_proposed, candidates, propose, proposed}
 use Rattle.room_model.specs.Queries.{holders, incident_of, point_of, served}
 use Rattle.room_model.specs.Room.{IsInOrder, Room}
 use Rattle.room_model.specs.Slices.{room_of}
-use Rattle.room_alloc.specs.Candidates.{AreShort, candidates_by, unplanned}
+use Rattle.room_alloc.specs.Candidates.{unplanned}
 use Rattle.room_alloc.specs.Proposed.{AreForIncident, AreTold}
-use Rattle.room_alloc.proofs.CandidateLaws.{candidates_so}
 
 -- no proposal looks at the plan
 any_plan : (d : ℕ) (i : Incident) (at : ℕ) (plan : List Area) (s : DivisionRows) → all_proposed d i at (unplanned s) ≡ all_proposed d i at (room_of plan s)
 unfolding candidates holders point_of served
 any_plan d i at plan s = refl
-
--- the first few of the candidates, as many as lack
-pub chosen_so : (d at : ℕ) (i : Incident) (k : Kind) (s : DivisionRows) (short : List Point) (n : ℕ) (xs few : List Proposal) → AreShort d at (unplanned s) short → n ≡ lacking d i (unplanned s) k → xs ≡ candidates_by d i short k at s.vehicles → few ≡ chosen is_before n None xs → few ≡ proposed d i at (unplanned s) k
-chosen_so d at i k s short n xs few short_so count all first =
-    first ∙ (ap (λ m. chosen is_before m None xs) count ∙ ap (λ ys. chosen is_before (lacking d i (unplanned s) k) None ys) (all ∙ candidates_so d at i k s short short_so))
 
 module _ (d n at : ℕ) (plan : List Area) (s : DivisionRows) (i : Incident) (there : (decide : Incident → Decided) → where_active (incident_of d n (room_of plan s)) decide ≡ decide i) where
   pub told : (ps : List Proposal) → ps ≡ all_proposed d i at (unplanned s) → propose d n at (room_of plan s) ≡ show (answer.Proposals ps)

@@ -1,18 +1,16 @@
 //! What may be proposed for an incident.
-ghost use Rattle.std.specs.Prelude.{◌≡◌, map, filter, is_some, length, nat_le, IfOk, IfErr};
+ghost use Rattle.std.specs.Prelude.{◌≡◌, filter, is_some, IfOk, IfErr};
 ghost use Rattle.room_types.specs.declared.refusals.Refusal.TheVariants.{Memory};
-ghost use Rattle.room_alloc.specs.Candidates.{AreShort, candidates_by, has_point, is_candidate, is_point_short, proposal_by, unplanned};
+ghost use Rattle.room_alloc.specs.Candidates.{AreShort, has_point, is_candidate, is_point_short, unplanned};
 
 use crate::standby::{holders, is_eligible};
-use room_place::places::distance;
 use room_place::plans::DivisionNumber;
-use room_types::answers::Proposal;
 use room_types::codes::Kind;
 use room_types::numbers::Moment;
 use room_types::refusals::Refusal;
 use room_types::rows::Rows;
 use room_types::slices::Slice;
-use room_types::tables::{Incident, Point, Vehicle};
+use room_types::tables::{Point, Vehicle};
 use std::alloc::Global;
 
 /// The points that have no more holders than they want: their holders break cover. The one
@@ -53,44 +51,6 @@ pub(crate) fn has_point(short: &Rows<Point>, vehicle: &Vehicle, division: Divisi
         Some(post) => short.get(&(division, post)).is_some(),
         None => false,
     }
-}
-
-/// A vehicle that is eligible, as it may be proposed.
-pub(crate) fn proposal_of(
-    slice: &Slice,
-    incident: &Incident,
-    short: &Rows<Point>,
-    vehicle: &Vehicle,
-) -> Proposal
-    ensures { result ≡ proposal_by slice.now.division incident.now short.now vehicle.now }
-{
-    Proposal {
-        breaks: has_point(short, vehicle, slice.division),
-        distance: distance(vehicle.place, incident.place),
-        kind: vehicle.kind,
-        callsign: vehicle.callsign,
-    }
-}
-
-/// The division's eligible vehicles of a kind, as they may be proposed. The one refusal is `Memory`.
-pub(crate) fn candidates(
-    alloc: Global,
-    slice: &Slice,
-    incident: &Incident,
-    short: &Rows<Point>,
-    kind: Kind,
-    at: Moment,
-) -> Result<Vec<Proposal>, Refusal>
-    ensures ok { IfOk result (λ all. all.items ≡ candidates_by slice.now.division incident.now short.now kind at slice.now.rows.vehicles) }
-    ensures memory { IfErr result (λ e. e ≡ Memory) }
-{
-    let mut all = Vec::new(alloc);
-    for vehicle in slice.rows.vehicles.as_slice() {
-        if is_candidate(vehicle, slice.division, kind, at) {
-            all.push(proposal_of(slice, incident, short, vehicle))?;
-        }
-    }
-    Ok(all)
 }
 
 /// Whether the division may send the vehicle, which is of the kind.

@@ -12,4 +12,3 @@ pub mod proposals;
 pub(crate) mod rings;
 pub mod standby;
 pub mod views;
-pub(crate) mod walk;

@@ -13,10 +13,9 @@ ghost use Rattle.room_alloc.specs.Candidates.{AreShort, unplanned};
 ghost use Rattle.room_alloc.specs.Proposed.{AreForIncident, AreTold};
 ghost use Rattle.room_alloc.specs.Rings.{AreApart, AreOfKind, ArePlaced, proposal_at};
 
-use crate::candidates::{candidates, short_points};
+use crate::candidates::short_points;
 use crate::nearness::Candidate;
 use crate::rings::{candidates_round, nearest};
-use crate::walk::first_few;
 use room_incident::active::active;
 use room_incident::served::lack;
 use room_types::answers::{Listed, Proposal};
@@ -27,15 +26,6 @@ use room_types::rows::Rows;
 use room_types::slices::{DivisionRows, Slice};
 use room_types::tables::{Incident, Point};
 use std::alloc::{AllocError, Global};
-
-/// How the first few of the candidates are found. Both ways find the same.
-#[derive(Clone, Copy)]
-enum Search {
-    /// The least that is left, again and again.
-    Walk,
-    /// Ring by ring of cells round the incident.
-    Rings,
-}
 
 /// The proposals for an active incident: of each kind as many of the eligible vehicles as it
 /// lacks, or all where there are fewer; those first that don't break cover, then the nearer, then
@@ -52,19 +42,7 @@ pub fn propose(
     ensures first { IfOk result (λ few. (plan : List Area) (i : Incident) → incident_of slice.now.division number (room_of plan slice.now.rows) ≡ Some i → AreForIncident slice.now.division i at (room_of plan slice.now.rows) few) }
 {
     in_order(&slice.rows);
-    proposals(alloc, slice, number, at, Search::Rings)
-}
-
-/// The same proposals, by a plain walk over all vehicles: what `propose` is compared with.
-pub fn propose_plainly(
-    alloc: Global,
-    slice: &Slice,
-    number: Number,
-    at: Moment,
-) -> Result<Listed<Proposal>, Refusal>
-    ensures { (plan : List Area) → AreTold result (propose slice.now.division number at (room_of plan slice.now.rows)) }
-{
-    proposals(alloc, slice, number, at, Search::Walk)
+    proposals(alloc, slice, number, at)
 }
 
 fn proposals(
@@ -72,12 +50,11 @@ fn proposals(
     slice: &Slice,
     number: Number,
     at: Moment,
-    search: Search,
 ) -> Result<Listed<Proposal>, Refusal>
     ensures { (plan : List Area) → AreTold result (propose slice.now.division number at (room_of plan slice.now.rows)) }
 {
     match active(slice, number) {
-        Ok(incident) => of_all_kinds(alloc, slice, incident, at, search),
+        Ok(incident) => of_all_kinds(alloc, slice, incident, at),
         Err(refusal) => Err(refusal),
     }
 }
@@ -87,16 +64,15 @@ fn of_all_kinds(
     slice: &Slice,
     incident: &Incident,
     at: Moment,
-    search: Search,
 ) -> Result<Listed<Proposal>, Refusal>
     requires { incident.now.division ≡ slice.now.division }
     ensures ok { IfOk result (λ all. all ≡ all_proposed slice.now.division incident.now at (unplanned slice.now.rows)) }
     ensures memory { IfErr result (λ e. e ≡ Memory) }
 {
     let short = short_points(alloc, slice, at)?;
-    let ambulances = of_kind(alloc, slice, incident, &short, Kind::Ambulance, at, search)?;
-    let cars = of_kind(alloc, slice, incident, &short, Kind::Car, at, search)?;
-    let support = of_kind(alloc, slice, incident, &short, Kind::Support, at, search)?;
+    let ambulances = of_kind(alloc, slice, incident, &short, Kind::Ambulance, at)?;
+    let cars = of_kind(alloc, slice, incident, &short, Kind::Car, at)?;
+    let support = of_kind(alloc, slice, incident, &short, Kind::Support, at)?;
     joined(ambulances, &cars, &support)
 }
 
@@ -108,7 +84,6 @@ fn of_kind(
     short: &Rows<Point>,
     kind: Kind,
     at: Moment,
-    search: Search,
 ) -> Result<Listed<Proposal>, Refusal>
     requires division { incident.now.division ≡ slice.now.division }
     requires short { AreShort slice.now.division at (unplanned slice.now.rows) short.now }
@@ -116,29 +91,7 @@ fn of_kind(
     ensures memory { IfErr result (λ e. e ≡ Memory) }
 {
     let count = lack(incident, &slice.rows.turns, kind).get();
-    match search {
-        Search::Walk => by_walk(alloc, slice, incident, short, kind, at, count),
-        Search::Rings => by_rings(alloc, slice, incident, short, kind, at, count),
-    }
-}
-
-fn by_walk(
-    alloc: Global,
-    slice: &Slice,
-    incident: &Incident,
-    short: &Rows<Point>,
-    kind: Kind,
-    at: Moment,
-    count: u32,
-) -> Result<Listed<Proposal>, Refusal>
-    requires short { AreShort slice.now.division at (unplanned slice.now.rows) short.now }
-    requires count { count ≡ lacking slice.now.division incident.now (unplanned slice.now.rows) kind }
-    ensures ok { IfOk result (λ few. few ≡ proposed slice.now.division incident.now at (unplanned slice.now.rows) kind) }
-    ensures memory { IfErr result (λ e. e ≡ Memory) }
-{
-    let all = candidates(alloc, slice, incident, short, kind, at)?;
-    let few = first_few(alloc, all.as_slice(), count)?;
-    Ok(few)
+    by_rings(alloc, slice, incident, short, kind, at, count)
 }
 
 fn by_rings(

@@ -1,5 +1,5 @@
 //! What gives the moment, in whole seconds of UTC since 1970.
-ghost use Rattle.std.specs.Prelude.{◌≡◌, ◌<◌, ◌≤◌, ℕ, List, [], ◌∷◌, Bool, true, false, Option, Some, None, MatchOption, length, slice_get, take, replicate};
+ghost use Rattle.std.specs.Prelude.{◌≡◌, ◌<◌, ℕ, List, [], ◌∷◌, Bool, true, false, Option, Some, None, MatchOption, replicate};
 ghost use Rattle.std.specs.Io.KnownBytes.{Appends, Keeps};
 
 use std::time::{self, SystemTime, UNIX_EPOCH};
@@ -49,55 +49,6 @@ impl<'a, R: time::Clock> Clock for MachineClock<'a, R> {
             .map(|since| since.as_secs());
         self.was_none = moment.is_none();
         moment
-    }
-}
-
-/// A clock that gives the moments of a list, one after another, and then none.
-#[derive(Drop)]
-pub struct ListClock<'a> {
-    moments: &'a [u64],
-    next: usize,
-    was_none: bool,
-    ghost within: { next ≤ length moments.now },
-}
-
-impl<'a> ListClock<'a> {
-    /// A clock that has given nothing yet.
-    pub fn new(moments: &'a [u64]) -> ListClock<'a>
-        ensures moments { result.moments.now ≡ moments.now }
-        ensures next { result.next ≡ 0 }
-        ensures was_none { result.was_none ≡ false }
-    {
-        ListClock {
-            moments,
-            next: 0,
-            was_none: false,
-        }
-    }
-}
-
-impl<'a> Clock for ListClock<'a> {
-    ghost given = { λ clock. Some (take clock.next clock.moments.now) };
-
-    ghost was_none = { λ clock. clock.was_none };
-
-    fn now(&mut self) -> Option<u64>
-        ensures moments { let old = Some (take self.old.next self.old.moments.now) in let new = Some (take self.new.next self.new.moments.now) in
-            MatchOption result (Keeps old new) (λ at. Appends old new (at ∷ [])) }
-        ensures none { MatchOption result (self.new.was_none ≡ true) (λ at. self.new.was_none ≡ false) }
-        ensures next { result ≡ slice_get self.old.moments.now self.old.next }
-    {
-        match self.moments.get(self.next) {
-            Some(moment) => {
-                self.next += 1;
-                self.was_none = false;
-                Some(*moment)
-            }
-            None => {
-                self.was_none = true;
-                None
-            }
-        }
     }
 }
 

@@ -7,3 +7,5 @@ pub mod Repeats
 pub mod Rowids
 -- what was shown and is not read
 pub mod Unread
+-- a query whose rows are read
+pub mod Told

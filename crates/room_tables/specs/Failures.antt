@@ -6,8 +6,7 @@ use Rattle.sqlite.specs.State.{ExecutesInside, FailsToQuery, Shown, State}
 use Rattle.sqlite.specs.declared.error.Error.{Error}
 use Rattle.room_place.specs.declared.plans.Area.{Area}
 use Rattle.room_types.specs.Keyed.{IsKeyed}
-use Rattle.room_tables_rows.specs.Areas.{is_area_row}
-use Rattle.room_tables_rows.specs.Areas.{area_row}
+use Rattle.room_tables_rows.specs.Areas.{is_area_row, area_row}
 use Rattle.room_tables_schema.specs.Faults.{fault_of}
 use Rattle.room_tables_schema.specs.declared.faults.Fault.{Fault}
 use Rattle.room_tables_schema.specs.declared.faults.Fault.TheVariants.{Memory, Storage}

@@ -83,7 +83,8 @@ pub fn apply<S: Alter>(tx: &mut Transaction<'_, S>, change: &Change) -> Result<(
     ensures survives { Survives (state S.Store tx.old.conn.now) (state S.Store tx.new.conn.now) (λ _. ⊥) }
     ensures same_reference { tx.new.conn.ghost_name ≡ tx.old.conn.ghost_name }
 {
-    match change {
+    // One way out for all arms: what holds at a way out is proved there anew.
+    let done = match change {
         Change::PutDivision(division) => put(tx, division),
         Change::PutIncident(incident) => put(tx, incident),
         Change::PutCall(call) => put(tx, call),
@@ -98,5 +99,6 @@ pub fn apply<S: Alter>(tx: &mut Transaction<'_, S>, change: &Change) -> Result<(
         Change::DropLoan(callsign) => drop_at::<Loan, S>(tx, callsign),
         Change::DropOffer(callsign) => drop_at::<Offer, S>(tx, callsign),
         Change::Settle(callsign, division) => settle(tx, callsign, *division),
-    }
+    };
+    done
 }

@@ -12,11 +12,12 @@ ghost use Rattle.room_tables_schema.specs.Schema.{room_schema};
 ghost use Rattle.room_tables_rows.specs.Stands.{House, Stands, StandsFor};
 ghost use Rattle.room_tables.specs.Failures.{AreNoRows, AreMoreThanOne, FailsToRead, IfStorage};
 
-use crate::reading::{find, find_inside, load};
+use crate::reading::{find, load, row_of};
 use crate::tables::{Owned, Table};
 use room_place::plans::DivisionNumber;
 use room_tables_rows::columns::Field;
 use room_tables_schema::faults::Fault;
+use room_tables_sql::reading::select_inside;
 use room_types::rows::Rows;
 use sqlite::{Alter, Connection, Transaction};
 use std::alloc::Global;
@@ -67,7 +68,8 @@ pub(crate) fn row_at_inside<X: Table, S: Alter>(
     ensures survives { Survives (state S.Store tx.old.conn.now) (state S.Store tx.new.conn.now) (λ _. ⊥) }
     ensures same_reference { tx.new.conn.ghost_name ≡ tx.old.conn.ghost_name }
 {
-    find_inside(tx, X::statements().at, X::key_columns(key).as_slice())
+    let shown = select_inside(tx, X::statements().at, X::key_columns(key).as_slice())?;
+    row_of(shown.as_slice())
 }
 
 /// The rows that a division owns.

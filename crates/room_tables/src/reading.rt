@@ -13,9 +13,9 @@ ghost use Rattle.room_tables.specs.Failures.{AreNoRows, AreMoreThanOne, FailsToR
 
 use room_tables_rows::columns::Stored;
 use room_tables_schema::faults::Fault;
-use room_tables_sql::reading::{select, select_inside};
+use room_tables_sql::reading::select;
 use room_types::rows::{Row, Rows};
-use sqlite::{Alter, Connection, Transaction};
+use sqlite::{Alter, Connection};
 use sqlite_value::value::ValueRef;
 use std::alloc::Global;
 
@@ -77,24 +77,6 @@ pub(crate) fn find<X: Stored, S: Alter>(
     row_of(shown.as_slice())
 }
 
-/// The row that a selection by a key shows inside a transaction; none where it shows none.
-pub(crate) fn find_inside<X: Stored, S: Alter>(
-    tx: &mut Transaction<'_, S>,
-    text: &str,
-    params: &[ValueRef<'_>],
-) -> Result<Option<X>, Fault>
-    requires { HasCleanDisk (state S.Store tx.old.conn.now) → IsPlain (understood (state S.Store tx.old.conn.now).now.schema text.now) }
-    ensures shown { HasCleanDisk (state S.Store tx.new.conn.now) → IfOk result (λ row. Shown text.now (bound params.now) (state S.Store tx.old.conn.now) (state S.Store tx.new.conn.now) (map X.cells (listed row))) }
-    ensures ok { HasCleanDisk (state S.Store tx.new.conn.now) → OnOk result (IsUnchanged (state S.Store tx.old.conn.now) (state S.Store tx.new.conn.now)) }
-    ensures err { HasCleanDisk (state S.Store tx.new.conn.now) → OnErr result (Keeps (state S.Store tx.old.conn.now) (state S.Store tx.new.conn.now)) }
-    ensures why { HasCleanDisk (state S.Store tx.new.conn.now) → IfErr result (IfStorage (FailsToRead text.now (bound params.now) (state S.Store tx.old.conn.now) (state S.Store tx.new.conn.now) (AreMoreThanOne X.is_row))) }
-    ensures survives { Survives (state S.Store tx.old.conn.now) (state S.Store tx.new.conn.now) (λ _. ⊥) }
-    ensures same_reference { tx.new.conn.ghost_name ≡ tx.old.conn.ghost_name }
-{
-    let shown = select_inside(tx, text, params)?;
-    row_of(shown.as_slice())
-}
-
 // The rows that stand in columns, in the order of their keys.
 fn rows_of<X: Stored + Row>(alloc: Global, shown: &[sqlite::Row]) -> Result<Rows<X>, Fault>
     ensures shown { IfOk result (λ rows. map X.cells rows ≡ shown.now) }
@@ -142,8 +124,8 @@ fn is_next<X: Row>(rows: &Rows<X>, row: &X) -> bool
     }
 }
 
-// The one row that stands in columns, or none.
-fn row_of<X: Stored>(shown: &[sqlite::Row]) -> Result<Option<X>, Fault>
+/// The one row that stands in columns, or none.
+pub(crate) fn row_of<X: Stored>(shown: &[sqlite::Row]) -> Result<Option<X>, Fault>
     ensures shown { IfOk result (λ row. map X.cells (listed row) ≡ shown.now) }
     ensures why { IfErr result (IfStorage (AreMoreThanOne X.is_row shown.now)) }
 {

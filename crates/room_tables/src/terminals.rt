@@ -1,30 +1,26 @@
 //! Terminals in their table.
 
-ghost use Rattle.std.specs.Prelude.{◌≡◌, false, filter, IsTrue, IfOk, OnOk, OnErr, IfErr, [], ◌∷◌, ◌↔◌};
+ghost use Rattle.std.specs.Prelude.{◌≡◌, false, IsTrue, IfOk, OnOk, OnErr, IfErr, [], ◌∷◌, ◌↔◌};
 ghost use Rattle.sqlite_value.specs.declared.value.Value.TheVariants.{Text};
 ghost use Rattle.sqlite.specs.Held.{state};
 ghost use Rattle.sqlite.specs.State.{HasCleanDisk, IsUnchanged, Survives};
 ghost use Rattle.room_tables_sql.specs.Outcomes.{Keeps};
 ghost use Rattle.room_tables_sql.specs.Tables.{AreNumbered};
 ghost use Rattle.room_types.specs.Keyed.{IsKeyed, put_row};
-ghost use Rattle.room_model.specs.Enrol.{is_crew, terminal_at as found_terminal, terminal_key, token_cmp};
+ghost use Rattle.room_model.specs.Enrol.{terminal_at as found_terminal, terminal_key, token_cmp};
 ghost use Rattle.room_model.specs.Room.{Room};
-ghost use Rattle.room_tables_rows.specs.Terminals.{terminal_row};
-ghost use Rattle.room_tables_rows.specs.Terminals.{is_terminal_row};
+ghost use Rattle.room_tables_rows.specs.Terminals.{terminal_row, is_terminal_row};
 ghost use Rattle.room_tables_schema.specs.Schema.{room_schema, terminals_table};
 ghost use Rattle.room_tables_rows.specs.Stands.{House, Stands, StandsFor};
 ghost use Rattle.room_tables_rows.specs.Writes.{Changes};
-ghost use Rattle.room_tables_rows.specs.declared.terminals.TheConstants.{ALL_TERMINALS, CREW_TERMINALS, PUT_TERMINAL, TERMINAL_AT};
-ghost use Rattle.room_tables.specs.Failures.{AreNoRows, AreMoreThanOne, FailsToRead, FailsToWrite, HasStranger, IfStorage};
+ghost use Rattle.room_tables_rows.specs.declared.terminals.TheConstants.{ALL_TERMINALS, PUT_TERMINAL, TERMINAL_AT};
+ghost use Rattle.room_tables.specs.Failures.{AreNoRows, AreMoreThanOne, FailsToRead, FailsToWrite, IfStorage};
 
 use crate::reading::{find, list};
 use room_tables_rows::columns::Field;
-use room_tables_rows::terminals::{
-    ALL_TERMINALS, CREW_TERMINALS, PUT_TERMINAL, TERMINAL_AT, terminal_columns,
-};
+use room_tables_rows::terminals::{ALL_TERMINALS, PUT_TERMINAL, TERMINAL_AT, terminal_columns};
 use room_tables_schema::faults::Fault;
 use room_tables_sql::writing::write;
-use room_types::callsign::Callsign;
 use room_types::fleet::Terminal;
 use room_types::token::Token;
 use sqlite::{Alter, Connection, Transaction};
@@ -79,23 +75,6 @@ pub fn terminal_at<S: Alter>(
     ensures survives { Survives (state S.Store conn.old) (state S.Store conn.new) (λ _. ⊥) }
 {
     find(conn, TERMINAL_AT, &[token.store()])
-}
-
-/// The terminals of a vehicle's crew.
-pub fn crew_terminals<S: Alter>(
-    alloc: Global,
-    conn: &mut Connection<S>,
-    callsign: &Callsign,
-) -> Result<Vec<Terminal>, Fault>
-    requires { HasCleanDisk (state S.Store conn.old) → (state S.Store conn.old).now.schema ≡ room_schema }
-    ensures terminals { HasCleanDisk (state S.Store conn.new) → IfOk result (λ terminals. (house : House) (room : Room) → Stands (state S.Store conn.old).now.trees house room → terminals.items ≡ filter (λ t. is_crew callsign.now t.who) house.terminals) }
-    ensures ok { HasCleanDisk (state S.Store conn.new) → OnOk result (IsUnchanged (state S.Store conn.old) (state S.Store conn.new)) }
-    ensures err { HasCleanDisk (state S.Store conn.new) → OnErr result (Keeps (state S.Store conn.old) (state S.Store conn.new)) }
-    ensures why { HasCleanDisk (state S.Store conn.new) → IfErr result (IfStorage (FailsToRead CREW_TERMINALS.now (Text callsign.now ∷ []) (state S.Store conn.old) (state S.Store conn.new) (HasStranger is_terminal_row))) }
-    ensures mode { conn.old.in_transaction ≡ false → conn.new.in_transaction ≡ false }
-    ensures survives { Survives (state S.Store conn.old) (state S.Store conn.new) (λ _. ⊥) }
-{
-    list(alloc, conn, CREW_TERMINALS, &[callsign.store()])
 }
 
 /// Puts a terminal in its token's place.

@@ -1,16 +1,16 @@
 -- What the statements on the table terminals say, and what they make of a room. (Written by tools/tables.py.)
-use Rattle.room_model.specs.Enrol.{is_crew, terminal_key, token_cmp}
+use Rattle.room_model.specs.Enrol.{terminal_key, token_cmp}
 use Rattle.room_model.specs.Room.{Room}
 use Rattle.room_tables_rows.proofs.Kept.{with_terminals}
-use Rattle.room_tables_rows.proofs.Loads.{Shows, ShowsAll, ShowsRow, all_rows, chosen_rows, row_of_key}
+use Rattle.room_tables_rows.proofs.Loads.{ShowsAll, ShowsRow, all_rows, row_of_key}
 use Rattle.room_tables_rows.proofs.Puts.{put_changes}
 use Rattle.room_tables_rows.proofs.RowLaws.{terminal_faithful}
-use Rattle.room_tables_rows.proofs.Tests.{cast-text_or_null, equal-crew}
+use Rattle.room_tables_rows.proofs.Tests.{cast-text_or_null}
 use Rattle.room_tables_rows.specs.Stands.{House}
 use Rattle.room_tables_rows.specs.Tables.{IsHeld, PutsRow, SelectsChosen}
 use Rattle.room_tables_rows.specs.Terminals.{terminal_row}
 use Rattle.room_tables_rows.specs.Writes.{Changes}
-use Rattle.room_tables_rows.specs.declared.terminals.TheConstants.{ALL_TERMINALS, CREW_TERMINALS, PUT_TERMINAL, TERMINAL_AT}
+use Rattle.room_tables_rows.specs.declared.terminals.TheConstants.{ALL_TERMINALS, PUT_TERMINAL, TERMINAL_AT}
 use Rattle.room_tables_schema.specs.Schema.{room_schema, terminals_table}
 use Rattle.room_tables_sql.proofs.ColumnValues.{cast-Int}
 use Rattle.room_tables_sql.proofs.Comparisons.{and_last, conflict_of_one, tie-texts}
@@ -18,7 +18,7 @@ use Rattle.room_tables_sql.proofs.StoredRows.{stores_row}
 use Rattle.room_tables_sql.specs.Outcomes.{Inside}
 use Rattle.room_tables_sql.specs.Statements.{Selects, StandsAlone, Stores, Upserts, equals, row_update, row_values}
 use Rattle.room_types.specs.Keyed.{put_row, row_at}
-use Rattle.room_types.specs.Texts.{Callsign, Token}
+use Rattle.room_types.specs.Texts.{Token}
 use Rattle.room_types.specs.declared.fleet.Terminal.{Terminal}
 use Rattle.sqlite.specs.Listing.{understood}
 use Rattle.sqlite.specs.State.{Executes, State}
@@ -27,7 +27,7 @@ use Rattle.sqlite_tied.specs.Compute.{everything}
 use Rattle.sqlite_value.specs.Order.{column}
 use Rattle.sqlite_value.specs.declared.keys.Collation.TheVariants.{Binary}
 use Rattle.sqlite_value.specs.declared.value.Value.TheVariants.{Text}
-use Rattle.std.proofs.Common.{List, Ok, [], filter, refl, ℕ, ◌∷◌, ◌≡◌}
+use Rattle.std.proofs.Common.{List, Ok, [], refl, ℕ, ◌∷◌, ◌≡◌}
 use Rattle.std.specs.Ordering.{is_eq}
 
 abbrev all_of : House → Room → List Terminal
@@ -55,16 +55,6 @@ terminal_at_chooses k = record { terms = equals 1 0 ∷ []; selects = terminal_a
 
 pub terminal_at_is : (k : Token) → ShowsRow terminal_row TERMINAL_AT.now (Text k ∷ []) (λ found house room. found ≡ row_at token_cmp terminal_key house.terminals k)
 terminal_at_is k = row_of_key terminals_held TERMINAL_AT.now (Text k ∷ []) k (terminal_at_chooses k)
-
-pub crew_terminals_means : Selects room_schema CREW_TERMINALS.now 2 (1 ∷ 2 ∷ 3 ∷ 4 ∷ []) (1 ∷ []) (equals 4 0 ∷ [])
-unfolding understood everything
-crew_terminals_means = record { names = _; command = refl; plain = (refl, refl); unlisted = refl }
-
-pub crew_terminals_chooses : (c : Callsign) → SelectsChosen terminals_table terminal_row CREW_TERMINALS.now (Text c ∷ []) (λ x. is_crew c x.who)
-crew_terminals_chooses c = record { terms = equals 4 0 ∷ []; selects = crew_terminals_means; chooses = record { test = λ r. equal Binary (column r 3) (Text c); tells = λ r. and_last refl; same = λ x. equal-crew x.who c } }
-
-pub crew_terminals_are : (c : Callsign) → Shows terminal_row CREW_TERMINALS.now (Text c ∷ []) (λ found house room. found ≡ filter (λ x. is_crew c x.who) house.terminals)
-crew_terminals_are c = chosen_rows terminals_held CREW_TERMINALS.now (Text c ∷ []) (λ x. is_crew c x.who) (crew_terminals_chooses c)
 
 pub put_terminal_means : Upserts room_schema PUT_TERMINAL.now 2 terminals_table (1 ∷ []) 4 (row_values 4) (row_update 4)
 unfolding understood everything

@@ -15,16 +15,11 @@ use Rattle.sqlite_schema.specs.declared.schema.Kind.TheVariants as kind
 use Rattle.sqlite_rules.specs.Cast.{cast}
 use Rattle.sqlite.specs.Values.{or_null}
 use Rattle.room_tables_sql.specs.Typed.{number}
-use Rattle.room_tables_sql.proofs.Comparisons.{compare_by, equal-numbers, equal-texts}
+use Rattle.room_tables_sql.proofs.Comparisons.{compare_by, equal-numbers}
 use Rattle.room_types.specs.Codes.{state_number, is_active}
-use Rattle.room_types.specs.Texts.{Callsign}
-use Rattle.room_types.specs.declared.asks.Who.{Who}
-use Rattle.room_types.specs.declared.asks.Who.TheVariants.{Desk, Crew, Position}
 use Rattle.room_types.specs.declared.codes.State.{State}
 use Rattle.room_types.specs.declared.codes.State.TheVariants.{Active, Closed, Merged}
-use Rattle.room_model.specs.Enrol.{is_crew}
 use Rattle.room_tables_rows.specs.Columns.{truth}
-use Rattle.room_tables_rows.specs.Terminals.{crew_of}
 
 -- a state is active where its number is that of Active
 pub equal-active : (s : State) → equal Binary (number (state_number s)) (number (state_number Active)) ≡ is_active s
@@ -36,13 +31,6 @@ equal-active (Merged n) = equal-numbers 2 0
 pub equal-false : (b : Bool) → equal Binary (truth b) (truth false) ≡ not b
 equal-false true = equal-numbers 1 0
 equal-false false = equal-numbers 0 0
-
--- a terminal is a crew's where it has the crew's callsign
-pub equal-crew : (w : Who) (c : Callsign) → equal Binary (or_null Text (crew_of w)) (Text c) ≡ is_crew c w
-unfolding binary
-equal-crew (Desk d) c = refl
-equal-crew (Crew k) c = equal-texts k c
-equal-crew (Position p) c = refl
 
 -- three conditions, before an end that always holds
 pub and_three : (a b c : Bool) → (a && (b && (c && true))) ≡ (a && (b && c))

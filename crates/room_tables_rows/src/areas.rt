@@ -2,8 +2,7 @@
 
 ghost use Rattle.std.specs.Prelude.{◌≡◌};
 ghost use Rattle.sqlite.specs.Values.{bound};
-ghost use Rattle.room_tables_rows.specs.Areas.{is_area_row};
-ghost use Rattle.room_tables_rows.specs.Areas.{area_row};
+ghost use Rattle.room_tables_rows.specs.Areas.{is_area_row, area_row};
 
 use crate::columns::{Stored, integer};
 use crate::fields::values_of;

@@ -1,7 +1,6 @@
 //! Assignments: their columns, how they are read, and the statements on them.
 
-ghost use Rattle.room_tables_rows.specs.Assignments.{is_assignment_row};
-ghost use Rattle.room_tables_rows.specs.Assignments.{assignment_row};
+ghost use Rattle.room_tables_rows.specs.Assignments.{is_assignment_row, assignment_row};
 ghost use Rattle.room_tables_rows.specs.Keys.{text_cells};
 
 use crate::columns::{Field, Stored};

@@ -1,7 +1,6 @@
 //! Calls: their columns, how they are read, and the statements on them.
 
-ghost use Rattle.room_tables_rows.specs.Calls.{is_call_row};
-ghost use Rattle.room_tables_rows.specs.Calls.{call_row};
+ghost use Rattle.room_tables_rows.specs.Calls.{is_call_row, call_row};
 ghost use Rattle.room_tables_rows.specs.Keys.{pair_cells};
 
 use crate::columns::{Field, Stored, integer};

@@ -1,7 +1,6 @@
 //! Divisions: their columns, how they are read, and the statements on them.
 
-ghost use Rattle.room_tables_rows.specs.Divisions.{is_division_row};
-ghost use Rattle.room_tables_rows.specs.Divisions.{division_row};
+ghost use Rattle.room_tables_rows.specs.Divisions.{is_division_row, division_row};
 ghost use Rattle.room_tables_rows.specs.Keys.{number_cells};
 
 use crate::columns::{Field, Stored};

@@ -4,8 +4,7 @@ ghost use Rattle.std.specs.Prelude.{◌≡◌};
 ghost use Rattle.sqlite_value.specs.Value.{owned};
 ghost use Rattle.room_tables_sql.specs.Typed.{number, number_or_null};
 ghost use Rattle.room_types.specs.Codes.{state_number, merged_into};
-ghost use Rattle.room_tables_rows.specs.Incidents.{is_incident_row};
-ghost use Rattle.room_tables_rows.specs.Incidents.{incident_row};
+ghost use Rattle.room_tables_rows.specs.Incidents.{is_incident_row, incident_row};
 ghost use Rattle.room_tables_rows.specs.Keys.{pair_cells};
 
 use crate::columns::{Field, Stored, integer};

@@ -1,7 +1,6 @@
 //! Loans: their columns, how they are read, and the statements on them.
 
-ghost use Rattle.room_tables_rows.specs.Loans.{is_loan_row};
-ghost use Rattle.room_tables_rows.specs.Loans.{loan_row};
+ghost use Rattle.room_tables_rows.specs.Loans.{is_loan_row, loan_row};
 ghost use Rattle.room_tables_rows.specs.Keys.{text_cells};
 
 use crate::columns::{Field, Stored};

@@ -4,8 +4,7 @@ ghost use Rattle.std.specs.Prelude.{◌≡◌, ◌↔◌, is_some, IfSome, IsTru
 ghost use Rattle.sqlite.specs.Values.{bound};
 ghost use Rattle.sqlite_value.specs.Order.{column};
 ghost use Rattle.room_tables_sql.specs.Typed.{number};
-ghost use Rattle.room_tables_rows.specs.Meta.{is_meta_row};
-ghost use Rattle.room_tables_rows.specs.Meta.{meta_row};
+ghost use Rattle.room_tables_rows.specs.Meta.{is_meta_row, meta_row};
 
 use crate::columns::{column_at, integer, text, value_at};
 use sqlite::Row;

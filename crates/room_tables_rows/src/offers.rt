@@ -1,7 +1,6 @@
 //! Offers: their columns, how they are read, and the statements on them.
 
-ghost use Rattle.room_tables_rows.specs.Offers.{is_offer_row};
-ghost use Rattle.room_tables_rows.specs.Offers.{offer_row};
+ghost use Rattle.room_tables_rows.specs.Offers.{is_offer_row, offer_row};
 ghost use Rattle.room_tables_rows.specs.Keys.{text_cells};
 
 use crate::columns::{Field, Stored};

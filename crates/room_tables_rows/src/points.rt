@@ -1,7 +1,6 @@
 //! Points: their columns, how they are read, and the statements on them.
 
-ghost use Rattle.room_tables_rows.specs.Points.{is_point_row};
-ghost use Rattle.room_tables_rows.specs.Points.{point_row};
+ghost use Rattle.room_tables_rows.specs.Points.{is_point_row, point_row};
 ghost use Rattle.room_tables_rows.specs.Keys.{pair_cells};
 
 use crate::columns::{Field, Stored};

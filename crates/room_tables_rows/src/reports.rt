@@ -1,7 +1,6 @@
 //! Reports: their columns, how they are read, and the statements on them.
 
-ghost use Rattle.room_tables_rows.specs.Reports.{is_report_row};
-ghost use Rattle.room_tables_rows.specs.Reports.{report_row};
+ghost use Rattle.room_tables_rows.specs.Reports.{is_report_row, report_row};
 ghost use Rattle.room_tables_rows.specs.Keys.{numbered_cells};
 
 use crate::columns::{Field, Stored};

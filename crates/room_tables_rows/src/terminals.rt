@@ -4,9 +4,8 @@ ghost use Rattle.std.specs.Prelude.{◌≡◌, pos, is_some, IfSome};
 ghost use Rattle.sqlite.specs.Values.{bound, or_null};
 ghost use Rattle.sqlite_value.specs.Value.{owned};
 ghost use Rattle.sqlite_value.specs.declared.value.Value.TheVariants.{Int, Text};
-ghost use Rattle.room_tables_rows.specs.Terminals.{is_terminal_row};
+ghost use Rattle.room_tables_rows.specs.Terminals.{is_terminal_row, terminal_row, role_of, number_of, crew_of};
 ghost use Rattle.room_tables_rows.specs.Readable.{is_who};
-ghost use Rattle.room_tables_rows.specs.Terminals.{terminal_row, role_of, number_of, crew_of};
 
 use crate::columns::{Field, Stored, integer};
 use crate::fields::values_of;
@@ -91,9 +90,6 @@ pub const ALL_TERMINALS: &str =
 
 pub const TERMINAL_AT: &str =
     "SELECT token, role, number, callsign FROM terminals WHERE token = ?1 ORDER BY token";
-
-pub const CREW_TERMINALS: &str =
-    "SELECT token, role, number, callsign FROM terminals WHERE callsign = ?1 ORDER BY token";
 
 pub const PUT_TERMINAL: &str = "INSERT INTO terminals VALUES (?1, ?2, ?3, ?4) ON CONFLICT (token) \
     DO UPDATE SET token = excluded.token, role = excluded.role, number = excluded.number, \

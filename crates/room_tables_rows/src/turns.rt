@@ -1,7 +1,6 @@
 //! Turns: their columns, how they are read, and the statements on them.
 
-ghost use Rattle.room_tables_rows.specs.Turns.{is_turn_row};
-ghost use Rattle.room_tables_rows.specs.Turns.{turn_row};
+ghost use Rattle.room_tables_rows.specs.Turns.{is_turn_row, turn_row};
 ghost use Rattle.room_tables_rows.specs.Keys.{numbered_cells};
 
 use crate::columns::{Field, Stored};

@@ -1,7 +1,6 @@
 //! Vehicles: their columns, how they are read, and the statements on them.
 
-ghost use Rattle.room_tables_rows.specs.Vehicles.{is_vehicle_row};
-ghost use Rattle.room_tables_rows.specs.Vehicles.{vehicle_row};
+ghost use Rattle.room_tables_rows.specs.Vehicles.{is_vehicle_row, vehicle_row};
 ghost use Rattle.room_tables_rows.specs.Keys.{text_cells};
 
 use crate::columns::{Field, Stored};

@@ -1,7 +1,6 @@
 //! The test of a file's schema.
 
-ghost use Rattle.std.specs.Prelude.{◌≡◌, IsTrue, ◌↔◌, [], ◌∷◌, IsSome, map};
-ghost use Rattle.sqlite_schema.specs.Names.{table_named};
+ghost use Rattle.std.specs.Prelude.{◌≡◌, IsTrue, ◌↔◌, [], ◌∷◌, map};
 ghost use Rattle.sqlite_value.specs.Keys.{plain};
 ghost use Rattle.room_tables_schema.specs.Schema.{no_schema, room_tables, tables_schema, room_schema};
 ghost use Rattle.room_tables_schema.specs.Versions.{BeginsAsRoom};
@@ -34,13 +33,6 @@ pub fn has_tables_alone(schema: &Schema) -> bool
     ensures { IsTrue result ↔ (schema.now ≡ tables_schema) }
 {
     has_objects(schema, &INDEXES[..KEY_INDEXES])
-}
-
-/// Whether a schema has a table of this name, where the case of letters makes no difference.
-pub fn is_there(schema: &Schema, name: &str) -> bool
-    ensures { IsTrue result ↔ IsSome (table_named schema.now name.now) }
-{
-    schema.table_named(name.as_bytes()).is_some()
 }
 
 /// Whether a schema begins as that of a room does, of this version or another: with the table `meta`, and with no view.

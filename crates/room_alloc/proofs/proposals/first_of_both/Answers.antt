@@ -1,9 +1,8 @@
-use Rattle.std.proofs.Common.{ap, subst, sym, ◌∙◌, ◌-◌, ◌≡◌, None, length, map}
+use Rattle.std.proofs.Common.{ap, subst, sym, ◌∙◌, ◌-◌, ◌≡◌, None, length, map, true}
 use Rattle.std.specs.Prelude.{filter}
 use Rattle.room_place.specs.Choice.{AreFirst}
 use Rattle.room_model.specs.Proposals.{is_before}
 use Rattle.room_alloc.specs.Rings.{is_marked, proposal_at}
-use Rattle.std.proofs.Common.{true}
 use Rattle.room_alloc.proofs.RoundLaws.{first_of_both}
 use Rattle.room_alloc.proofs.proposals.first_of_both.Goals as goal
 

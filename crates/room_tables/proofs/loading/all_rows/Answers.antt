@@ -27,3 +27,18 @@ returns-clause-found g c clean =
     let is = g.met.X.Table.is_table in
     IfOk-weaker c.load.result _ _ (λ found read. (all_rows is.is_held g.X.Table.texts.all is.selects_all old (state g.S.Store c.load.new.conn) found (c.requires early) (rw c.statements.ensures.all at read.0) read.1).0)
     (ok_both c.load.result _ _ (c.load.ensures.shown clean) c.load.ensures.keyed)
+
+pub returns-clause-ok : goal.returns-clause-ok
+returns-clause-ok g c = c.load.ensures.ok
+
+pub returns-clause-err : goal.returns-clause-err
+returns-clause-err g c = c.load.ensures.err
+
+pub returns-clause-mode : goal.returns-clause-mode
+returns-clause-mode g c = c.load.ensures.mode
+
+pub returns-clause-survives : goal.returns-clause-survives
+returns-clause-survives g c = c.load.ensures.survives
+
+pub returns-clause-why : goal.returns-clause-why
+returns-clause-why g c clean = rw (c.statements.ensures.all) at (c.load.ensures.why clean)

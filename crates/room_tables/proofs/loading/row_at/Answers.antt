@@ -18,3 +18,18 @@ returns-clause-row g c clean =
     let is = g.met.X.Table.is_table in
     IfOk-weaker c.find.result _ _ (λ found shown. row_of_key is.is_held g.X.Table.texts.at _ c.args.key.now (is.selects_at c.args.key.now) old (state g.S.Store c.find.new.conn) found (c.requires early)
     (rw (c.statements.ensures.at, c.as_slice.ensures, c.key_columns.ensures) at shown)) (c.find.ensures.shown clean)
+
+pub returns-clause-ok : goal.returns-clause-ok
+returns-clause-ok g c = c.find.ensures.ok
+
+pub returns-clause-err : goal.returns-clause-err
+returns-clause-err g c = c.find.ensures.err
+
+pub returns-clause-mode : goal.returns-clause-mode
+returns-clause-mode g c = c.find.ensures.mode
+
+pub returns-clause-survives : goal.returns-clause-survives
+returns-clause-survives g c = c.find.ensures.survives
+
+pub returns-clause-why : goal.returns-clause-why
+returns-clause-why g c clean = rw (c.statements.ensures.at, c.as_slice.ensures, c.key_columns.ensures) at (c.find.ensures.why clean)

@@ -14,3 +14,24 @@ returns-clause-version g c clean =
     let shows = c.in_ok-shown.ensures.shown clean in
     let told = rw c.as_slice.ensures.value at c.one_tells.ensures in
     (λ yes. first_shown old _ _ (c.requires early) shows (told.0 yes), λ first. told.1 (shows_first old _ _ (c.requires early) shows first))
+
+pub returns-clause-ok : goal.returns-clause-ok
+returns-clause-ok g c clean = c.in_ok-shown.ensures.ok clean
+
+pub returns-clause-err : goal.returns-clause-err
+returns-clause-err g c clean = tt
+
+pub returns-clause-why : goal.returns-clause-why
+returns-clause-why g c clean = tt
+
+pub returns-clause-mode : goal.returns-clause-mode
+returns-clause-mode g c = c.select.ensures.mode
+
+pub returns-clause-survives : goal.returns-clause-survives
+returns-clause-survives g c = c.select.ensures.survives
+
+pub returns-in_err-shown-clause-mode : goal.returns-in_err-shown-clause-mode
+returns-in_err-shown-clause-mode g c = c.select.ensures.mode
+
+pub returns-in_err-shown-clause-survives : goal.returns-in_err-shown-clause-survives
+returns-in_err-shown-clause-survives g c = c.select.ensures.survives
