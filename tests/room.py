@@ -1,45 +1,52 @@
-"""What the tests of the program share: its commands, the command sqlite3, a room that is served, and the sum."""
+"""What the tests of the program share: its commands, the dry run, the command sqlite3, a room that
+is served, and what their test cases stand on."""
 import contextlib
 import email.utils
+import io
 import pathlib
 import random
 import socket
 import subprocess
+import tempfile
+import unittest
 
 TOP = pathlib.Path(__file__).resolve().parent.parent
 PROGRAM = TOP / 'crates' / 'dispatch_room' / 'out' / 'dispatch_room'
 PLAN = TOP / 'examples' / 'plan.csv'
 FLEET = TOP / 'examples' / 'fleet.csv'
-passed = failed = 0
 
 
-def is_built(crate='dispatch_room'):
-    """Builds a program where a source is newer than it, and tells where that fails."""
-    if subprocess.run([TOP / 'tools' / 'build', crate], stdin=subprocess.DEVNULL).returncode == 0:
-        return True
-    print(f'failed: {crate} is built\n0 passed, 1 failed')
-    return False
+class TestCase(unittest.TestCase):
+    """A test case with a folder. What differs is told whole, and which of it was wanted."""
+
+    def setUp(self):
+        self.folder = pathlib.Path(self.enterContext(tempfile.TemporaryDirectory()))
+
+    def assertEqual(self, got, wanted, msg=None):
+        if got != wanted:
+            told = f'  wanted {wanted!r}\n  got    {got!r}'
+            self.fail(told if msg is None else f'{msg}\n{told}')
+
+    def check(self, what, got, wanted):
+        """One check of several in a method, which goes on where it fails."""
+        with self.subTest(what):
+            self.assertEqual(got, wanted)
 
 
-def check(what, got, wanted):
-    """Counts a check, and tells it where it fails."""
-    global passed, failed
-    if got == wanted:
-        passed += 1
-    else:
-        failed += 1
-        print(f'failed: {what}\n  wanted {wanted!r}\n  got    {got!r}')
+# ---- commands
 
 
 def run(*words):
     """Runs a command; gives its status, what it printed, and what it told on standard error."""
-    done = subprocess.run([PROGRAM, *map(str, words)], stdin=subprocess.DEVNULL, capture_output=True, timeout=120)
+    done = subprocess.run([PROGRAM, *map(str, words)], stdin=subprocess.DEVNULL,
+                          capture_output=True, timeout=120)
     return done.returncode, done.stdout.decode(), done.stderr.decode()
 
 
 def sql(file, *texts):
     """What the command sqlite3 prints of a room's file."""
-    done = subprocess.run(['sqlite3', '-bail', file, *texts], capture_output=True, timeout=60)
+    done = subprocess.run(['sqlite3', '-bail', file, *texts], stdin=subprocess.DEVNULL,
+                          capture_output=True, timeout=60)
     return done.stdout.decode() if done.returncode == 0 else f'sqlite3: {done.stderr.decode()}'
 
 
@@ -47,14 +54,65 @@ def dump(file):
     return sql(file, '.dump')
 
 
-def made(room, *lines):
-    """A room of the example's plan, with lines of a fleet enrolled."""
+def drop_indexes(file):
+    """Drops the indexes of a room's file, and gives their names in the order in which they were
+    made."""
+    names = index_names(file)
+    told = sql(file, ';'.join(f'DROP INDEX {name}' for name in names))
+    assert told == '', told
+    return names
+
+
+def index_names(file):
+    return sql(file, "SELECT name FROM sqlite_schema "
+                     "WHERE type = 'index' AND sql IS NOT NULL ORDER BY rowid").split()
+
+
+def fleet_of(*rows):
+    """The text of a fleet's file."""
+    return '\n'.join(['callsign,division,kind,place,token', *rows]) + '\n'
+
+
+def made(room, *rows):
+    """A room of the example's plan, with rows of a fleet enrolled."""
     run('init', room, PLAN)
-    if lines:
+    if rows:
         fleet = room.with_suffix('.fleet')
-        fleet.write_text('\n'.join(['callsign,division,kind,place,token', *lines]) + '\n')
+        fleet.write_text(fleet_of(*rows))
         run('import', room, fleet)
     return room
+
+
+# ---- the dry run
+
+
+def dry_run(stdin, stdout=subprocess.PIPE, **named):
+    """Runs the dry run over a stream, or what is open; gives what it wrote, and its status with
+    what it told."""
+    given = {'input': stdin} if isinstance(stdin, bytes) else {'stdin': stdin}
+    done = subprocess.run([PROGRAM], **given, stdout=stdout, stderr=subprocess.PIPE, timeout=60,
+                          **named)
+    return done.stdout, (done.returncode, done.stderr)
+
+
+# How the dry run ends: its status, and what it tells.
+WELL = (0, b'')
+CUT = (1, b'refused: connection\n')
+FAULT = (4, b'network\n')
+
+CLOSE = 'Connection: close\r\n'
+
+
+def answer(status, content, more='', told=None):
+    """An answer of the dry run; of the content is told what is given, or else all."""
+    head = (f'HTTP/1.1 {status}\r\nDate: Thu, 01 Jan 1970 00:16:40 GMT\r\n'
+            f'Content-Type: application/json\r\nContent-Length: {len(content)}\r\n')
+    return f'{head}{more}\r\n{content if told is None else told}'.encode()
+
+
+def refusal(name, number):
+    """The content of a refusal."""
+    return f'{{"error":"{name}","number":{number}}}'
 
 
 # ---- a room that is served
@@ -73,38 +131,37 @@ def free_port():
 def serving(room, connections, *words):
     """Serves a room to so many connections; gives the port, and the process."""
     port = free_port()
-    address = f'127.0.0.1:{port}'
-    process = subprocess.Popen([PROGRAM, 'serve', room, address, '--connections', str(connections), *words],
-                               stdin=subprocess.DEVNULL, stdout=subprocess.PIPE, stderr=subprocess.PIPE)
-    line = process.stdout.readline()
-    if line != b'serving\n':
-        check('serving', (line, process.stderr.read()), (b'serving\n', b''))
+    command = [PROGRAM, 'serve', room, f'127.0.0.1:{port}', '--connections', str(connections)]
+    process = subprocess.Popen([*command, *words], stdin=subprocess.DEVNULL,
+                               stdout=subprocess.PIPE, stderr=subprocess.PIPE)
     try:
+        line = process.stdout.readline()
+        assert line == b'serving\n', f'not served: {line} {process.stderr.read()}'
         yield port, process
     finally:
         process.kill()
         process.communicate()
 
 
-def message(token, line, body='', close=False):
+def message(token, line, body=''):
     head = f'{line} HTTP/1.1\r\nHost: room\r\nX-Terminal: {token}\r\n'
-    if close:
-        head += 'Connection: close\r\n'
     return f'{head}Content-Length: {len(body)}\r\n\r\n{body}'.encode()
 
 
 def call(serial, place='TQ300800'):
-    return message('takerone', 'POST /call', f'{{"class":2,"needs":[1,0,0],"note":"","place":"{place}","serial":{serial}}}')
+    body = f'{{"class":2,"needs":[1,0,0],"note":"","place":"{place}","serial":{serial}}}'
+    return message('takerone', 'POST /call', body)
 
 
 def read_answer(stream):
     """The status and the body of the next answer; nothing at the end."""
-    answer = read_dated(stream)
-    return answer and answer[1:]
+    found = read_dated(stream)
+    return found and found[1:]
 
 
 def read_dated(stream):
-    """The moment, the status and the body of the next answer; nothing at the end. What has no Date has no moment."""
+    """The moment, the status and the body of the next answer; nothing at the end. What has no Date
+    has no moment."""
     head = b''
     while not head.endswith(b'\r\n\r\n'):
         line = stream.readline()
@@ -120,16 +177,16 @@ def read_dated(stream):
     return date and int(date.timestamp()), int(lines[0].split(' ')[1]), body.decode()
 
 
-def ask(port, *messages):
-    """Sends messages over one connection, in one piece, and gives the answers until it ends."""
+def talk(port, *messages):
+    """Sends messages over one connection, in one piece, and gives the bytes that come until it
+    ends."""
     with socket.create_connection(('127.0.0.1', port), timeout=30) as it:
         it.sendall(b''.join(messages))
         it.shutdown(socket.SHUT_WR)
-        stream = it.makefile('rb')
-        return list(iter(lambda: read_answer(stream), None))
+        return it.makefile('rb').read()
 
 
-def finish():
-    """Tells the sum, and gives the exit status."""
-    print(f'{passed} passed, {failed} failed')
-    return 1 if failed else 0
+def ask(port, *messages):
+    """Sends messages over one connection, in one piece, and gives the answers until it ends."""
+    stream = io.BytesIO(talk(port, *messages))
+    return list(iter(lambda: read_answer(stream), None))

@@ -1,14 +1,9 @@
-//! Tests of the store and of what stands below it, over public calls: that they can succeed, and what is found on disks that
-//! stop. No contract can say either.
+//! Tests of the store over its public calls: that they can succeed, which no contract says.
 #![tactic(auto)]
 
 #[cfg(test)]
-mod disks;
-#[cfg(test)]
-mod looking;
-#[cfg(test)]
 mod playing;
 #[cfg(test)]
-mod scripts;
+mod rooms;
 #[cfg(test)]
-mod stops;
+mod scripts;

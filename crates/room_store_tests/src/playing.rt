@@ -16,14 +16,14 @@ use sqlite::{Alter, Connection};
 use std::alloc::{AllocError, Global};
 use std::process::Abort;
 
-/// The number of the refusal that a failing disk is told as.
-pub(crate) const STORAGE: u8 = 42;
+/// The number of the refusal that a want of storage is told as.
+const STORAGE: u8 = 42;
 
 /// The number of the refusal that a want of memory is told as.
 const MEMORY: u8 = 41;
 
-/// Plays a script: what its steps were answered with, up to one for which the disk failed, and the connection again.
-/// A step is told as the number of its refusal, 0 for none.
+/// Plays a script: what its steps were answered with, each as the number of its refusal, 0 for none; and the connection
+/// again.
 pub(crate) fn play<S: Alter>(
     rt: &(impl AllocGlobal + Abort),
     conn: Connection<S>,
@@ -34,16 +34,11 @@ pub(crate) fn play<S: Alter>(
             let told = play_in(rt.alloc(), &mut store, script);
             (told, store.close())
         }
-        Err(conn) => (stopped(rt.alloc()), conn),
+        Err(conn) => (Vec::from_slice(rt.alloc(), &[STORAGE]), conn),
     }
 }
 
-/// What is told where the first step is stopped.
-pub(crate) fn stopped(alloc: Global) -> Result<Vec<u8>, AllocError> {
-    Vec::from_slice(alloc, &[STORAGE])
-}
-
-// Creates the room where there is nothing, or else opens it. A failing disk is told as a want of storage alone.
+// Creates the room where there is nothing, or else opens it.
 fn start<S: Alter>(
     rt: &(impl AllocGlobal + Abort),
     conn: Connection<S>,

@@ -23,49 +23,12 @@ pub(crate) struct House {
     pub(crate) desks: [Terminal; 2],
 }
 
-/// What one program does: it creates a room in an empty file, or else opens it, enrols rows, and acts on events. If it
-/// has statements, it runs them before, and looks at all that there is then.
+/// What one program does: it creates a room in an empty database, or else opens it, enrols rows, and acts on events.
 #[derive(Clone, Copy)]
 pub(crate) struct Script<'a> {
     pub(crate) house: &'a House,
-    pub(crate) before: Option<&'static str>,
     pub(crate) rows: &'a [FleetRow],
     pub(crate) events: &'a [Event],
-}
-
-impl House {
-    /// A script that runs statements and looks, and does no more.
-    pub(crate) fn after(&self, statements: &'static str) -> Script<'_> {
-        Script {
-            house: self,
-            before: Some(statements),
-            rows: &[],
-            events: &[],
-        }
-    }
-}
-
-impl<'a> Script<'a> {
-    /// A script that looks, and then does the step of this one at a place, if there is one.
-    pub(crate) fn step(&self, at: usize) -> Script<'a> {
-        let events = match at.checked_sub(self.rows.len()) {
-            Some(at) => one(self.events, at),
-            None => &[],
-        };
-        Script {
-            house: self.house,
-            before: Some(""),
-            rows: one(self.rows, at),
-            events,
-        }
-    }
-}
-
-fn one<T>(items: &[T], at: usize) -> &[T] {
-    match items.get(at..=at) {
-        Some(one) => one,
-        None => &[],
-    }
 }
 
 /// Division 1 in the west, and division 2 in the east.

@@ -1,23 +1,28 @@
-#!/usr/bin/env python3
+"""Files that another program has changed: each agreement of the rows broken once, values that no
+row has, tables and indexes missing or too many. The room is opened only where all agrees, and a
+refusal changes nothing."""
 # needs: python3 sqlite3
-"""Files that another program has changed: each agreement of the rows broken once, values that no row has, tables and
-indexes missing or too many. The room is opened only where all agrees, and a refusal changes nothing."""
+# builds: dispatch_room
 import pathlib
 import shutil
-import sys
 import tempfile
 
-from room import FLEET, check, dump, finish, is_built, made, run, sql
+from room import FLEET, TestCase, drop_indexes, dump, index_names, made, run, sql
 
-# A room with something of everything: A1 is on its way to incident 1, A2 is lent to division 2, A3 is offered to it, B1 waits
-# at a point; incident 2 was merged into 1, incident 3 is closed.
+# A room with something of everything: A1 is on its way to incident 1, A2 is lent to division 2, A3
+# is offered to it, B1 waits at a point; incident 2 was merged into 1, incident 3 is closed.
 WORK = """
 UPDATE divisions SET last_incident = 3 WHERE number = 1;
-INSERT INTO incidents VALUES (1, 1, 530000, 180000, 2, 1, 0, 0, 1000, 1200, 0, NULL), (1, 2, 531000, 180000, 2, 1, 0, 0, 1100, NULL, 2, 1),
+INSERT INTO incidents VALUES
+  (1, 1, 530000, 180000, 2, 1, 0, 0, 1000, 1200, 0, NULL),
+  (1, 2, 531000, 180000, 2, 1, 0, 0, 1100, NULL, 2, 1),
   (1, 3, 540000, 180000, 2, 1, 0, 0, 1050, NULL, 1, NULL);
-INSERT INTO calls VALUES (1, 1, 1, 1, 1, 0, 530000, 180000, 2, 1, 0, 0, x'', 1000), (1, 2, 1, 1, 2, 0, 531000, 180000, 2, 1, 0, 0, x'61', 1100),
+INSERT INTO calls VALUES
+  (1, 1, 1, 1, 1, 0, 530000, 180000, 2, 1, 0, 0, x'', 1000),
+  (1, 2, 1, 1, 2, 0, 531000, 180000, 2, 1, 0, 0, x'61', 1100),
   (1, 3, 1, 3, 3, 0, 540000, 180000, 2, 1, 0, 0, x'', 1050);
-UPDATE vehicles SET status = 2, shift_end = 9000, last_order = 1, last_report = 4 WHERE callsign = 'A1';
+UPDATE vehicles SET status = 2, shift_end = 9000, last_order = 1, last_report = 4
+  WHERE callsign = 'A1';
 INSERT INTO turns VALUES ('A1', 1, 1, 1, 1, 1200, NULL, NULL, NULL, NULL, NULL, 0);
 INSERT INTO assignments VALUES ('A1', 1, 1, 1, 530000, 180000, 2);
 INSERT INTO reports VALUES ('A1', 4, 0, 0, 530300, 180400, 1190, 1, 0, 1, 0);
@@ -31,16 +36,20 @@ UPDATE vehicles SET status = 1, shift_end = 9000, post = 1 WHERE callsign = 'B1'
 
 BROKEN = {
     'a vehicle on its way without an assignment': "DELETE FROM assignments",
-    'an assignment of a vehicle that waits': "INSERT INTO assignments VALUES ('B1', 1, 1, 1, 530000, 180000, 2)",
+    'an assignment of a vehicle that waits':
+        "INSERT INTO assignments VALUES ('B1', 1, 1, 1, 530000, 180000, 2)",
     'a vehicle on its way without an open turn': "UPDATE turns SET ended = 1300",
     'a turn and an assignment of different incidents': "UPDATE assignments SET incident = 3",
     'a turn and an assignment of different orders': "UPDATE assignments SET ord = 2",
-    'an open turn that is not of the last order': "UPDATE vehicles SET last_order = 2 WHERE callsign = 'A1'",
+    'an open turn that is not of the last order':
+        "UPDATE vehicles SET last_order = 2 WHERE callsign = 'A1'",
     'a turn past the last order': "UPDATE vehicles SET last_order = 0 WHERE callsign = 'A1'",
     'an assignment to a closed incident': "UPDATE incidents SET state = 1 WHERE number = 1",
-    'a vehicle on its way that another division holds': "UPDATE vehicles SET holder = 2 WHERE callsign = 'A1'",
+    'a vehicle on its way that another division holds':
+        "UPDATE vehicles SET holder = 2 WHERE callsign = 'A1'",
     'an offered vehicle without an offer': "DELETE FROM offers",
-    'an offer of a vehicle that is not offered': "UPDATE vehicles SET status = 1 WHERE callsign = 'A3'",
+    'an offer of a vehicle that is not offered':
+        "UPDATE vehicles SET status = 1 WHERE callsign = 'A3'",
     'an offer to the lender': "UPDATE offers SET borrower = 1",
     'an offer to a division outside the plan': "UPDATE offers SET borrower = 3",
     'an offer by another than the holder': "UPDATE offers SET lender = 2, borrower = 1",
@@ -62,7 +71,8 @@ BROKEN = {
     'a crew of no vehicle': "INSERT INTO terminals VALUES ('crewofz9', 2, 0, 'Z9')",
     'a vehicle without a crew': "DELETE FROM terminals WHERE callsign = 'C1'",
     'a vehicle with two crews': "INSERT INTO terminals VALUES ('crewofc9', 2, 0, 'C1')",
-    'a desk of a division outside the plan': "INSERT INTO terminals VALUES ('deskthree', 0, 3, NULL)",
+    'a desk of a division outside the plan':
+        "INSERT INTO terminals VALUES ('deskthree', 0, 3, NULL)",
     'no area': "DELETE FROM areas",
     'no zone': "UPDATE meta SET zone = 'no zone'",
     'a table too few': "DROP TABLE offers",
@@ -91,42 +101,42 @@ def opened(room):
     return status, told
 
 
-def test_each(room, folder, changes, wanted):
-    changed = folder / 'changed.db'
-    for what, change in changes.items():
-        shutil.copy(room, changed)
-        check(f'{what}: the change is made', sql(changed, change), '')
-        before = dump(changed)
-        check(what, opened(changed), wanted)
-        check(f'{what}: nothing is changed', dump(changed), before)
+class Hostile(TestCase):
+    @classmethod
+    def setUpClass(cls):
+        folder = cls.enterClassContext(tempfile.TemporaryDirectory())
+        cls.room = made(pathlib.Path(folder) / 'room.db')
+        run('import', cls.room, FLEET)
+        cls.told = sql(cls.room, WORK)
 
+    def copy(self):
+        return pathlib.Path(shutil.copy(self.room, self.folder / 'changed.db'))
 
-def test_indexes(room, folder):
-    """A file without indexes is a room: they are made anew, and no row changes."""
-    changed, names = folder / 'plain.db', "SELECT name FROM sqlite_master WHERE type = 'index' AND sql IS NOT NULL ORDER BY rowid"
-    shutil.copy(room, changed)
-    indexes = sql(changed, names).split()
-    check('five indexes', len(indexes), 5)
-    check('they are dropped', sql(changed, ';'.join(f'DROP INDEX {name}' for name in indexes)), '')
-    check('the room is opened', opened(changed), (0, ''))
-    check('the indexes are there again', sql(changed, names).split(), indexes)
-    check('the rows are the same', sorted(dump(changed).splitlines()), sorted(dump(room).splitlines()))
+    def check_each(self, changes, wanted):
+        for what, change in changes.items():
+            changed = self.copy()
+            self.check(f'{what}: the change is made', sql(changed, change), '')
+            before = dump(changed)
+            self.check(what, opened(changed), wanted)
+            self.check(f'{what}: nothing is changed', dump(changed), before)
 
+    def test_room_is_sound(self):
+        self.check('the rows are there', self.told, '')
+        self.check('the room is sound', opened(self.copy()), (0, ''))
 
-def main():
-    if not is_built():
-        return 1
-    with tempfile.TemporaryDirectory() as name:
-        folder = pathlib.Path(name)
-        room = made(folder / 'room.db')
-        run('import', room, FLEET)
-        check('a script', sql(room, WORK), '')
-        check('the room is sound', opened(room), (0, ''))
-        test_each(room, folder, BROKEN, (1, 'refused: file\n'))
-        test_each(room, folder, WRONG, (3, 'storage\n'))
-        test_indexes(room, folder)
-    return finish()
+    def test_broken_agreements(self):
+        self.check_each(BROKEN, (1, 'refused: file\n'))
 
+    def test_values_of_no_row(self):
+        self.check_each(WRONG, (3, 'storage\n'))
 
-if __name__ == '__main__':
-    sys.exit(main())
+    def test_indexes(self):
+        """A file without indexes is a room: they are made anew, and no row changes."""
+        changed = self.copy()
+        indexes = drop_indexes(changed)
+        self.check('five indexes', len(indexes), 5)
+        self.check('they are dropped', index_names(changed), [])
+        self.check('the room is opened', opened(changed), (0, ''))
+        self.check('the indexes are there again', index_names(changed), indexes)
+        self.check('the rows are the same',
+                   sorted(dump(changed).splitlines()), sorted(dump(self.room).splitlines()))

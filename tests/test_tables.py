@@ -1,32 +1,37 @@
-#!/usr/bin/env python3
+"""The tables from outside: a day in a room that is served, and then what the command sqlite3 reads
+of its file. In the day each table has rows put, and those that lose rows have rows dropped. The
+rows wanted are said by the requests; their moments are those that the answers' Date tells."""
 # needs: python3 sqlite3
-"""The tables from outside: a day in a room that is served, and then what the command sqlite3 reads of its file. In the day
-each table has rows put, and those that lose rows have rows dropped. The rows wanted are said by the requests; their
-moments are those that the answers' Date tells."""
+# builds: dispatch_room
 import json
 import pathlib
 import socket
-import sys
 import tempfile
 import time
 
-from room import FLEET, check, finish, is_built, made, message, read_dated, run, serving, sql
+from room import FLEET, TestCase, made, message, read_dated, run, serving, sql
 
-# The tables in the order in which they are made: how many of their first columns are the key, and their columns. A column
-# is a whole number where no type is told; one with a question mark may be NULL.
+# The tables in the order in which they are made: how many of their first columns are the key, and
+# their columns. A column is a whole number where no type is told; one with a question mark may be
+# NULL.
 TABLES = {
     'meta': (1, 'id version zone:TEXT'),
     'areas': (1, 'n division west south east north'),
     'terminals': (1, 'token:TEXT role number callsign:TEXT?'),
     'divisions': (1, 'number last_incident'),
-    'incidents': (2, 'division number east north class need1 need2 need3 opened first_order? state into_number?'),
-    'calls': (2, 'position serial division incident given linked east north class need1 need2 need3 note:BLOB moment'),
-    'vehicles': (1, 'callsign:TEXT home holder kind east north status shift_end post? last_order last_report'),
-    'turns': (2, 'callsign:TEXT ord division incident kind ordered acknowledged? scene? left_at? hospital? ended? stood_down'),
+    'incidents': (2, 'division number east north class need1 need2 need3 opened first_order? '
+                     'state into_number?'),
+    'calls': (2, 'position serial division incident given linked east north class need1 need2 '
+                 'need3 note:BLOB moment'),
+    'vehicles': (1, 'callsign:TEXT home holder kind east north status shift_end post? last_order '
+                    'last_report'),
+    'turns': (2, 'callsign:TEXT ord division incident kind ordered acknowledged? scene? left_at? '
+                 'hospital? ended? stood_down'),
     'assignments': (1, 'callsign:TEXT division incident ord east north class'),
     'points': (2, 'division number east north cover'),
     'loans': (1, 'callsign:TEXT lender borrower since until recalled'),
-    'reports': (2, 'callsign:TEXT number button ord east north moment division outcome status cleared'),
+    'reports': (2, 'callsign:TEXT number button ord east north moment division outcome status '
+                   'cleared'),
     'offers': (1, 'callsign:TEXT lender borrower since until'),
 }
 
@@ -41,10 +46,12 @@ reports_by_outcome|reports|outcome,cleared,division
 
 
 class Room:
-    """A room that is served, over one connection."""
+    """A room that is served, over one connection, and what it was asked: each request with what
+    was told of its answer, and what was wanted."""
 
     def __init__(self, connection):
-        self.connection, self.stream, self.moment = connection, connection.makefile('rb'), 0
+        self.connection, self.stream = connection, connection.makefile('rb')
+        self.moment, self.asked = 0, []
 
     def later(self):
         """Waits for a second in which nothing was answered yet."""
@@ -53,23 +60,27 @@ class Room:
         return self
 
     def ask(self, token, line, answer, **members):
-        """Sends a request with these members, and checks its answer; gives the moment of it."""
+        """Sends a request with these members; gives the moment of its answer."""
         self.connection.sendall(message(token, line, json.dumps(members) if members else ''))
         self.moment, *told = read_dated(self.stream) or (0,)
-        check(line, told, [200, answer])
+        self.asked.append((line, told, [200, answer]))
         return self.moment
 
     def do(self, desk, line, **members):
         return self.ask(desk, line, '{"done":true}', **members)
 
     def call(self, serial, place, call_class, needs, note, answer):
-        return self.ask('takerone', 'POST /call', answer, serial=serial, place=place, needs=needs, note=note, **{'class': call_class})
+        members = {'serial': serial, 'place': place, 'needs': needs, 'note': note}
+        return self.ask('takerone', 'POST /call', answer, **members, **{'class': call_class})
 
     def mobilise(self, incident, vehicle, order):
-        return self.ask('deskone1', f'POST /incidents/{incident}/mobilise', f'{{"order":{order},"vehicle":"{vehicle}"}}', vehicle=vehicle)
+        answer = f'{{"order":{order},"vehicle":"{vehicle}"}}'
+        line = f'POST /incidents/{incident}/mobilise'
+        return self.ask('deskone1', line, answer, vehicle=vehicle)
 
     def report(self, crew, number, button, order, place, outcome, status):
-        return self.ask(crew, 'POST /report', f'{{"number":{number},"outcome":"{outcome}","status":{status}}}',
+        answer = f'{{"number":{number},"outcome":"{outcome}","status":{status}}}'
+        return self.ask(crew, 'POST /report', answer,
                         number=number, button=button, order=order, place=place)
 
 
@@ -77,27 +88,36 @@ def begin_shifts(room):
     room.do('deskone1', 'POST /points/7', cover=9, place='TQ300800')
     room.do('deskone1', 'POST /points/7', cover=1, place='TQ3000180002')
     room.do('desktwo2', 'POST /points/99', cover=0, place='TQ600800')
-    for desk, vehicle, place, until in [('deskone1', 'A1', 'TQ303804', 4000000001), ('deskone1', 'A2', 'TQ304803', 4000000002),
-                                        ('deskone1', 'A3', 'TQ300801', 4000000003), ('desktwo2', 'B1', 'TQ610810', 4000000004),
+    for desk, vehicle, place, until in [('deskone1', 'A1', 'TQ303804', 4000000001),
+                                        ('deskone1', 'A2', 'TQ304803', 4000000002),
+                                        ('deskone1', 'A3', 'TQ300801', 4000000003),
+                                        ('desktwo2', 'B1', 'TQ610810', 4000000004),
                                         ('deskone1', 'C1', 'TQ301802', 4000000005)]:
         room.do(desk, f'POST /vehicles/{vehicle}/duty', place=place, until=until)
-    for desk, vehicle, point in [('deskone1', 'A2', 7), ('deskone1', 'C1', 7), ('desktwo2', 'B1', 99)]:
+    for desk, vehicle, point in [('deskone1', 'A2', 7), ('deskone1', 'C1', 7),
+                                 ('desktwo2', 'B1', 99)]:
         room.do(desk, f'POST /vehicles/{vehicle}/standby', point=point)
 
 
+def called(division, incident, linked='false'):
+    return f'{{"division":{division},"incident":{incident},"linked":{linked}}}'
+
+
 def take_calls(room, at):
-    """Calls that make four incidents of division 1 and one of 2: the second is linked to the first, and the last is closed."""
-    at['call 1'] = room.call(1, 'TQ300800', 2, [2, 0, 0], 'a fall', '{"division":1,"incident":1,"linked":false}')
-    at['call 2'] = room.later().call(2, 'TQ302800', 1, [1, 1, 0], 'Gärten', '{"division":1,"incident":1,"linked":true}')
-    at['call 3'] = room.later().call(3, 'TQ350850', 3, [1, 0, 2], '', '{"division":1,"incident":2,"linked":false}')
-    at['call 4'] = room.call(4, 'TQ400900', 3, [0, 0, 1], "it's", '{"division":1,"incident":3,"linked":false}')
-    at['call 5'] = room.call(5, 'TQ600800', 2, [1, 0, 0], '', '{"division":2,"incident":1,"linked":false}')
+    """Calls that make four incidents of division 1 and one of 2: the second is linked to the
+    first, and the last is closed."""
+    at['call 1'] = room.call(1, 'TQ300800', 2, [2, 0, 0], 'a fall', called(1, 1))
+    at['call 2'] = room.later().call(2, 'TQ302800', 1, [1, 1, 0], 'Gärten', called(1, 1, 'true'))
+    at['call 3'] = room.later().call(3, 'TQ350850', 3, [1, 0, 2], '', called(1, 2))
+    at['call 4'] = room.call(4, 'TQ400900', 3, [0, 0, 1], "it's", called(1, 3))
+    at['call 5'] = room.call(5, 'TQ600800', 2, [1, 0, 0], '', called(2, 1))
     room.do('desktwo2', 'POST /incidents/1/needs', needs=[9, 8, 7])
     room.do('deskone1', 'POST /incidents/3/close')
 
 
 def send_vehicles(room, at):
-    """A3 is sent to incident 2 and stood down, A1 goes through a whole turn, and A3 is at the scene of incident 1."""
+    """A3 is sent to incident 2 and stood down, A1 goes through a whole turn, and A3 is at the
+    scene of incident 1."""
     at['A3 sent'] = room.later().mobilise(2, 'A3', 1)
     at['A1 sent'] = room.later().mobilise(1, 'A1', 1)
     at['A3 stood down'] = room.later().do('deskone1', 'POST /vehicles/A3/standdown')
@@ -117,7 +137,8 @@ def send_vehicles(room, at):
 
 
 def lend_vehicles(room, at):
-    """A1 is lent and given back; of A2's offers one is declined, one withdrawn, one accepted and recalled; B1 is offered."""
+    """A1 is lent and given back; of A2's offers one is declined, one withdrawn, one accepted and
+    recalled; B1 is offered."""
     room.do('deskone1', 'POST /vehicles/A1/lend', to=2, until=4000000011)
     room.do('desktwo2', 'POST /vehicles/A1/accept')
     at['A1 lent'] = room.report('crewofa1', 11, 'position', 0, 'TQ601801', 'normal', 1)
@@ -133,7 +154,7 @@ def lend_vehicles(room, at):
 
 
 def play(port):
-    """Plays the day; gives its moments."""
+    """Plays the day; gives what was asked, and the moments."""
     at = {}
     with socket.create_connection(('127.0.0.1', port), timeout=30) as connection:
         room = Room(connection)
@@ -141,16 +162,20 @@ def play(port):
         take_calls(room, at)
         send_vehicles(room, at)
         lend_vehicles(room, at)
-    return at
+    return room.asked, at
 
 
 # ---- the rows that the day leaves, in the order of their keys
 
 PLAN_ROWS = {
     'meta': [(1, 2, 'GMT0BST,M3.5.0/1,M10.5.0')],
-    'areas': [(1, 1, 500000, 100000, 549999, 199999), (2, 2, 550000, 100000, 599999, 199999)],
-    'terminals': [('crewofa1', 2, 0, 'A1'), ('crewofa2', 2, 0, 'A2'), ('crewofa3', 2, 0, 'A3'), ('crewofb1', 2, 0, 'B1'),
-                  ('crewofc1', 2, 0, 'C1'), ('deskone1', 0, 1, None), ('desktwo2', 0, 2, None), ('takerone', 1, 1, None)],
+    'areas': [
+        (1, 1, 500000, 100000, 549999, 199999),
+        (2, 2, 550000, 100000, 599999, 199999)],
+    'terminals': [
+        ('crewofa1', 2, 0, 'A1'), ('crewofa2', 2, 0, 'A2'), ('crewofa3', 2, 0, 'A3'),
+        ('crewofb1', 2, 0, 'B1'), ('crewofc1', 2, 0, 'C1'), ('deskone1', 0, 1, None),
+        ('desktwo2', 0, 2, None), ('takerone', 1, 1, None)],
     'divisions': [(1, 3), (2, 1)],
     'points': [(1, 7, 530001, 180002, 1), (2, 99, 560000, 180000, 0)],
 }
@@ -175,11 +200,14 @@ def incident_rows(at):
 def vehicle_rows(at):
     return {
         'vehicles': [
-            ('A1', 1, 1, 1, 560100, 180100, 1, 4000000001, None, 1, 11), ('A2', 1, 2, 1, 530400, 180300, 1, 4000000002, None, 0, 0),
-            ('A3', 1, 1, 1, 530000, 180200, 3, 4000000003, None, 2, 1), ('B1', 2, 2, 1, 561000, 181000, 7, 4000000004, None, 0, 0),
+            ('A1', 1, 1, 1, 560100, 180100, 1, 4000000001, None, 1, 11),
+            ('A2', 1, 2, 1, 530400, 180300, 1, 4000000002, None, 0, 0),
+            ('A3', 1, 1, 1, 530000, 180200, 3, 4000000003, None, 2, 1),
+            ('B1', 2, 2, 1, 561000, 181000, 7, 4000000004, None, 0, 0),
             ('C1', 1, 1, 2, 530100, 180200, 1, 4000000005, 7, 0, 0)],
         'turns': [
-            ('A1', 1, 1, 1, 1, at['A1 sent'], at['A1 mobile'], at['A1 scene'], at['A1 leave'], at['A1 hospital'], at['A1 return'], 0),
+            ('A1', 1, 1, 1, 1, at['A1 sent'], at['A1 mobile'], at['A1 scene'], at['A1 leave'],
+             at['A1 hospital'], at['A1 return'], 0),
             ('A3', 1, 1, 2, 1, at['A3 sent'], None, None, None, None, at['A3 stood down'], 1),
             ('A3', 2, 1, 1, 1, at['A3 sent again'], None, at['A3 scene'], None, None, None, 0)],
         'assignments': [('A3', 1, 1, 2, 530000, 180000, 1)],
@@ -226,39 +254,57 @@ def columns_of(key, columns):
         yield name, kind or 'INTEGER', int(not column.endswith('?')), place if place <= key else 0
 
 
-def test_schema(room):
-    check('the file is whole', sql(room, 'PRAGMA integrity_check'), 'ok\n')
-    check('tables and indexes alone', sql(room, 'SELECT type, count(*) FROM sqlite_schema WHERE sql IS NOT NULL GROUP BY type'), 'index|5\ntable|13\n')
-    check('the tables', sql(room, "SELECT name FROM sqlite_schema WHERE type = 'table' ORDER BY rowid").split(), list(TABLES))
-    check('they are STRICT', sql(room, "SELECT count(*) FROM pragma_table_list WHERE schema = 'main' AND strict"), '13\n')
-    for table, (key, columns) in TABLES.items():
-        found = sql(room, f"""SELECT name, type, "notnull", pk FROM pragma_table_xinfo('{table}')""")
-        check(f'the columns of {table}', found, lines(columns_of(key, columns), str, '|'))
-    check('the indexes', sql(room, "SELECT it.name, tbl_name, (SELECT group_concat(name) FROM pragma_index_info(it.name)) "
-                                   "FROM sqlite_schema AS it WHERE type = 'index' AND sql IS NOT NULL ORDER BY it.rowid"), INDEXES)
+# The columns of each index, in the order in which they were made.
+INDEX_QUERY = """
+SELECT it.name, tbl_name, (SELECT group_concat(name) FROM pragma_index_info(it.name))
+FROM sqlite_schema AS it WHERE type = 'index' AND sql IS NOT NULL ORDER BY it.rowid
+"""
 
 
-def test_rows(room, at):
-    wanted = PLAN_ROWS | incident_rows(at) | vehicle_rows(at) | report_rows(at)
-    check('all tables have rows', sorted(table for table in wanted if wanted[table]), sorted(TABLES))
-    for table in TABLES:
-        found = sql(room, '.mode quote', f'SELECT * FROM {table} ORDER BY 1, 2')
-        check(f'the rows of {table}', found, lines(wanted[table], literal, ','))
+class Tables(TestCase):
+    @classmethod
+    def setUpClass(cls):
+        folder = cls.enterClassContext(tempfile.TemporaryDirectory())
+        cls.room = made(pathlib.Path(folder) / 'room.db')
+        run('import', cls.room, FLEET)
+        with serving(cls.room, 1, '--patience', '10') as (port, process):
+            cls.asked, cls.at = play(port)
+            cls.status = process.wait(timeout=30)
 
+    def test_day(self):
+        for line, told, wanted in self.asked:
+            self.check(line, told, wanted)
+        self.check('the day ends', self.status, 0)
 
-def main():
-    if not is_built():
-        return 1
-    with tempfile.TemporaryDirectory() as folder:
-        room = made(pathlib.Path(folder) / 'room.db')
-        run('import', room, FLEET)
-        with serving(room, 1, '--patience', '10') as (port, process):
-            at = play(port)
-            check('the day ends', process.wait(timeout=30), 0)
-        test_schema(room)
-        test_rows(room, at)
-    return finish()
+    def test_file_is_whole(self):
+        self.assertEqual(sql(self.room, 'PRAGMA integrity_check'), 'ok\n')
 
+    def test_tables_and_indexes_alone(self):
+        counts = 'SELECT type, count(*) FROM sqlite_schema WHERE sql IS NOT NULL GROUP BY type'
+        self.assertEqual(sql(self.room, counts), 'index|5\ntable|13\n')
 
-if __name__ == '__main__':
-    sys.exit(main())
+    def test_tables(self):
+        names = "SELECT name FROM sqlite_schema WHERE type = 'table' ORDER BY rowid"
+        self.assertEqual(sql(self.room, names).split(), list(TABLES))
+
+    def test_tables_are_strict(self):
+        strict = "SELECT count(*) FROM pragma_table_list WHERE schema = 'main' AND strict"
+        self.assertEqual(sql(self.room, strict), '13\n')
+
+    def test_columns(self):
+        for table, (key, columns) in TABLES.items():
+            info = f"""SELECT name, type, "notnull", pk FROM pragma_table_xinfo('{table}')"""
+            self.check(f'the columns of {table}', sql(self.room, info),
+                       lines(columns_of(key, columns), str, '|'))
+
+    def test_indexes(self):
+        self.assertEqual(sql(self.room, INDEX_QUERY), INDEXES)
+
+    def test_rows(self):
+        at = self.at
+        wanted = PLAN_ROWS | incident_rows(at) | vehicle_rows(at) | report_rows(at)
+        self.check('all tables have rows',
+                   sorted(table for table in wanted if wanted[table]), sorted(TABLES))
+        for table in TABLES:
+            found = sql(self.room, '.mode quote', f'SELECT * FROM {table} ORDER BY 1, 2')
+            self.check(f'the rows of {table}', found, lines(wanted[table], literal, ','))

@@ -1,2 +1,0 @@
--- bytes that are read one after another
-pub mod LineLemmas

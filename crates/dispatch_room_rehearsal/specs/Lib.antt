@@ -1,2 +1,0 @@
--- the line that tells the moments
-pub mod Lines

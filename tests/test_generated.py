@@ -1,0 +1,37 @@
+"""What tools/tables.py writes is what is committed: what the statements on each table say."""
+# needs: python3
+import filecmp
+import pathlib
+import subprocess
+import sys
+import tempfile
+
+from room import TOP, TestCase
+
+COMMITTED = TOP / 'crates' / 'room_tables_rows' / 'proofs'
+MARK = b'Written by tools/tables.py'
+
+
+def files_in(folder):
+    return sorted(it for it in folder.rglob('*') if it.is_file())
+
+
+class Generated(TestCase):
+    @classmethod
+    def setUpClass(cls):
+        cls.written = pathlib.Path(cls.enterClassContext(tempfile.TemporaryDirectory()))
+        subprocess.run([sys.executable, TOP / 'tools' / 'tables.py', cls.written], check=True)
+
+    def test_what_is_written_is_committed(self):
+        files = files_in(self.written)
+        self.assertTrue(files, 'tools/tables.py writes nothing')
+        for file in files:
+            committed = COMMITTED / file.relative_to(self.written)
+            with self.subTest(committed.relative_to(TOP)):
+                self.assertTrue(filecmp.cmp(file, committed, shallow=False),
+                                'it is not what tools/tables.py writes')
+
+    def test_what_says_so_is_written(self):
+        says = [it.relative_to(COMMITTED) for it in files_in(COMMITTED) if MARK in it.read_bytes()]
+        others = [str(it) for it in says if not (self.written / it).exists()]
+        self.assertEqual(others, [])

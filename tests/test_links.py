@@ -1,0 +1,23 @@
+"""Each link in README.md and docs/ leads to a file that is there, and one to a line to the
+function that it names."""
+import re
+
+from room import TOP, TestCase
+
+LINK = re.compile(r'\[([^\]]+)\]\(([^)#\s]+)(?:#L(\d+))?\)')
+
+
+class Links(TestCase):
+    def test_links(self):
+        pages = [TOP / 'README.md', *sorted((TOP / 'docs').glob('*.md'))]
+        links = [(page, *it) for page in pages for it in LINK.findall(page.read_text())]
+        for page, name, path, line in links:
+            if '://' not in path:
+                with self.subTest(f'{page.name}: {name}, {path} {line}'):
+                    self.look(page.parent / path, name, line)
+
+    def look(self, target, name, line):
+        self.assertTrue(target.exists(), 'there is no such file')
+        if line:
+            lines = ['', *target.read_text().split('\n')]
+            self.assertRegex(lines[int(line)], rf'\bfn {name}\b')

@@ -1,0 +1,237 @@
+"""Memory from outside: each allocation of the program is refused in turn, alone or with all that
+come after it. What was answered stands, what was not has changed nothing, and the same command
+then ends well. Where the program gets along without what was refused, it does as ever."""
+# needs: python3 gcc libc6-dev sqlite3
+# builds: dispatch_room
+import re
+
+from preloaded import EVERY, PreloadedTestCase
+from room import FLEET, PLAN, call, dump, made, message, sql
+
+# What is preloaded into the program.
+REFUSING = r"""
+// Refuses the allocations from number FIRST to number LAST, counted from 1, and tells in the file
+// COUNTED how many there were.
+#define _GNU_SOURCE
+#include <dlfcn.h>
+#include <errno.h>
+#include <stdio.h>
+#include <stdlib.h>
+
+static long counted, first, last = -1;
+
+__attribute__((constructor)) static void begin(void) {
+  counted = 0;
+  first = atol(getenv("FIRST"));
+  last = atol(getenv("LAST"));
+}
+
+__attribute__((destructor)) static void end(void) {
+  long count = counted;
+  last = -1;
+  FILE *file = fopen(getenv("COUNTED"), "w");
+  if (file == NULL) return;
+  fprintf(file, "%ld\n", count);
+  fclose(file);
+}
+
+static int is_refused(void) {
+  ++counted;
+  if (counted < first || counted > last) return 0;
+  errno = ENOMEM;
+  return 1;
+}
+
+#define NEXT(name) ((__typeof__(&name))dlsym(RTLD_NEXT, #name))
+
+void *malloc(size_t size) { return is_refused() ? NULL : NEXT(malloc)(size); }
+void *realloc(void *old, size_t size) { return is_refused() ? NULL : NEXT(realloc)(old, size); }
+void *aligned_alloc(size_t align, size_t size) {
+  return is_refused() ? NULL : NEXT(aligned_alloc)(align, size);
+}
+int posix_memalign(void **out, size_t align, size_t size) {
+  return is_refused() ? ENOMEM : NEXT(posix_memalign)(out, align, size);
+}
+"""
+
+# How the program ends where it wants memory, and its last answer then.
+NO_MEMORY = (5, b'', b'memory\n')
+WANT = (b'HTTP/1.1 503 Service Unavailable\r\nContent-Type: application/json\r\n'
+        b'Content-Length: 30\r\nConnection: close\r\n\r\n'
+        b'{"error":"Memory","number":41}')
+
+LAST = 10 ** 9  # no program makes so many allocations
+
+
+def without(first, last):
+    """What the library is told: the first and the last allocation that the program does not
+    get."""
+    return {'FIRST': first, 'LAST': last}
+
+
+NOTHING = without(0, 0)
+
+# ---- the dry run
+
+DRY_RUN = [
+    message('deskone1', 'POST /points/7', '{"cover":2,"place":"TQ300800"}'),
+    message('deskone1', 'POST /vehicles/A1/duty', '{"place":"TQ303804","until":50000}'),
+    message('deskone1', 'POST /vehicles/A2/duty', '{"place":"TQ304803","until":50000}'),
+    message('deskone1', 'POST /vehicles/A2/standby', '{"point":7}'),
+    call(1),
+    message('deskone1', 'GET /incidents/1/propose'),
+    message('deskone1', 'POST /incidents/1/mobilise', '{"vehicle":"A1"}'),
+    message('crewofa1', 'POST /report',
+            '{"button":"scene","number":1,"order":1,"place":"TQ300800"}'),
+    message('deskone1', 'GET /queue'),
+    message('deskone1', 'POST /queue/A1/1/clear'),
+    message('deskone1', 'POST /vehicles/A2/lend', '{"to":2,"until":9000}'),
+    message('desktwo2', 'POST /vehicles/A2/accept'),
+    message('deskone1', 'GET /loans'),
+    message('deskone1', 'GET /vehicles'),
+    message('deskone1', 'GET /times/1970-01-01'),
+]
+
+
+def split(answers):
+    """The answers of a stream, each whole."""
+    found = []
+    while answers:
+        head, _, _ = answers.partition(b'\r\n\r\n')
+        length = len(head) + 4 + int(re.search(rb'Content-Length: (\d+)', head)[1])
+        found.append(answers[:length])
+        answers = answers[length:]
+    return found
+
+
+# ---- the commands over a file
+
+CALLSIGNS = ['A1', 'A2', 'A3', 'B1', 'C1']
+
+INCIDENT = """
+UPDATE divisions SET last_incident = 1 WHERE number = 1;
+INSERT INTO incidents VALUES (1, 1, 530000, 180000, 2, 1, 0, 0, 1774742400, NULL, 0, NULL);
+INSERT INTO calls VALUES (1, 1, 1, 1, 1, 0, 530000, 180000, 2, 1, 0, 0, x'', 1774742400);
+"""
+
+# What comes of a call to a room that is served, and what may come of it where memory is refused:
+# the answers, the status, and what is told.
+ANSWERED = [(200, '{"division":1,"incident":1,"linked":false}')]
+WANTING = [(503, '{"error":"Memory","number":41}')]
+CALLED = (ANSWERED, 0, b'')
+ENDS = [CALLED, (ANSWERED, 5, b'memory\n'), (WANTING, 0, b''), (WANTING, 5, b'memory\n'),
+        ([], 5, b'memory\n')]
+
+
+def rows_of(room):
+    """All that the file holds, but for the moments of today."""
+    return re.sub(r'\b\d{10}\b', 'MOMENT', dump(room))
+
+
+class Memory(PreloadedTestCase):
+    LIBRARY = REFUSING
+
+    def each(self, most):
+        """What is refused in turn, once a run with nothing refused has told how many allocations
+        there are: each of the first, then one in so many that there are about so many in all, each
+        alone and with all that follow it; with --all each of them. Beside it, its name."""
+        total = self.program.total()
+        self.check('memory is asked for', total > 0, True)
+        most = 2 * total if EVERY else most
+        near = range(1, min(total, most // 2) + 1)
+        far = range(len(near) + 1, total + 1, 1 + (total - len(near)) // (most // 2))
+        for number in [*near, *far]:
+            yield without(number, number), f'allocation {number}'
+            yield without(number, LAST), f'allocation {number} and all after it'
+
+    def test_dry_run(self):
+        stream = b''.join(DRY_RUN)
+        ever = status, out, err = self.program.run(NOTHING, given=stream)
+        answers = split(out)
+        self.check('the dry run', (status, err, [answer[:15] for answer in answers]),
+                   (0, b'', [b'HTTP/1.1 200 OK'] * len(DRY_RUN)))
+        wanted = [NO_MEMORY]
+        wanted += [(0, b''.join(answers[:count]) + WANT, b'') for count in range(len(answers))]
+        met = set()
+        for refused, name in self.each(240):
+            done = self.program.run(refused, given=stream)
+            with self.subTest(f'the dry run without {name}'):
+                self.assertIn(done, [*wanted, ever])
+            met.add(done)
+        self.check('memory is wanted before and at each answer', len(met - {ever}), len(wanted))
+
+    def test_init(self):
+        ever = (0, b'created: divisions 2, areas 2, terminals 3\n', b'')
+        self.check('init', self.program.run(NOTHING, 'init', self.fresh(), PLAN), ever)
+        for refused, name in self.each(80):
+            file = self.fresh()
+            done = self.program.run(refused, 'init', file, PLAN)
+            if done == ever:
+                continue
+            self.check(f'init without {name}', done, NO_MEMORY)
+            tables = sql(file, 'SELECT count(*) FROM sqlite_schema') if file.exists() else '0\n'
+            self.check(f'init without {name} makes no table', tables, '0\n')
+            again = self.program.run(NOTHING, 'init', file, PLAN)
+            self.check(f'init without {name}, then init', again, ever)
+
+    def test_import(self):
+        """The rows that are told are in the file, each a vehicle with its crew, and no other."""
+        room = made(self.folder / 'room.db')
+        file = self.fresh(room)
+        whole = ''.join(f'{it} added\n' for it in CALLSIGNS)
+        self.check('import', self.program.run(NOTHING, 'import', file, FLEET),
+                   (0, whole.encode(), b''))
+        wanted = dump(file)
+        for refused, name in self.each(80):
+            self.import_without(refused, f'import without {name}', room, wanted)
+
+    def import_without(self, refused, name, room, wanted):
+        file = self.fresh(room)
+        status, out, err = self.program.run(refused, 'import', file, FLEET)
+        count = out.count(b'\n')
+        told = ''.join(f'{it} added\n' for it in CALLSIGNS[:count])
+        self.check(f'{name}: what is told', out.decode(), told)
+        with self.subTest(f'{name}: the end, after {count}'):
+            ends = [(5, b'memory\n'), (0, b'')] if count == 5 else [(5, b'memory\n')]
+            self.assertIn((status, err), ends)
+        vehicles = sql(file, 'SELECT callsign FROM vehicles ORDER BY rowid').split()
+        self.check(f'{name}: its vehicles', vehicles, CALLSIGNS[:count])
+        crews = sql(file, 'SELECT callsign FROM terminals WHERE role = 2 ORDER BY rowid').split()
+        self.check(f'{name}: its crews', crews, CALLSIGNS[:count])
+        again = ''.join(f'{it} {"same" if at < count else "added"}\n'
+                        for at, it in enumerate(CALLSIGNS))
+        self.check(f'{name}, then import', self.program.run(NOTHING, 'import', file, FLEET),
+                   (0, again.encode(), b''))
+        self.check(f'{name}, then import: the file', dump(file), wanted)
+
+    def test_times(self):
+        room = made(self.folder / 'times.db')
+        sql(room, INCIDENT)
+        words = 'times', room, 1, '2026-03-29'
+        ever = (0, b'incident,opened,activation\n1,1774742400,\n', b'')
+        before = dump(room)
+        self.check('times', self.program.run(NOTHING, *words), ever)
+        for refused, name in self.each(80):
+            done = self.program.run(refused, *words)
+            with self.subTest(f'times without {name}'):
+                self.assertIn(done, [NO_MEMORY, ever])
+            self.check(f'times without {name} changes nothing', dump(room), before)
+        self.check('times after all', self.program.run(NOTHING, *words), ever)
+
+    def test_serve(self):
+        room = made(self.folder / 'served.db')
+        file, before = self.fresh(room), rows_of(room)
+        self.check('a call', self.program.serve(NOTHING, file, call(1)), CALLED)
+        after = rows_of(file)
+        self.check('a call changes the room', before != after, True)
+        for refused, name in self.each(80):
+            file = self.fresh(room)
+            done = self.program.serve(refused, file, call(1))
+            with self.subTest(f'a call without {name}'):
+                self.assertIn(done, ENDS)
+            is_answered = done[0] == ANSWERED
+            self.check(f'a call without {name}: the room', rows_of(file),
+                       after if is_answered else before)
+            again = self.program.serve(NOTHING, file, call(1))
+            self.check(f'a call without {name}, then the call', again, CALLED)
+            self.check(f'a call without {name}, then the call: the room', rows_of(file), after)

@@ -1,0 +1,249 @@
+"""Stops from outside: the program ends at each call in turn that changes a file, before it, in the
+middle of what it writes, or with the machine, which loses what was not synced. The next program
+finds the room from before or the room from after what was stopped, and the one from after where it
+had answered; and what was stopped then ends well."""
+# needs: python3 gcc libc6-dev sqlite3
+# builds: dispatch_room
+import re
+import time
+
+from preloaded import EVERY, PreloadedTestCase
+from room import PLAN, ask, call, drop_indexes, dump, fleet_of, made, message, run, serving
+
+# What is preloaded into the program.
+STOPPING = r"""
+// Ends the program at the call that changes a file whose number is STOP, counted from 1: before it,
+// where HOW is 0, or with half of what it writes, where it is 1. Where it is 2 the machine stops
+// too, so that what was not synced is lost. A program that comes to its end tells in the file
+// COUNTED how many such calls there were.
+#define _GNU_SOURCE
+#include <dlfcn.h>
+#include <stdio.h>
+#include <stdlib.h>
+#include <sys/stat.h>
+#include <unistd.h>
+
+#define NEXT(name) ((__typeof__(&name))dlsym(RTLD_NEXT, #name))
+
+// What a file held before a change that is not synced.
+struct change {
+  struct change *before;
+  int file;
+  off_t at, length;
+  ssize_t size;
+  char bytes[];
+};
+
+static long counted;
+static struct change *unsynced;
+
+static int how(void) { return atoi(getenv("HOW")); }
+
+static void note(int file, off_t at, size_t size) {
+  struct stat now;
+  struct change *change = malloc(sizeof *change + size);
+  if (change == NULL || fstat(file, &now) != 0) abort();
+  ssize_t got = pread(file, change->bytes, size, at);
+  *change = (struct change){unsynced, file, at, now.st_size, got < 0 ? 0 : got};
+  unsynced = change;
+}
+
+static void synced(int file) {
+  for (struct change **it = &unsynced; *it != NULL;) {
+    struct change *change = *it;
+    if (change->file == file) {
+      *it = change->before;
+      free(change);
+    } else {
+      it = &change->before;
+    }
+  }
+}
+
+static void lose(void) {
+  for (struct change *it = unsynced; it != NULL; it = it->before) {
+    if (NEXT(pwrite)(it->file, it->bytes, it->size, it->at) != it->size) abort();
+    if (NEXT(ftruncate)(it->file, it->length) != 0) abort();
+  }
+}
+
+// Whether the program ends at this call.
+static int stops(void) {
+  if (++counted != atol(getenv("STOP"))) return 0;
+  if (how() == 2) lose();
+  return 1;
+}
+
+__attribute__((destructor)) static void end(void) {
+  FILE *file = fopen(getenv("COUNTED"), "w");
+  if (file == NULL) return;
+  fprintf(file, "%ld\n", counted);
+  fclose(file);
+}
+
+ssize_t pwrite(int file, const void *bytes, size_t size, off_t at) {
+  if (stops()) {
+    if (how() == 1) NEXT(pwrite)(file, bytes, size / 2, at);
+    _exit(9);
+  }
+  note(file, at, size);
+  return NEXT(pwrite)(file, bytes, size, at);
+}
+
+int ftruncate(int file, off_t size) {
+  if (stops()) _exit(9);
+  struct stat now;
+  note(file, size, fstat(file, &now) == 0 && now.st_size > size ? now.st_size - size : 0);
+  return NEXT(ftruncate)(file, size);
+}
+
+int fsync(int file) {
+  if (stops()) _exit(9);
+  synced(file);
+  return NEXT(fsync)(file);
+}
+
+int fdatasync(int file) {
+  if (stops()) _exit(9);
+  synced(file);
+  return NEXT(fdatasync)(file);
+}
+"""
+
+STOPPED = 9
+MANY = 40  # so many calls are stopped of one deed, or half as many more; with --all each of them
+LOST = 2
+HOW = {'stopped at': 0, 'stopped in the middle of': 1, 'stopped with the machine at': LOST}
+
+
+def stop(at, how=0):
+    """What the library is told: the number of the call to stop at, and how."""
+    return {'STOP': at, 'HOW': how}
+
+
+NEVER = stop(0)
+
+# ---- deeds: each takes the program, what the library is told and a file, and gives the answer, or
+# None where there was none
+
+
+def command(*words):
+    def deed(program, told, file):
+        status, out, err = program.run(told, words[0], file, *words[1:])
+        return (out, err) if status != STOPPED else None
+
+    return deed
+
+
+def request(sent):
+    """A message to a room that is served."""
+
+    def deed(program, told, file):
+        answers, *_ = program.serve(told, file, sent)
+        return answers[0] if answers else None
+
+    return deed
+
+
+# ---- rooms
+
+UNTIL = int(time.time()) + 3600
+A1 = 'A1,1,1,TQ303804,crewofa1'
+B1 = 'B1,2,2,TQ600800,crewofb1'
+DUTY = message('deskone1', 'POST /vehicles/A1/duty', f'{{"place":"TQ303804","until":{UNTIL}}}')
+MOBILISE = message('deskone1', 'POST /incidents/1/mobilise', '{"vehicle":"A1"}')
+REPORT = message('crewofa1', 'POST /report',
+                 '{"button":"mobile","number":1,"order":1,"place":"TQ302802"}')
+LEND = message('deskone1', 'POST /vehicles/A1/lend', f'{{"to":2,"until":{UNTIL - 600}}}')
+ACCEPT = message('desktwo2', 'POST /vehicles/A1/accept')
+
+
+class Stops(PreloadedTestCase):
+    LIBRARY = STOPPING
+
+    def each(self):
+        """The stops to try, the last one too, once a run without one has told how many calls there
+        are. Beside each its name."""
+        total = self.program.total()
+        self.check('files are changed', total > 0, True)
+        for at in sorted({*range(1, total + 1, 1 if EVERY else 1 + total // MANY), total}):
+            for words, how in HOW.items():
+                yield stop(at, how), f'{words} {at}'
+
+    def room(self, *messages):
+        """A room with a vehicle that took messages, one after another."""
+        room = made(self.folder / 'taken.db', A1)
+        if messages:
+            with serving(room, 1) as (port, process):
+                answers = ask(port, *messages)
+                self.check('what goes before', [it for it, _ in answers], [200] * len(messages))
+                process.wait(timeout=60)
+        return room
+
+    def found(self, file):
+        """What the next program finds: all rows, but for the moments of today; none where it finds
+        no room."""
+        status, _, told = run('times', file, 1, '2026-03-29')
+        if (status, told) == (1, 'refused: file\n'):
+            return None
+        self.check('a room is found', (status, told), (0, ''))
+        return re.sub(r'\b\d{10}\b', 'MOMENT', dump(file))
+
+    def stop_everywhere(self, what, room, deed, between=()):
+        """Stops a deed at each call, and looks at what is found; rooms between that before and
+        that after may be, too."""
+        file = self.fresh(room)
+        before = self.found(file) if room else None
+        answer = deed(self.program, NEVER, file)
+        after = self.found(file)
+        self.check(f'{what} changes the room', before != after, True)
+        met = []
+        deed(self.program, NEVER, self.fresh(room))
+        for told, name in self.each():
+            file = self.fresh(room)
+            answered = deed(self.program, told, file)
+            now = self.found(file)
+            with self.subTest(f'{what}, {name}'):
+                self.assertIn(now, [before, *between, after])
+            with self.subTest(f'{what}, {name}: its answer'):
+                self.assertIn((answered, now), [(answer, after), (None, now)])
+            if told['HOW'] != LOST:
+                met.append(now)
+            if now != after or room:
+                deed(self.program, NEVER, file)
+            self.check(f'{what}, {name} and done again', self.found(file), after)
+        self.check(f'{what} was stopped before anything was kept, and after all was',
+                   (met[0], met[-1]), (before, after))
+
+    def test_creation(self):
+        self.stop_everywhere('a creation', None, command('init', PLAN))
+
+    def test_import(self):
+        fleet = self.folder / 'two.fleet'
+        fleet.write_text(fleet_of(A1, B1))
+        between = [self.found(made(self.folder / 'one.db', A1))]
+        empty = made(self.folder / 'empty.db')
+        self.stop_everywhere('an import', empty, command('import', fleet), between)
+
+    def test_call(self):
+        self.stop_everywhere('a call', self.room(), request(call(1)))
+
+    def test_report(self):
+        self.stop_everywhere('a report', self.room(DUTY, call(1), MOBILISE), request(REPORT))
+
+    def test_accept(self):
+        self.stop_everywhere('an accept', self.room(DUTY, LEND), request(ACCEPT))
+
+    def test_opening(self):
+        """Stops the opening of a room without indexes: all rows are found, and the indexes made
+        anew."""
+        room, deed = self.room(), command('times', 1, '2026-03-29')
+        drop_indexes(room)
+        wanted = self.found(self.fresh(room))
+        answer = deed(self.program, NEVER, self.fresh(room))
+        self.check('it is opened', answer, (b'incident,opened,activation\n', b''))
+        for told, name in self.each():
+            file = self.fresh(room)
+            with self.subTest(f'an opening, {name}: its answer'):
+                self.assertIn(deed(self.program, told, file), [None, answer])
+            self.check(f'an opening, {name}', self.found(file), wanted)
