@@ -67,6 +67,13 @@ def is_proved(crate, work):
     return not status
 
 
+def judged(crate, edit, kept=None):
+    """Whether the prover refuses an edit of a crate, by the toolchain's own judge, and what is said of it. What was
+    proved of the crate as it stands may be kept in a folder."""
+    outcome, told = rt().must_fail(crate, str(edit), ['--jobs', '1'], kept)
+    return outcome in (rt().REFUSED, rt().AT_LIMIT), told
+
+
 def build(library, jobs):
     """Proves a library from nothing and keeps its statements for the crates above it."""
     stamp = library.stamp()
