@@ -156,6 +156,8 @@ REPORT = message('crewofa1', 'POST /report',
                  '{"button":"mobile","number":1,"order":1,"place":"TQ302802"}')
 LEND = message('deskone1', 'POST /vehicles/A1/lend', f'{{"to":2,"until":{UNTIL - 600}}}')
 ACCEPT = message('desktwo2', 'POST /vehicles/A1/accept')
+RECALL = message('deskone1', 'POST /vehicles/A1/recall')
+MERGE = message('deskone1', 'POST /incidents/2/merge', '{"into":1}')
 
 
 class Stops(PreloadedTestCase):
@@ -233,6 +235,16 @@ class Stops(PreloadedTestCase):
 
     def test_accept(self):
         self.stop_everywhere('an accept', self.room(DUTY, LEND), request(ACCEPT))
+
+    def test_mobilisation(self):
+        self.stop_everywhere('a mobilisation', self.room(DUTY, call(1)), request(MOBILISE))
+
+    def test_merge(self):
+        room = self.room(call(1), call(2, 'TQ400900'))
+        self.stop_everywhere('a merge', room, request(MERGE))
+
+    def test_recall(self):
+        self.stop_everywhere('a recall', self.room(DUTY, LEND, ACCEPT), request(RECALL))
 
     def test_opening(self):
         """Stops the opening of a room without indexes: all rows are found, and the indexes made
