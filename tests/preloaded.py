@@ -44,6 +44,30 @@ int clock_gettime(clockid_t clock, struct timespec *time) {
 """
 
 
+# What a library begins with that counts the calls that change a file.
+COUNTING = r"""
+// A program that comes to its end tells in the file COUNTED how many such calls there were.
+#define _GNU_SOURCE
+#include <dlfcn.h>
+#include <errno.h>
+#include <stdio.h>
+#include <stdlib.h>
+#include <sys/stat.h>
+#include <unistd.h>
+
+#define NEXT(name) ((__typeof__(&name))dlsym(RTLD_NEXT, #name))
+
+static long counted;
+
+__attribute__((destructor)) static void end(void) {
+  FILE *file = fopen(getenv("COUNTED"), "w");
+  if (file == NULL) return;
+  fprintf(file, "%ld\n", counted);
+  fclose(file);
+}
+"""
+
+
 class Preloaded:
     """The program with a library that tells in the file COUNTED how many calls it has seen."""
 

@@ -1,4 +1,5 @@
-"""What tools/tables.py writes is what is committed: what the statements on each table say."""
+"""What tools/tables.py writes is what is committed: what a file's schema is tested for, and what the
+statements on each table say."""
 # needs: python3
 import filecmp
 import pathlib
@@ -8,12 +9,14 @@ import tempfile
 
 from room import TOP, TestCase
 
-COMMITTED = TOP / 'crates' / 'room_tables_rows' / 'proofs'
+COMMITTED = TOP / 'crates'
 MARK = b'Written by tools/tables.py'
 
 
-def files_in(folder):
-    return sorted(it for it in folder.rglob('*') if it.is_file())
+def files_in(crates):
+    """The files of the crates, beside what is built."""
+    return sorted(it for part in ('src', 'specs', 'proofs') for it in crates.glob(f'*/{part}/**/*')
+                  if it.is_file())
 
 
 class Generated(TestCase):

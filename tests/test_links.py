@@ -1,5 +1,5 @@
 """Each link in README.md and docs/ leads to a file that is there, and one to a line to the
-function that it names."""
+function, the clause or the field that it names."""
 import re
 
 from room import TOP, TestCase
@@ -20,4 +20,5 @@ class Links(TestCase):
         self.assertTrue(target.exists(), 'there is no such file')
         if line:
             lines = ['', *target.read_text().split('\n')]
-            self.assertRegex(lines[int(line)], rf'\bfn {name}\b')
+            self.assertRegex(lines[int(line)],
+                             rf'\bfn {name}\b|\bensures {name} \{{|\bpub {name} :')

@@ -120,7 +120,7 @@ ANSWERED = [(200, '{"division":1,"incident":1,"linked":false}')]
 WANTING = [(503, '{"error":"Memory","number":41}')]
 CALLED = (ANSWERED, 0, b'')
 ENDS = [CALLED, (ANSWERED, 5, b'memory\n'), (WANTING, 0, b''), (WANTING, 5, b'memory\n'),
-        ([], 5, b'memory\n')]
+        (WANTING, 3, b'storage\n'), ([], 5, b'memory\n')]
 
 
 def rows_of(room):

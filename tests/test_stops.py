@@ -7,23 +7,14 @@ had answered; and what was stopped then ends well."""
 import re
 import time
 
-from preloaded import EVERY, PreloadedTestCase
+from preloaded import COUNTING, EVERY, PreloadedTestCase
 from room import PLAN, ask, call, drop_indexes, dump, fleet_of, made, message, run, serving
 
 # What is preloaded into the program.
-STOPPING = r"""
+STOPPING = COUNTING + r"""
 // Ends the program at the call that changes a file whose number is STOP, counted from 1: before it,
 // where HOW is 0, or with half of what it writes, where it is 1. Where it is 2 the machine stops
-// too, so that what was not synced is lost. A program that comes to its end tells in the file
-// COUNTED how many such calls there were.
-#define _GNU_SOURCE
-#include <dlfcn.h>
-#include <stdio.h>
-#include <stdlib.h>
-#include <sys/stat.h>
-#include <unistd.h>
-
-#define NEXT(name) ((__typeof__(&name))dlsym(RTLD_NEXT, #name))
+// too, so that what was not synced is lost.
 
 // What a file held before a change that is not synced.
 struct change {
@@ -34,7 +25,6 @@ struct change {
   char bytes[];
 };
 
-static long counted;
 static struct change *unsynced;
 
 static int how(void) { return atoi(getenv("HOW")); }
@@ -72,13 +62,6 @@ static int stops(void) {
   if (++counted != atol(getenv("STOP"))) return 0;
   if (how() == 2) lose();
   return 1;
-}
-
-__attribute__((destructor)) static void end(void) {
-  FILE *file = fopen(getenv("COUNTED"), "w");
-  if (file == NULL) return;
-  fprintf(file, "%ld\n", counted);
-  fclose(file);
 }
 
 ssize_t pwrite(int file, const void *bytes, size_t size, off_t at) {

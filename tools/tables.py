@@ -1,42 +1,91 @@
 #!/usr/bin/env python3
-"""Writes what the statements on each table say into crates/room_tables_rows/proofs (or into the folder that is named).
-tests/test_generated.py finds out where it differs from what is committed."""
+"""Reads the tables and indexes of a room from the texts that make them, in crates/room_tables_schema/src/texts.rt, and writes
+what a file's schema is tested for into that crate, and what the statements on each table say into crates/room_tables_rows
+(or both into a folder that is named, as they lie in crates). tests/test_generated.py finds out where it differs from what is
+committed."""
 import os
 import re
 import sys
 
-OUT = sys.argv[1] if len(sys.argv) > 1 else os.path.join(os.path.dirname(__file__), "..", "crates", "room_tables_rows", "proofs")
+CRATES = os.path.join(os.path.dirname(__file__), "..", "crates")
+OUT = sys.argv[1] if len(sys.argv) > 1 else CRATES
 
-# ---- the tables, in their order
+# ---- what the texts say
 
-# How a key is written: its columns, its order, its type, the terms that select it, its parameters and its test, and why the test is the order's tie.
+
+# A column: its name, the kind of its values, whether it needs one, and whether it alone is the key.
+class Column:
+    def __init__(self, text):
+        self.name, self.kind = text.split()[:2]
+        self.is_needed = "NOT NULL" in text
+        self.is_key = "PRIMARY KEY" in text
+
+
+# A table: its columns, the names of those of its key, and its tree.
+class Defined:
+    def __init__(self, name, body, tree):
+        parts = re.split(r", (?![^(]*\))", body)
+        self.name, self.tree = name, tree
+        self.columns = [Column(part) for part in parts if not part.startswith("PRIMARY KEY (")]
+        self.key = [column.name for column in self.columns if column.is_key]
+        if not self.key:
+            self.key = parts[-1].removeprefix("PRIMARY KEY (").removesuffix(")").split(", ")
+        self.key_kinds = tuple(self.columns[self.at(name)].kind for name in self.key)
+        self.has_rowid = self.key_kinds == ("INTEGER",)
+
+    def at(self, name):
+        return [column.name for column in self.columns].index(name)
+
+    # the place of a column in a row, where place 0 is the rowid
+    def place(self, name):
+        return 0 if self.has_rowid and name in self.key else self.at(name) + 1
+
+
+def read_texts():
+    with open(os.path.join(CRATES, "room_tables_schema", "src", "texts.rt")) as file:
+        text = re.sub(r"\\\n *", "", file.read())
+    tables, tree = {}, 0
+    for name, body in re.findall(r'"CREATE TABLE (\w+) \((.*)\) STRICT"', text):
+        tables[name] = Defined(name, body, tree)
+        tree += 1 if tables[name].has_rowid else 2  # a key that is no rowid takes the tree after its table's
+    indexes = re.findall(r'"CREATE INDEX (\w+) ON (\w+) \((.*)\)"', text)
+    return tables, [(name, tree + i, tables[table], columns.split(", ")) for i, (name, table, columns) in enumerate(indexes)]
+
+
+DEFINED, INDEXES = read_texts()
+
+# ---- the tables of rows
+
+# How a key is written, by the kinds of its columns: its columns, its order, its type, the terms that select it, its parameters and its test, and why the test is the order's tie.
 NUMBER = dict(cells="number_cells", order="nat_cmp", args="(k : ℕ)", key="k", params=["number k"], ties=["tie-numbers"])
 TEXT = dict(cells="text_cells", order="callsign_cmp", args="(k : Callsign)", key="k", params=["Text k"], ties=["tie-texts"])
 TOKEN = dict(TEXT, order="token_cmp", args="(k : Token)")
 PAIR = dict(cells="pair_cells", order="pair_cmp", args="(j k : ℕ)", key="(j, k)", params=["number j", "number k"], ties=["tie-numbers", "tie-numbers"])
 NUMBERED = dict(cells="numbered_cells", order="numbered_cmp", args="(j : Callsign) (k : ℕ)", key="(j, k)", params=["Text j", "number k"], ties=["tie-texts", "tie-numbers"])
+KEYS = {("INTEGER",): NUMBER, ("TEXT",): TEXT, ("INTEGER", "INTEGER"): PAIR, ("TEXT", "INTEGER"): NUMBERED}
 
 
+# The rows of a table: their type, and which of its fields are the key.
 class Table:
-    def __init__(self, name, row, kind, key, fields, columns, tree, loads=(), drops=False, rows=None, of="room"):
-        self.name, self.row, self.kind, self.key, self.fields, self.tree = name, row, kind, key, fields, tree
-        self.columns = columns  # a letter each: N a number, O one that may be absent, T a text, U one that may be absent, B a blob
+    def __init__(self, name, row, kind, fields, loads=(), drops=False, rows=None, of="room", key=None):
+        self.name, self.row, self.kind, self.fields = name, row, kind, fields
+        self.defined = DEFINED[name]
+        self.columns, self.tree, self.has_rowid = self.defined.columns, self.defined.tree, self.defined.has_rowid
+        self.at, self.place = self.defined.at, self.defined.place
+        self.key = key or KEYS[self.defined.key_kinds]
         self.loads, self.drops, self.rows, self.of = loads, drops, rows or f"{of}.{name}", of
 
-    def place(self, at):
-        return (0 if at == 0 else at + 1) if self.has_rowid() else at + 1
-
-    def has_rowid(self):
-        return self.key is NUMBER
-
-    def places(self, ats):
-        return "(" + "".join(f"{self.place(at)} ∷ " for at in ats) + "[])"
+    def places(self, names):
+        return "(" + "".join(f"{self.place(name)} ∷ " for name in names) + "[])"
 
     def all_places(self):
-        return self.places(range(len(self.columns)))
+        return self.places([column.name for column in self.columns])
 
     def key_places(self):
-        return self.places(range(len(self.key["params"])))
+        return self.places(self.defined.key)
+
+    def other_places(self):
+        return self.places([column.name for column in self.columns if column.name not in self.defined.key])
 
 
 # A selection: the columns that it compares, with which parameters, and why that is the test of a row.
@@ -44,58 +93,64 @@ def load(name, text, args, chosen, *conditions):
     return dict(name=name, text=text, args=args, chosen=chosen, conditions=conditions)
 
 
-def equal(at, param, why):
-    return dict(term=lambda place, i: f"equals {place} {i}", at=at, param=param, test=lambda at: f"equal Binary (column r {at}) ({param})", why=why)
+def equal(name, param, why):
+    return dict(term=lambda place, i: f"equals {place} {i}", name=name, param=param, test=lambda at: f"equal Binary (column r {at}) ({param})", why=why)
 
 
 # The same with a plus before the column; it stands last.
-def equal_by_value(at, param, why):
-    return dict(equal(at, param, why), term=lambda place, i: f"equals_by_value {place} {i}", tells=lambda place: f"equal-by_value (column r {place}) ({param})")
+def equal_by_value(name, param, why):
+    return dict(equal(name, param, why), term=lambda place, i: f"equals_by_value {place} {i}", tells=lambda place: f"equal-by_value (column r {place}) ({param})")
 
 
-def owned(name, text, row, at, field):
-    return load(name, text, "(d : ℕ)", f"owns_{row} d", equal(at, "number d", f"equal-numbers x.{field} d"))
+# The column `field` equals the number n, and so does the row's field.
+def equal_number(field, n):
+    return equal(field, f"number {n}", f"equal-numbers x.{field} {n}")
 
 
-def incident_rows(name, text, incident, division):
-    return load(name, text, "(d n : ℕ)", "λ x. x.incident == n && x.division == d",
-                equal(incident, "number n", "equal-numbers x.incident n"), equal(division, "number d", "equal-numbers x.division d"))
+def owned(name, text, row, field="division"):
+    return load(name, text, "(d : ℕ)", f"owns_{row} d", equal_number(field, "d"))
 
 
-def party(name, text, row):
-    return dict(name=name, text=text, args="(d : ℕ)", chosen=f"owns_{row} d", terms="either (equals 2 0) (equals 3 0) ∷ []", params="number d ∷ []",
-                test="equal Binary (column r 1) (number d) || equal Binary (column r 2) (number d)", tells="and_last (is_true-Or _ _)",
-                same="or_else (equal-numbers x.lender d) (equal-numbers x.borrower d)")
+def incident_rows(name, text):
+    return load(name, text, "(d n : ℕ)", "λ x. x.incident == n && x.division == d", equal_number("incident", "n"), equal_number("division", "d"))
 
 
-def compared(op, term, at, param, why):
-    return dict(term=lambda place, i: f"{term} {place} {i}", at=at, param=param, test=lambda at: f"compare_by {op} (column r {at}) ({param})", why=why)
+# One of two columns equals the division.
+def party(name, text, row, one="lender", other="borrower"):
+    return dict(name=name, text=text, args="(d : ℕ)", chosen=f"owns_{row} d", names=(one, other), params="number d ∷ []", tells="and_last (is_true-Or _ _)",
+                terms=lambda one, other: f"either (equals {one} 0) (equals {other} 0) ∷ []",
+                test=lambda one, other: f"equal Binary (column r {one}) (number d) || equal Binary (column r {other}) (number d)",
+                same=f"or_else (equal-numbers x.{one} d) (equal-numbers x.{other} d)")
+
+
+def compared(op, term, name, param, why):
+    return dict(term=lambda place, i: f"{term} {place} {i}", name=name, param=param, test=lambda at: f"compare_by {op} (column r {at}) ({param})", why=why)
 
 
 TABLES = [
-    Table("meta", "meta", "List ℕ", NUMBER, ["1"], "NNT", 0, rows="(house.zone ∷ [])", of="house"),
-    Table("areas", "area", "ℕ × Area", NUMBER, ["x.0"], "NNNNNN", 1, rows="(numbered 1 room.plan)"),
-    Table("terminals", "terminal", "Terminal", TOKEN, ["x.token"], "TNNU", 2, of="house"),
-    Table("divisions", "division", "Division", NUMBER, ["x.number"], "NN", 4),
-    Table("incidents", "incident", "Incident", PAIR, ["x.division", "x.number"], "NNNNNNNNNONO", 5, loads=[
+    Table("meta", "meta", "List ℕ", ["1"], rows="(house.zone ∷ [])", of="house"),
+    Table("areas", "area", "ℕ × Area", ["x.0"], rows="(numbered 1 room.plan)"),
+    Table("terminals", "terminal", "Terminal", ["x.token"], of="house", key=TOKEN),
+    Table("divisions", "division", "Division", ["x.number"]),
+    Table("incidents", "incident", "Incident", ["x.division", "x.number"], loads=[
         load("active_incidents", "ACTIVE_INCIDENTS", "(d : ℕ)", "λ x. is_active x.state && x.division == d",
-             equal(10, "number (state_number Active)", "equal-active x.state"), equal(0, "number d", "equal-numbers x.division d")),
+             equal("state", "number (state_number Active)", "equal-active x.state"), equal_number("division", "d")),
         load("incidents_opened", "INCIDENTS_OPENED", "(from to : ℤ) (d : ℕ)", "λ x. int_le from (pos x.opened) && (int_lt (pos x.opened) to && x.division == d)",
-             compared("Ge", "at_least", 8, "Int from", "at_least-integers (pos x.opened) from"), compared("Lt", "below", 8, "Int to", "below-integers (pos x.opened) to"),
-             equal_by_value(0, "number d", "equal-numbers x.division d")),
+             compared("Ge", "at_least", "opened", "Int from", "at_least-integers (pos x.opened) from"), compared("Lt", "below", "opened", "Int to", "below-integers (pos x.opened) to"),
+             equal_by_value("division", "number d", "equal-numbers x.division d")),
     ]),
-    Table("calls", "call", "Call", PAIR, ["x.position", "x.serial"], "NNNNNNNNNNNNBN", 7, loads=[incident_rows("calls_of", "CALLS_OF", 3, 2)]),
-    Table("vehicles", "vehicle", "Vehicle", TEXT, ["x.callsign"], "TNNNNNNNONN", 9, loads=[owned("vehicles_held", "VEHICLES_HELD", "vehicle", 2, "holder")]),
-    Table("turns", "turn", "Turn", NUMBERED, ["x.callsign", "x.order"], "TNNNNNOOOOON", 11, loads=[incident_rows("turns_of", "TURNS_OF", 3, 2)]),
-    Table("assignments", "assignment", "Assignment", TEXT, ["x.callsign"], "TNNNNNN", 13, drops=True, loads=[owned("assignments_of", "ASSIGNMENTS_OF", "assignment", 1, "division")]),
-    Table("points", "point", "Point", PAIR, ["x.division", "x.number"], "NNNNN", 15, loads=[owned("points_of", "POINTS_OF", "point", 0, "division")]),
-    Table("loans", "loan", "Loan", TEXT, ["x.callsign"], "TNNNNN", 17, drops=True, loads=[party("loans_of", "LOANS_OF", "loan")]),
-    Table("reports", "report", "Report", NUMBERED, ["x.callsign", "x.number"], "TNNNNNNNNNN", 19, loads=[
+    Table("calls", "call", "Call", ["x.position", "x.serial"], loads=[incident_rows("calls_of", "CALLS_OF")]),
+    Table("vehicles", "vehicle", "Vehicle", ["x.callsign"], loads=[owned("vehicles_held", "VEHICLES_HELD", "vehicle", "holder")]),
+    Table("turns", "turn", "Turn", ["x.callsign", "x.order"], loads=[incident_rows("turns_of", "TURNS_OF")]),
+    Table("assignments", "assignment", "Assignment", ["x.callsign"], drops=True, loads=[owned("assignments_of", "ASSIGNMENTS_OF", "assignment")]),
+    Table("points", "point", "Point", ["x.division", "x.number"], loads=[owned("points_of", "POINTS_OF", "point")]),
+    Table("loans", "loan", "Loan", ["x.callsign"], drops=True, loads=[party("loans_of", "LOANS_OF", "loan")]),
+    Table("reports", "report", "Report", ["x.callsign", "x.number"], loads=[
         load("uncleared_reports", "UNCLEARED_REPORTS", "(o : Outcome) (d : ℕ)", "λ x. outcome_number x.outcome == outcome_number o && (not x.cleared && x.division == d)",
-             equal(8, "outcome_code o", "equal-numbers (outcome_number x.outcome) (outcome_number o)"), equal(10, "truth false", "equal-false x.cleared"),
-             equal(7, "number d", "equal-numbers x.division d")),
+             equal("outcome", "outcome_code o", "equal-numbers (outcome_number x.outcome) (outcome_number o)"), equal("cleared", "truth false", "equal-false x.cleared"),
+             equal_number("division", "d")),
     ]),
-    Table("offers", "offer", "Offer", TEXT, ["x.callsign"], "TNNNN", 21, drops=True, loads=[party("offers_of", "OFFERS_OF", "offer")]),
+    Table("offers", "offer", "Offer", ["x.callsign"], drops=True, loads=[party("offers_of", "OFFERS_OF", "offer")]),
 ]
 ROWS = TABLES[3:]  # the tables of the room's rows
 KEYED = TABLES[2:]  # those whose rows are found by a key
@@ -111,6 +166,7 @@ def home(module, names):
 
 
 home("Rattle.std.proofs.Common", "◌≡◌ ◌∷◌ ◌||◌ ◌&&◌ ◌==◌ ◌∙◌ ℕ ℤ pos List [] filter not Ok refl sym false")
+home("Rattle.std.proofs.lemmas.Bool", "eqb-false")
 home("Rattle.std.specs.Prelude", "int_le int_lt")
 home("Rattle.std.specs.Ordering", "nat_cmp is_eq")
 home("Rattle.sqlite_value.specs.declared.value.Value.TheVariants", "Int Text")
@@ -173,10 +229,14 @@ def write(path, first, body, homes=()):
         if word in homes:
             used.setdefault(homes[word], []).append(word)
     uses = "".join(f"use {module}.{{{', '.join(names)}}}\n" for module, names in sorted(used.items()))
+    put(f"room_tables_rows/proofs/{path}", f"-- {first} (Written by tools/tables.py.)\n{uses}{body.rstrip()}\n")
+
+
+def put(path, text):
     path = os.path.join(OUT, path)
     os.makedirs(os.path.dirname(path), exist_ok=True)
     with open(path, "w") as file:
-        file.write(f"-- {first} (Written by tools/tables.py.)\n{uses}{body.rstrip()}\n")
+        file.write(text)
 
 
 # ---- the laws of each table
@@ -201,9 +261,9 @@ def both(parts):
 
 def key_parts(t):
     k = t.key
-    terms = "".join(f"equals {t.place(i)} {i} ∷ " for i in range(len(k["params"]))) + "[]"
+    terms = "".join(f"equals {t.place(name)} {i} ∷ " for i, name in enumerate(t.defined.key)) + "[]"
     params = "".join(p + " ∷ " for p in k["params"]) + "[]"
-    test = both([f"equal Binary (column r {i}) ({p})" for i, p in enumerate(k["params"])])
+    test = both([f"equal Binary (column r {t.at(name)}) ({p})" for name, p in zip(t.defined.key, k["params"])])
     names = ["k"] if len(k["params"]) == 1 else ["j", "k"]
     ties = [f"{tie} {field} {name}" for tie, field, name in zip(k["ties"], t.fields, names)]
     same = ties[0]
@@ -214,8 +274,7 @@ def key_parts(t):
 
 
 def laws(t, at):
-    n, key, places = len(t.columns), t.key_places(), t.all_places()
-    more = t.places(range(len(t.key["params"]), n))
+    key, places, more = t.key_places(), t.all_places(), t.other_places()
     const, one = t.name.upper(), t.row.upper()
     kind = t.kind if " " not in t.kind else f"({t.kind})"
     typed = f"{t.key['order']} {t.row}_key {t.row}_row"
@@ -261,13 +320,14 @@ pub {t.row}_at_is : {t.key['args']} → ShowsRow {t.row}_row {one}_AT.now ({para
     for l in t.loads:
         if "conditions" in l:
             cs = l["conditions"]
-            terms = "".join(c["term"](t.place(c["at"]), i) + " ∷ " for i, c in enumerate(cs)) + "[]"
+            terms = "".join(c["term"](t.place(c["name"]), i) + " ∷ " for i, c in enumerate(cs)) + "[]"
             params = "".join(c["param"] + " ∷ " for c in cs) + "[]"
-            test, same = both([c["test"](c["at"]) for c in cs]), conjunction([c["why"] for c in cs])
-            last = f"({cs[-1]['tells'](t.place(cs[-1]['at']))})" if "tells" in cs[-1] else "refl"
-            tell = tells([c["test"](t.place(c["at"])) for c in cs], last)
+            test, same = both([c["test"](t.at(c["name"])) for c in cs]), conjunction([c["why"] for c in cs])
+            last = f"({cs[-1]['tells'](t.place(cs[-1]['name']))})" if "tells" in cs[-1] else "refl"
+            tell = tells([c["test"](t.place(c["name"])) for c in cs], last)
         else:
-            terms, params, test, tell, same = l["terms"], l["params"], l["test"], l["tells"], l["same"]
+            terms, test = l["terms"](*map(t.place, l["names"])), l["test"](*map(t.at, l["names"]))
+            params, tell, same = l["params"], l["tells"], l["same"]
         out += chooses(l["name"], l["text"], l["args"], terms, params, l["chosen"], test, tell, same)
         if l["chosen"] != f"owns_{t.row} d":
             names = " ".join(re.findall(r"\(([^:]*) :", l["args"]))
@@ -281,30 +341,29 @@ pub {l['name']}_are : {l['args']} → Shows {t.row}_row {l['text']}.now ({params
 # what is stored of a row in each column, and how a conflict with the row of its key is told
 def stored(t):
     n, key, places = len(t.columns), t.key_places(), t.all_places()
-    casts = {"N": "cast-Int _", "O": "cast-number_or_null _", "T": "refl", "U": "cast-text_or_null _", "B": "refl"}
-    kept = [casts[c] for c in t.columns]
-    if t.has_rowid():
+    needed = {"INTEGER": "cast-Int _", "TEXT": "refl", "BLOB": "refl"}
+    others = {"INTEGER": "cast-number_or_null _", "TEXT": "cast-text_or_null _"}
+    kept = [(needed if column.is_needed else others)[column.kind] for column in t.columns]
+    if t.has_rowid:
         kept[0] = "cast-Null"
     nested = "tt"
     for proof in reversed(kept):
         nested = f"({proof}, {nested})"
     fields = [("Text " if "Text" in p else "number ") + f for p, f in zip(t.key["params"], t.fields)]
     if len(fields) == 1:
-        tie = f"conflict_of_one (column r {t.place(0)}) ({fields[0]}) refl"
+        tie = f"conflict_of_one (column r {t.place(t.defined.key[0])}) ({fields[0]}) refl"
     else:
-        tie = f"conflict_of_two (column r 1) (column r 2) ({fields[0]}) ({fields[1]}) refl refl"
-    if not t.has_rowid():
+        one, other = map(t.place, t.defined.key)
+        tie = f"conflict_of_two (column r {one}) (column r {other}) ({fields[0]}) ({fields[1]}) refl refl"
+    if not t.has_rowid:
         return f"stores_row room_schema {t.name}_table {places} {key} {n} ({t.row}_row x)\n    {nested} refl (λ id. refl) (λ id r. {tie}) (λ id r. refl) (λ id r. refl)"
-    tail = {"meta": "number 2 ∷ Text x ∷ []",
-            "areas": "number x.1.division ∷ number x.1.rect.west ∷ number x.1.rect.south ∷ number x.1.rect.east ∷ number x.1.rect.north ∷ []",
-            "divisions": "number x.last_incident ∷ []"}[t.name]
-    return f"stores_rowid room_schema {t.name}_table {places} {key} {n} (pos {t.fields[0]}) ({tail})\n    {nested} refl refl (λ r. {tie}) (λ r. refl) (λ r. refl)"
+    return f"stores_rowid room_schema {t.name}_table {places} {key} {n} _ _\n    {nested} refl refl (λ r. {tie}) (λ r. refl) (λ r. refl)"
 
 
 def writes(t, at):
     n, key, one = len(t.columns), t.key_places(), t.row.upper()
     typed = f"{t.key['order']} {t.row}_key {t.row}_row"
-    kind = "rowid" if t.has_rowid() else "row"
+    kind = "rowid" if t.has_rowid else "row"
     after = f"with_{t.name} old new house room h only _ is"
     out = f"""
 pub put_{t.row}_means : Upserts room_schema PUT_{one}.now {at} {t.name}_table {key} {n} ({kind}_values {n}) ({kind}_update {n})
@@ -380,18 +439,75 @@ def kept():
         out += f"  pub with_{t.name} : Only room_schema {t.tree} old new → {arg} → StandsFor new.trees {t.name}_table {t.row}_row {value} → Stands new.trees {after}\n"
         out += f"  with_{t.name} only {arg[1:].split()[0]} is =\n      let at = only.tables in record {{\n"
         for i, other in enumerate(TABLES):
-            how = "is" if other is t else f"holds_still _ _ _ _ _ (at{'.1' * i}.0 (λ e. cc)) h.{other.name}"
+            how = "is" if other is t else f"holds_still _ _ _ _ _ (at{'.1' * i}.0 (eqb-false _ _ refl)) h.{other.name}"
             out += f"        {other.name} = {how};\n"
         out += "      }\n\n"
     out += "-- tables without rows, of which the first was written: a room without rows\n"
     out += "pub with_first : (old new : Database) → IsBlank old.trees → Only room_schema 0 old new → (zone : List ℕ) → StandsFor new.trees meta_table meta_row (zone ∷ []) → Stands new.trees (record { zone = zone; terminals = [] }) empty_room\n"
     out += "with_first old new blank only zone is =\n    let at = only.tables in record {\n      meta = is;\n"
     for i, t in enumerate(TABLES[1:], 1):
-        out += f"      {t.name} = holds_none _ _ _ (at{'.1' * i}.0 (λ e. cc) ∙ blank.{t.name});\n"
+        out += f"      {t.name} = holds_none _ _ _ (at{'.1' * i}.0 (eqb-false _ _ refl) ∙ blank.{t.name});\n"
     return out + "    }\n"
 
 
+# ---- what a file's schema is tested for
+
+
+def listed(items, indent=""):
+    """A list of Rust, on one line where it is short, as the formatter has it."""
+    line = ", ".join(items)
+    return f"[{line}]" if len(line) <= 60 else "[\n" + "".join(f"{indent}    {item},\n" for item in items) + f"{indent}]"
+
+
+def places(table, names):
+    return f"&[{', '.join(str(table.place(name)) for name in names)}]"
+
+
+def rule(column):
+    return column.kind if column.is_needed else f"{column.kind}_OR_NULL"
+
+
+def index_form(name, tree, table, columns, is_key):
+    return f'("{name}", {tree}, {table.tree}, {places(table, columns)}, {str(is_key).lower()})'
+
+
+def forms():
+    keyed = [table for table in DEFINED.values() if not table.has_rowid]
+    rules = {rule(column) for table in DEFINED.values() for column in table.columns}
+    out = f"""//! The tables and indexes of a room, as their texts make them. (Written by tools/tables.py.)
+
+use crate::forms::{{{', '.join(sorted([*rules, 'IndexForm', 'TableForm']))}}};
+"""
+    for table in DEFINED.values():
+        columns = listed([f'("{column.name}", {rule(column)})' for column in table.columns], "    ")
+        key = "&[]" if table.has_rowid else places(table, table.key)
+        out += f"""
+pub(crate) const {table.name.upper()}: TableForm = (
+    "{table.name}",
+    {table.tree},
+    {key},
+    &{columns},
+);
+"""
+    for name, tree, table, columns in INDEXES:
+        head, form = f"pub(crate) const {name.upper()}: IndexForm =", index_form(name, tree, table, columns, False)
+        gap = " " if len(head) + len(form) < 99 else "\n    "
+        out += f"\n{head}{gap}{form};\n"
+    keys = [index_form(f"sqlite_autoindex_{table.name}_1", table.tree + 1, table, table.key, True) for table in keyed]
+    return out + f"""
+/// The tables of a room, in the order in which they are made.
+pub(crate) const TABLES: [TableForm; {len(DEFINED)}] = {listed([name.upper() for name in DEFINED])};
+
+/// The indexes of a room: those of the keys, and those that find its working rows.
+pub(crate) const INDEXES: [IndexForm; {len(keys) + len(INDEXES)}] = {listed(keys + [index[0].upper() for index in INDEXES])};
+
+/// How many of the indexes are those of the keys.
+pub(crate) const KEY_INDEXES: usize = {len(keys)};
+"""
+
+
 def main():
+    put("room_tables_schema/src/tables.rt", forms())
     write("Kept.antt", "Where one table alone changed, the tables stand for the room with that table's rows.", kept())
     for at, t in enumerate(TABLES):
         write(f"{table_file(t)}.antt", f"What the statements on the table {t.name} say, and what they make of a room.", laws(t, at), constants(t).items())

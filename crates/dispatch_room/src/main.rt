@@ -4,7 +4,7 @@
 #![tactic(auto)]
 
 use dispatch_room_commands::commands::{USAGE, command};
-use dispatch_room_endings::endings::{Fault, ended};
+use dispatch_room_endings::endings::{Failure, ended};
 use dispatch_room_example::dry_run::dry_run;
 use room_http_messages::wires::Wire;
 use std::process::ExitCode;
@@ -27,7 +27,7 @@ fn main(rt: HostRuntime) -> ExitCode {
             let _ = eprintln!(rt; "error: invalid UTF-8 was detected in one or more arguments");
             USAGE
         }
-        Err(_) => tell(&rt, Fault::Memory),
+        Err(_) => tell(&rt, Failure::Memory),
     };
     ExitCode::from(status)
 }
@@ -38,14 +38,14 @@ fn arguments(rt: &HostRuntime) -> io::Result<Vec<String>> {
 }
 
 // The dry run over standard input and output.
-fn dry(rt: &HostRuntime) -> Result<(), Fault> {
+fn dry(rt: &HostRuntime) -> Result<(), Failure> {
     let mut reader = Wire::new(rt.stdin());
     let mut writer = Wire::new(rt.stdout());
     ended(dry_run(rt.alloc(), &mut reader, &mut writer)?)
 }
 
 // Tells a fault on standard error, and gives its status.
-fn tell(rt: &HostRuntime, fault: Fault) -> u8 {
+fn tell(rt: &HostRuntime, fault: Failure) -> u8 {
     let _ = eprintln!(rt; "{fault}");
     fault.status()
 }

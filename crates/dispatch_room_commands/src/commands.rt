@@ -6,7 +6,7 @@ use crate::serving::serve_file;
 use crate::timing::times;
 use clap::Error;
 use clap::error::ErrorKind;
-use dispatch_room_endings::endings::{Done, Fault};
+use dispatch_room_endings::endings::{Done, Failure};
 use dispatch_room_words::tasks::Task;
 use dispatch_room_words::words;
 use std::alloc::Global;
@@ -47,7 +47,7 @@ fn perform<O: Write>(
     alloc: Global,
     task: &Task<'_>,
     out: &mut O,
-) -> Result<Done, Fault> {
+) -> Result<Done, Failure> {
     match *task {
         Task::Init { file, plan } => init(rt, alloc, file, plan, out),
         Task::Import { file, fleet } => import(rt, alloc, file, fleet, out),
@@ -67,12 +67,12 @@ fn is_mistake(error: &Error) -> bool {
 }
 
 // Writes the help that was asked for.
-fn help<O: Write>(error: &Error, out: &mut O) -> Result<Done, Fault> {
+fn help<O: Write>(error: &Error, out: &mut O) -> Result<Done, Failure> {
     if error.kind() == ErrorKind::OutOfMemory {
-        return Err(Fault::Memory);
+        return Err(Failure::Memory);
     }
     match write!(out, "{error}") {
         Ok(()) => Ok(Done::Whole),
-        Err(_) => Err(Fault::Network),
+        Err(_) => Err(Failure::Network),
     }
 }

@@ -1,13 +1,13 @@
 //! How a program ends: how much it did, or why it fails, what it says of that, and its exit status.
 ghost use Rattle.std.specs.Prelude.{◌≡◌};
 ghost use Rattle.dispatch_room_endings.specs.Endings.{ended, refused};
-ghost use Rattle.dispatch_room_endings.specs.declared.endings.Fault.TheVariants.{Memory};
+ghost use Rattle.dispatch_room_endings.specs.declared.endings.Failure.TheVariants.{Memory};
 
 use dispatch_room_files::fleets::FleetFileFault;
 use dispatch_room_files::plans::PlanFileFault;
 use room_http::serving::ServeEnd;
 use room_store::creating::CreateFault;
-use room_store::opening::OpenFault;
+use room_store_opening::opening::OpenFault;
 use room_types::refusals::Refusal;
 use std::alloc::AllocFailed;
 use thiserror::Error;
@@ -38,14 +38,15 @@ impl Done {
 
 /// Why the program fails. It is what standard error tells.
 #[derive(Clone, Copy, Debug, PartialEq, Eq, Error)]
-pub enum Fault {
+pub enum Failure {
     /// A row of a plan, from 1 after the header; 0 for the plan as a whole.
     #[error("refused: plan row {0}")]
     PlanRow(u64),
     /// A text can't be read, or is none of its form.
     #[error("refused: input")]
     Input,
-    /// The room's file is not there, or is no room; or a room was to be created, and the file is not empty.
+    /// The room's file is not there, or is no room; or a room was to be created, and the file is
+    /// not empty.
     #[error("refused: file")]
     File,
     /// The room's file is of an older version.
@@ -71,7 +72,7 @@ pub enum Fault {
     Memory,
 }
 
-impl Fault {
+impl Failure {
     ghost use Rattle.std.specs.Prelude.{◌≡◌};
     ghost use Rattle.dispatch_room_endings.specs.Endings.{status_of};
 
@@ -80,104 +81,104 @@ impl Fault {
         ensures { result ≡ status_of self }
     {
         match self {
-            Fault::PlanRow(_)
-            | Fault::Input
-            | Fault::File
-            | Fault::Version
-            | Fault::Division
-            | Fault::Day
-            | Fault::Connection => 1,
-            Fault::Storage => 3,
-            Fault::Network => 4,
-            Fault::Memory => 5,
+            Failure::PlanRow(_)
+            | Failure::Input
+            | Failure::File
+            | Failure::Version
+            | Failure::Division
+            | Failure::Day
+            | Failure::Connection => 1,
+            Failure::Storage => 3,
+            Failure::Network => 4,
+            Failure::Memory => 5,
         }
     }
 }
 
-impl<T: Drop> From<AllocFailed<T>> for Fault {
+impl<T: Drop> From<AllocFailed<T>> for Failure {
     ghost from_gives = { λ _ fault. fault ≡ Memory };
 
-    fn from(_: AllocFailed<T>) -> Fault {
-        Fault::Memory
+    fn from(_: AllocFailed<T>) -> Failure {
+        Failure::Memory
     }
 }
 
-impl From<PlanFileFault> for Fault {
+impl From<PlanFileFault> for Failure {
     ghost use Rattle.dispatch_room_endings.specs.Endings.{plan_fault};
 
     ghost from_gives = { λ fault told. told ≡ plan_fault fault };
 
-    fn from(fault: PlanFileFault) -> Fault {
+    fn from(fault: PlanFileFault) -> Failure {
         match fault {
-            PlanFileFault::Input => Fault::Input,
-            PlanFileFault::Row(row) => Fault::PlanRow(row),
-            PlanFileFault::Memory => Fault::Memory,
+            PlanFileFault::Input => Failure::Input,
+            PlanFileFault::Row(row) => Failure::PlanRow(row),
+            PlanFileFault::Memory => Failure::Memory,
         }
     }
 }
 
-impl From<FleetFileFault> for Fault {
+impl From<FleetFileFault> for Failure {
     ghost use Rattle.dispatch_room_endings.specs.Endings.{fleet_fault};
 
     ghost from_gives = { λ fault told. told ≡ fleet_fault fault };
 
-    fn from(fault: FleetFileFault) -> Fault {
+    fn from(fault: FleetFileFault) -> Failure {
         match fault {
-            FleetFileFault::Input => Fault::Input,
-            FleetFileFault::Memory => Fault::Memory,
+            FleetFileFault::Input => Failure::Input,
+            FleetFileFault::Memory => Failure::Memory,
         }
     }
 }
 
-impl From<CreateFault> for Fault {
+impl From<CreateFault> for Failure {
     ghost use Rattle.dispatch_room_endings.specs.Endings.{create_fault};
 
     ghost from_gives = { λ fault told. told ≡ create_fault fault };
 
-    fn from(fault: CreateFault) -> Fault {
+    fn from(fault: CreateFault) -> Failure {
         match fault {
-            CreateFault::NotEmpty => Fault::File,
+            CreateFault::NotEmpty => Failure::File,
             // A plan's terminals are sound: it was judged as it was read.
-            CreateFault::BadTerminal => Fault::Input,
-            CreateFault::Memory => Fault::Memory,
-            CreateFault::Storage => Fault::Storage,
+            CreateFault::BadTerminal => Failure::Input,
+            CreateFault::Memory => Failure::Memory,
+            CreateFault::Storage => Failure::Storage,
         }
     }
 }
 
-impl From<OpenFault> for Fault {
+impl From<OpenFault> for Failure {
     ghost use Rattle.dispatch_room_endings.specs.Endings.{open_fault};
 
     ghost from_gives = { λ fault told. told ≡ open_fault fault };
 
-    fn from(fault: OpenFault) -> Fault {
+    fn from(fault: OpenFault) -> Failure {
         match fault {
-            OpenFault::OldRoom => Fault::Version,
-            OpenFault::NotARoom => Fault::File,
-            OpenFault::Memory => Fault::Memory,
-            OpenFault::Storage => Fault::Storage,
+            OpenFault::OldRoom => Failure::Version,
+            OpenFault::NotARoom => Failure::File,
+            OpenFault::Memory => Failure::Memory,
+            OpenFault::Storage => Failure::Storage,
         }
     }
 }
 
 /// What a store's refusal is to the program: it has no other than of memory and of storage.
-pub fn refused(refusal: Refusal) -> Fault
+pub fn refused(refusal: Refusal) -> Failure
     ensures { result ≡ refused refusal }
 {
     match refusal {
-        Refusal::Memory => Fault::Memory,
-        _ => Fault::Storage,
+        Refusal::Memory => Failure::Memory,
+        _ => Failure::Storage,
     }
 }
 
 /// What the end of serving one connection is to a program that served no more.
-pub fn ended(end: ServeEnd) -> Result<(), Fault>
+pub fn ended(end: ServeEnd) -> Result<(), Failure>
     ensures { result ≡ ended end }
 {
     match end {
         ServeEnd::Closed => Ok(()),
-        ServeEnd::Cut | ServeEnd::ClockFault | ServeEnd::Turns => Err(Fault::Connection),
-        ServeEnd::ReadFault | ServeEnd::WriteFault => Err(Fault::Network),
-        ServeEnd::Memory => Err(Fault::Memory),
+        ServeEnd::Cut | ServeEnd::ClockFault | ServeEnd::ReadsSpent => Err(Failure::Connection),
+        ServeEnd::ReadFault | ServeEnd::WriteFault => Err(Failure::Network),
+        ServeEnd::Memory => Err(Failure::Memory),
     }
 }

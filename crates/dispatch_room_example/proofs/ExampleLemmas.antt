@@ -7,7 +7,7 @@ use Rattle.room_place.specs.Plans.{Layout}
 use Rattle.room_place.specs.References.{parse}
 use Rattle.room_place.specs.declared.plans.Area.{Area}
 use Rattle.room_tables.specs.Stands.{empty_room}
-use Rattle.room_store.specs.Creating.{new_divisions, new_room}
+use Rattle.room_store_writes.specs.Filling.{new_divisions, new_room}
 use Rattle.dispatch_room_example.specs.Example.{example_plan}
 
 -- the rule of its zone is one

@@ -7,9 +7,9 @@ use Rattle.room_http_answers.specs.Replies.{fixed_bytes}
 use Rattle.room_http_time.specs.declared.zones.Zone.{Zone}
 use Rattle.room_service.specs.Rooms.{Step}
 use Rattle.room_http.specs.declared.serving.ServeEnd.{ServeEnd}
-use Rattle.room_http.specs.declared.serving.ServeEnd.TheVariants.{Closed, Cut, ReadFault, WriteFault, ClockFault, Turns, Memory}
-use Rattle.room_http.specs.Outcomes.{Outcome, is_head_only}
-use Rattle.room_http.specs.Serving.{Sides, Finish, Answered, Wanted, Broken, Untimed, ServeIs}
+use Rattle.room_http.specs.declared.serving.ServeEnd.TheVariants.{Closed, Cut, ReadFault, WriteFault, ClockFault, ReadsSpent, Memory}
+use Rattle.room_http.specs.Arrivals.{Arrival, is_head_only}
+use Rattle.room_http.specs.Serving.{Sides, Finish, Answered, Unserved, Broken, Untimed, ServeIs}
 use Rattle.dispatch_room_example.specs.Example.{untold}
 use Rattle.room_http.specs.Talk.{Timed, IsFront, BreaksOff, Talks}
 
@@ -30,7 +30,7 @@ module _ (step : Step) (zone : Zone) (old : Sides) (new : Finish) (trusted : Typ
         (λ terminals after tail said. (tt, said.1)) a.talk;
   }
 
-  wanted : (outs : List Timed) (x : Timed) (so_much : List ℕ → List ℕ → Type 0) → Wanted step zone old new trusted stood stands outs x so_much → Wanted step zone old new ⊤ asked untold outs x so_much
+  wanted : (outs : List Timed) (x : Timed) (so_much : List ℕ → List ℕ → Type 0) → Unserved step zone old new trusted stood stands outs x so_much → Unserved step zone old new ⊤ asked untold outs x so_much
   wanted outs x so_much w = record {
     begins = w.begins;
     timed = w.timed;
@@ -49,7 +49,7 @@ module _ (step : Step) (zone : Zone) (old : Sides) (new : Finish) (trusted : Typ
         (λ terminals after tail said. (said.0, said.1, said.2, tt, said.4)) b.talk;
   }
 
-  untimed : (outs : List Timed) (o : Outcome) → Untimed step zone old new trusted stood stands outs o → Untimed step zone old new ⊤ asked untold outs o
+  untimed : (outs : List Timed) (o : Arrival) → Untimed step zone old new trusted stood stands outs o → Untimed step zone old new ⊤ asked untold outs o
   untimed outs o u = record {
     begins = u.begins;
     timed = u.timed;
@@ -59,13 +59,13 @@ module _ (step : Step) (zone : Zone) (old : Sides) (new : Finish) (trusted : Typ
   }
 
   -- however it ended
-  pub serves : (turns : ℕ) (end : ServeEnd) → ServeIs step zone old new trusted stood stands turns end → ServeIs step zone old new ⊤ asked untold turns end
-  serves turns Closed (inl ended) = inl (ended.0, answered ended.0 (λ rest. rest ≡ []) ended.1, ended.2)
-  serves turns Closed (inr (inl closed)) = inr (inl (closed.0, answered closed.0 (λ rest. ⊤) closed.1, closed.2))
-  serves turns Closed (inr (inr want)) = inr (inr (want.0, want.1, wanted want.0 want.1 (λ tail fixed. tail ≡ fixed) want.2))
-  serves turns Cut cut = (cut.0, answered cut.0 _ cut.1, cut.2)
-  serves turns ReadFault failed = (failed.0, answered failed.0 (λ rest. ⊤) failed.1, failed.2)
-  serves turns WriteFault failed = (
+  pub serves : (budget : ℕ) (end : ServeEnd) → ServeIs step zone old new trusted stood stands budget end → ServeIs step zone old new ⊤ asked untold budget end
+  serves budget Closed (inl ended) = inl (ended.0, answered ended.0 (λ rest. rest ≡ []) ended.1, ended.2)
+  serves budget Closed (inr (inl closed)) = inr (inl (closed.0, answered closed.0 (λ rest. ⊤) closed.1, closed.2))
+  serves budget Closed (inr (inr want)) = inr (inr (want.0, want.1, wanted want.0 want.1 (λ tail fixed. tail ≡ fixed) want.2))
+  serves budget Cut cut = (cut.0, answered cut.0 _ cut.1, cut.2)
+  serves budget ReadFault failed = (failed.0, answered failed.0 (λ rest. ⊤) failed.1, failed.2)
+  serves budget WriteFault failed = (
     (
       failed.0.0,
       failed.0.1,
@@ -76,6 +76,6 @@ module _ (step : Step) (zone : Zone) (old : Sides) (new : Finish) (trusted : Typ
     ),
     failed.1,
   )
-  serves turns ClockFault none = (none.0, none.1, untimed none.0 none.1 none.2)
-  serves turns Turns used = (used.0, answered used.0 (λ rest. ⊤) used.1, used.2)
-  serves turns Memory refused = (answered [] (λ rest. ⊤) refused.0, refused.1)
+  serves budget ClockFault none = (none.0, none.1, untimed none.0 none.1 none.2)
+  serves budget ReadsSpent used = (used.0, answered used.0 (λ rest. ⊤) used.1, used.2)
+  serves budget Memory refused = (answered [] (λ rest. ⊤) refused.0, refused.1)

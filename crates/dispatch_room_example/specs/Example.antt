@@ -10,7 +10,7 @@ use Rattle.room_model.specs.Room.{Room}
 use Rattle.room_http_time.specs.Days.{zone_of}
 use Rattle.room_http_time.specs.declared.zones.Zone.{Zone}
 use Rattle.room_service.specs.Rooms.{machine}
-use Rattle.room_store.specs.Creating.{in_order, new_room}
+use Rattle.room_store_writes.specs.Filling.{in_order, new_room}
 use Rattle.room_store.specs.Enrolling.{room_after_rows, terminals_after_rows}
 use Rattle.room_http.specs.Serving.{Finish, ServeIs, Sides}
 use Rattle.room_http.specs.declared.serving.ServeEnd.{ServeEnd}
@@ -66,4 +66,4 @@ untold terminals room = ⊤
 
 -- what is written is the talk of the example room with the messages that are read, in so many reads at most
 abbrev pub IsExampleTalk : Sides → Finish → ℕ → ServeEnd → Type 0
-IsExampleTalk old new turns end = (zone : Zone) × IsExampleZone zone × ServeIs machine zone old new ⊤ IsExample untold turns end
+IsExampleTalk old new budget end = (zone : Zone) × IsExampleZone zone × ServeIs machine zone old new ⊤ IsExample untold budget end

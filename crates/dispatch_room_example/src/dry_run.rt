@@ -19,8 +19,8 @@ const MOMENT: u64 = 1000;
 /// How many reads it makes at most.
 const MOST_READS: u32 = 10_000;
 
-/// Serves the example room, made anew in memory, to a reader and a writer. A fault is of memory or of
-/// storage, and then nothing was read or written.
+/// Serves the example room, made anew in memory, to a reader and a writer. A fault is of memory or
+/// of storage, and then nothing was read or written.
 pub fn dry_run<R: Source, W: Sink>(
     alloc: Global,
     reader: &mut R,
@@ -29,10 +29,25 @@ pub fn dry_run<R: Source, W: Sink>(
     requires reader { R.has_failed reader.old ≡ false }
     requires writer { W.has_failed writer.old ≡ false }
     ensures reads { OnOk result (ReadsAtMost most_reads (R.reads reader.old) (R.reads reader.new)) }
-    // What is written is the talk of the example room with the messages that are read, all at one moment.
+    // What is written is the talk of the example room with the messages that are read, all at one
+    // moment.
     ensures talk { IfOk result (λ end. (count : ℕ) × (was_none : Bool) × IsExampleTalk
-        (record { left = R.left reader.old; reads = R.reads reader.old; held = W.held writer.old; given = Some [] })
-        (record { reads = R.reads reader.new; held = W.held writer.new; given = Some (replicate count example_moment); read_failed = R.has_failed reader.new; read_ended = R.has_ended reader.new; write_failed = W.has_failed writer.new; was_none = was_none })
+        (record {
+          left = R.left reader.old;
+          reads = R.reads reader.old;
+          held = W.held writer.old;
+          given = Some [];
+        })
+        (record {
+          reads = R.reads reader.new;
+          held = W.held writer.new;
+          given = Some
+              (replicate count example_moment);
+          read_failed = R.has_failed reader.new;
+          read_ended = R.has_ended reader.new;
+          write_failed = W.has_failed writer.new;
+          was_none = was_none;
+        })
         most_reads end) }
     ensures fault { IfErr result (λ fault. (fault ≡ Memory) ⊎ (fault ≡ Storage)) }
     ensures unused { OnErr result ((reader.new ≡ reader.old) × (writer.new ≡ writer.old)) }

@@ -1,4 +1,5 @@
-//! The example room: two divisions side by side, a desk for each, one call taker, and five vehicles.
+//! The example room: two divisions side by side, a desk for each, one call taker, and five
+//! vehicles.
 ghost use Rattle.std.specs.Prelude.{◌≡◌, ◌+◌, ◌≤◌, true, Ok, IfOk, IsOk};
 ghost use Rattle.room_place.specs.References.{parse as reading};
 ghost use Rattle.room_place.specs.declared.places.Place.{Place as Spot};
@@ -17,7 +18,8 @@ use std::alloc::{AllocError, Global};
 
 /// Divisions 1 and 2, each with a rectangle of 50 km by 100 km.
 pub fn plan(alloc: Global) -> Result<Plan, AllocError>
-    ensures { IfOk result (λ plan. (plan.areas ≡ example_plan.areas) × (plan.zone ≡ example_plan.zone)) }
+    ensures { IfOk result (λ plan. (plan.areas ≡ example_plan.areas)
+        × (plan.zone ≡ example_plan.zone)) }
 {
     let areas = Vec::from_slice(alloc, &[area(1, 500_000), area(2, 550_000)])?;
     Plan::new(alloc, areas, "GMT0BST,M3.5.0/1,M10.5.0").map_err(|_| AllocError)
@@ -26,7 +28,15 @@ pub fn plan(alloc: Global) -> Result<Plan, AllocError>
 // A division's area, from its western edge on.
 fn area(division: u32, west: u32) -> Area
     requires { west ≤ 550_000 }
-    ensures { result ≡ record { division = division; rect = record { west = west; south = 100_000; east = west + 49_999; north = 199_999 } } }
+    ensures { result ≡ record {
+      division = division;
+      rect = record {
+        west = west;
+        south = 100_000;
+        east = west + 49_999;
+        north = 199_999;
+      };
+    } }
 {
     Area {
         division,
@@ -79,7 +89,14 @@ fn vehicle(callsign: &str, division: u32, kind: Kind, reference: &str, token: &s
     requires division { (1 ≤ division) × (division ≤ 9) }
     requires reference { IsOk (reading reference.now) }
     requires token { is_token token.now ≡ true }
-    ensures { (place : Spot) → reading reference.now ≡ Ok place → result ≡ record { callsign = callsign.now; division = division; kind = kind; place = place; token = token.now } }
+    ensures { (place : Spot) → reading reference.now ≡ Ok place
+        → result ≡ record {
+          callsign = callsign.now;
+          division = division;
+          kind = kind;
+          place = place;
+          token = token.now;
+        } }
 {
     FleetRow {
         callsign: Callsign::parse(callsign).unwrap(),

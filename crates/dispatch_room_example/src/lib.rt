@@ -1,8 +1,9 @@
-//! The example room of the documents, in memory, and a connection that it serves; the dry run is one.
+//! The example room of the documents, in memory, and a connection that it serves; the dry run is
+//! one.
 #![tactic(auto)]
 
 pub mod dry_run;
-mod example;
+pub mod example;
 pub mod laws;
 pub mod rooms;
 pub mod talks;

@@ -3,7 +3,7 @@ ghost use Rattle.std.specs.Prelude.{◌≡◌, ◌⊎◌, IfOk, IfErr};
 ghost use Rattle.sqlite.specs.Steps.{over_memory};
 ghost use Rattle.room_types.specs.declared.refusals.Refusal.TheVariants as refusal;
 ghost use Rattle.room_service.specs.Rooms.{IsWant};
-ghost use Rattle.room_store.specs.Creating.{in_order, new_room};
+ghost use Rattle.room_store_writes.specs.Filling.{in_order, new_room};
 ghost use Rattle.room_store.specs.Keeping.{IsReady, IsRoom};
 ghost use Rattle.room_store.specs.declared.creating.CreateFault.TheVariants.{Memory, Storage};
 ghost use Rattle.dispatch_room_example.specs.Example.{example_plan, example_terminals, room_with_fleet, terminals_with_crews};
@@ -15,12 +15,13 @@ use room_types::refusals::Refusal;
 use sqlite::{Connection, MemStore};
 use std::alloc::Global;
 
-/// The example room, made anew in memory: its plan and terminals, and then its fleet, enrolled row by
-/// row. A fault is of memory or of storage.
+/// The example room, made anew in memory: its plan and terminals, and then its fleet, enrolled row
+/// by row. A fault is of memory or of storage.
 pub fn example_room(alloc: Global) -> Result<Store<MemStore>, CreateFault>
     ensures ready { IfOk result (IsReady over_memory) }
     ensures zone { IfOk result (λ store. store.plan.zone ≡ example_plan.zone) }
-    ensures room { IfOk result (λ store. IsRoom over_memory store terminals_with_crews room_with_fleet) }
+    ensures room { IfOk result (λ store.
+        IsRoom over_memory store terminals_with_crews room_with_fleet) }
     ensures fault { IfErr result (λ fault. (fault ≡ Memory) ⊎ (fault ≡ Storage)) }
 {
     let mut store = empty_room(alloc)?;
@@ -38,7 +39,8 @@ pub fn example_room(alloc: Global) -> Result<Store<MemStore>, CreateFault>
 fn empty_room(alloc: Global) -> Result<Store<MemStore>, CreateFault>
     ensures ready { IfOk result (IsReady over_memory) }
     ensures zone { IfOk result (λ store. store.plan.zone ≡ example_plan.zone) }
-    ensures room { IfOk result (λ store. IsRoom over_memory store (in_order example_terminals) (new_room example_plan)) }
+    ensures room { IfOk result (λ store.
+        IsRoom over_memory store (in_order example_terminals) (new_room example_plan)) }
     ensures fault { IfErr result (λ fault. (fault ≡ Memory) ⊎ (fault ≡ Storage)) }
 {
     let Ok(plan) = plan(alloc) else {

@@ -13,29 +13,44 @@ use room_http_time::zones::Zone;
 use room_store::creating::CreateFault;
 use std::alloc::Global;
 
-/// Serves the example room, made anew in memory, to a reader and a writer, with at most so many reads.
-/// A fault is of memory or of storage; then nothing was read or written, and the clock was not asked.
+/// Serves the example room, made anew in memory, to a reader and a writer, with at most so many
+/// reads. A fault is of memory or of storage; then nothing was read or written, and the clock was
+/// not asked.
 pub fn serve_example<R: Source, W: Sink, C: Clock>(
     alloc: Global,
     reader: &mut R,
     writer: &mut W,
     clock: &mut C,
-    turns: u32,
+    budget: u32,
 ) -> Result<ServeEnd, CreateFault>
     requires reader { R.has_failed reader.old ≡ false }
     requires writer { W.has_failed writer.old ≡ false }
-    ensures reads { OnOk result (ReadsAtMost turns (R.reads reader.old) (R.reads reader.new)) }
+    ensures reads { OnOk result (ReadsAtMost budget (R.reads reader.old) (R.reads reader.new)) }
     // What is written is the talk of the example room with the messages that are read.
     ensures talk { IfOk result (IsExampleTalk
-        (record { left = R.left reader.old; reads = R.reads reader.old; held = W.held writer.old; given = C.given clock.old })
-        (record { reads = R.reads reader.new; held = W.held writer.new; given = C.given clock.new; read_failed = R.has_failed reader.new; read_ended = R.has_ended reader.new; write_failed = W.has_failed writer.new; was_none = C.was_none clock.new })
-        turns) }
+        (record {
+          left = R.left reader.old;
+          reads = R.reads reader.old;
+          held = W.held writer.old;
+          given = C.given clock.old;
+        })
+        (record {
+          reads = R.reads reader.new;
+          held = W.held writer.new;
+          given = C.given clock.new;
+          read_failed = R.has_failed reader.new;
+          read_ended = R.has_ended reader.new;
+          write_failed = W.has_failed writer.new;
+          was_none = C.was_none clock.new;
+        })
+        budget) }
     ensures fault { IfErr result (λ fault. (fault ≡ Memory) ⊎ (fault ≡ Storage)) }
-    ensures unused { OnErr result ((reader.new ≡ reader.old) × (writer.new ≡ writer.old) × (clock.new ≡ clock.old)) }
+    ensures unused { OnErr result ((reader.new ≡ reader.old) × (writer.new ≡ writer.old)
+        × (clock.new ≡ clock.old)) }
 {
     let mut store = example_room(alloc)?;
     let zone = Zone::read(store.plan().zone()).unwrap();
-    let end = serve(alloc, reader, writer, &mut store, &zone, clock, turns);
+    let end = serve(alloc, reader, writer, &mut store, &zone, clock, budget);
     let _ = store.close();
     Ok(end)
 }

@@ -4,7 +4,7 @@ ghost use Rattle.csv.specs.Records.{fields_of};
 ghost use Rattle.dispatch_room_files.specs.Fields.{are_digits, is_numeral, number_of, text_at, whole_of};
 
 use csv::StringRecord;
-use room_place::whole::Whole;
+use room_place::bounded::Bounded;
 
 /// The text of a field: empty where the row has none there.
 pub(crate) fn text_at(row: &StringRecord, at: usize) -> &str
@@ -26,10 +26,10 @@ pub(crate) fn number(text: &str) -> Option<u32>
 /// The number of a range that a text writes in digits alone.
 pub(crate) fn whole<const LEAST: u32, const GREATEST: u32>(
     text: &str,
-) -> Option<Whole<LEAST, GREATEST>>
+) -> Option<Bounded<LEAST, GREATEST>>
     ensures { result ≡ whole_of LEAST GREATEST text.now }
 {
-    Whole::new(number(text)?)
+    Bounded::new(number(text)?)
 }
 
 /// Whether a text is one digit or more, and nothing else.

@@ -70,7 +70,8 @@ pub fn read_fleet(alloc: Global, text: &[u8]) -> Result<Vec<FleetLine>, FleetFil
 }
 
 fn fleet_lines(alloc: Global, rows: &[StringRecord]) -> Result<Vec<FleetLine>, AllocError>
-    ensures { IfOk result (λ lines. lines.items ≡ map (λ row. fleet_line_of (fields_of row)) rows.now) }
+    ensures { IfOk result (λ lines.
+        lines.items ≡ map (λ row. fleet_line_of (fields_of row)) rows.now) }
 {
     rows.iter().map(fleet_line).collect(alloc)
 }

@@ -29,7 +29,8 @@ pub(crate) enum PlanLine {
 
 /// What each row says.
 pub(crate) fn plan_lines(alloc: Global, rows: &[StringRecord]) -> Result<Vec<PlanLine>, AllocError>
-    ensures { IfOk result (λ lines. lines.items ≡ map (λ row. plan_line_of (fields_of row)) rows.now) }
+    ensures { IfOk result (λ lines.
+        lines.items ≡ map (λ row. plan_line_of (fields_of row)) rows.now) }
 {
     rows.iter().map(plan_line).collect(alloc)
 }

@@ -22,7 +22,8 @@ pub struct PlanFile {
     pub terminals: Vec<Terminal>,
 }
 
-/// Why a text is no plan. Of several reasons the first of this list is told, and `Memory` at any time.
+/// Why a text is no plan. Of several reasons the first of this list is told, and `Memory` at any
+/// time.
 #[derive(Clone, Copy, Debug, PartialEq, Eq, Error)]
 pub enum PlanFileFault {
     /// It is no UTF-8, no CSV, has another header, or a row with another number of fields.

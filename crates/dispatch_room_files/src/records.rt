@@ -54,7 +54,8 @@ pub(crate) fn read_rows(
     names: &[&str],
     text: &[u8],
 ) -> Result<Vec<StringRecord>, RecordsFault>
-    ensures rows { IfOk result (λ rows. HasRows (map (λ name. name.now) names.now) text.now (map fields_of rows.items)) }
+    ensures rows { IfOk result (λ rows.
+        HasRows (map (λ name. name.now) names.now) text.now (map fields_of rows.items)) }
     ensures fault { IfErr result (ExplainsRows (map (λ name. name.now) names.now) text.now) }
 {
     let mut records = read_records(alloc, text)?;

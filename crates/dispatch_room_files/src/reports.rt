@@ -19,7 +19,8 @@ pub fn day_report(alloc: Global, times: &Times) -> Result<Vec<u8>, AllocError>
 }
 
 fn push_line(report: &mut String, line: &TimesLine) -> Result<(), AllocError>
-    ensures { OnOk result (string_bytes report.new ≡ string_bytes report.old ++ report_line line.now) }
+    ensures { OnOk result
+        (string_bytes report.new ≡ string_bytes report.old ++ report_line line.now) }
 {
     let (number, opened) = (line.number.get(), line.opened.get());
     match line.activation {

@@ -20,8 +20,8 @@ impl<'a> Draft<'a> {
 
     /// The command with one argument more.
     pub fn with(self, arg: Arg<'a>) -> Draft<'a> {
-        let command = match both(self.command, Ok(arg)) {
-            Ok((command, arg)) => command.arg(arg),
+        let command = match self.command {
+            Ok(command) => command.arg(arg),
             Err(fault) => Err(fault),
         };
         Draft { command }
@@ -29,8 +29,8 @@ impl<'a> Draft<'a> {
 
     /// The command with one more below it.
     pub fn with_command(self, below: Draft<'a>) -> Draft<'a> {
-        let command = match both(self.command, below.command) {
-            Ok((command, below)) => command.subcommand(below),
+        let command = match below.command {
+            Ok(below) => above(self.command, below),
             Err(fault) => Err(fault),
         };
         Draft { command }
@@ -45,10 +45,13 @@ impl<'a> Draft<'a> {
     }
 }
 
-// Both of two, where both are there.
-fn both<A: Drop, B: Drop>(
-    a: Result<A, AllocError>,
-    b: Result<B, AllocError>,
-) -> Result<(A, B), AllocError> {
-    Ok((a?, b?))
+// A command with one more below it.
+fn above<'a>(
+    command: Result<Command<'a>, AllocError>,
+    below: Command<'a>,
+) -> Result<Command<'a>, AllocError> {
+    match command {
+        Ok(command) => command.subcommand(below),
+        Err(fault) => Err(fault),
+    }
 }

@@ -11,7 +11,7 @@ use Rattle.room_types.specs.declared.refusals.Refusal.{Refusal}
 use Rattle.room_types.specs.declared.slices.DivisionRows.{DivisionRows}
 use Rattle.room_types.specs.declared.tables.Incident.{Incident}
 use Rattle.room_model.proofs.ProposalLaws.{proposed_first}
-use Rattle.room_model.specs.Decisions.{Decided, answer_of, refuse_if, show, where_active}
+use Rattle.room_model.specs.Decisions.{Verdict, answer_of, refuse_if, show, where_active}
 use Rattle.room_model.specs.Proposals.{all_proposed, candidates, propose, proposed}
 use Rattle.room_model.specs.Queries.{holders, incident_of, point_of, served}
 use Rattle.room_model.specs.Room.{IsInOrder, Room}
@@ -24,7 +24,7 @@ any_plan : (d : ℕ) (i : Incident) (at : ℕ) (plan : List Area) (s : DivisionR
 unfolding candidates holders point_of served
 any_plan d i at plan s = refl
 
-module _ (d n at : ℕ) (plan : List Area) (s : DivisionRows) (i : Incident) (there : (decide : Incident → Decided) → where_active (incident_of d n (room_of plan s)) decide ≡ decide i) where
+module _ (d n at : ℕ) (plan : List Area) (s : DivisionRows) (i : Incident) (there : (decide : Incident → Verdict) → where_active (incident_of d n (room_of plan s)) decide ≡ decide i) where
   pub told : (ps : List Proposal) → ps ≡ all_proposed d i at (unplanned s) → propose d n at (room_of plan s) ≡ show (answer.Proposals ps)
   unfolding propose
   told ps e = there (λ j. show (answer.Proposals (all_proposed d j at (room_of plan s)))) ∙ ap (λ qs. show (answer.Proposals qs)) (sym (e ∙ any_plan d i at plan s))

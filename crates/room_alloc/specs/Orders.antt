@@ -5,15 +5,15 @@ use Rattle.room_types.specs.declared.changes.Change.TheVariants.{DropAssignment,
 use Rattle.room_types.specs.declared.refusals.Refusal.{Refusal}
 use Rattle.room_types.specs.declared.tables.Turn.{Turn}
 use Rattle.room_types.specs.declared.tables.Vehicle.{Vehicle}
-use Rattle.room_model.specs.Decisions.{Decided, done, tell}
+use Rattle.room_model.specs.Decisions.{Verdict, done, tell}
 use Rattle.room_alloc.specs.declared.orders.Mobilised.{Mobilised}
 
 -- the four rows are put, and the order's number and its vehicle told; or the same refusal is given
-abbrev pub as_mobilised : Result Mobilised Refusal → Decided
+abbrev pub as_mobilised : Result Mobilised Refusal → Verdict
 as_mobilised (Ok m) = tell (answer.Mobilised m.turn.order m.vehicle.callsign) (PutIncident m.incident ∷ PutVehicle m.vehicle ∷ PutTurn m.turn ∷ PutAssignment m.assignment ∷ [])
 as_mobilised (Err e) = Err e
 
 -- the ended turn and the vehicle are put, and its assignment is dropped
-abbrev pub as_stood_down : Result (Vehicle × Turn) Refusal → Decided
+abbrev pub as_stood_down : Result (Vehicle × Turn) Refusal → Verdict
 as_stood_down (Ok p) = done (PutTurn p.1 ∷ DropAssignment p.0.callsign ∷ PutVehicle p.0 ∷ [])
 as_stood_down (Err e) = Err e

@@ -6,12 +6,12 @@ use Rattle.room_types.specs.declared.codes.Kind.TheVariants.{Ambulance, Car, Sup
 use Rattle.room_types.specs.declared.refusals.Refusal.TheVariants.{Memory}
 use Rattle.room_types.specs.declared.refusals.Refusal.{Refusal}
 use Rattle.room_types.specs.declared.tables.Incident.{Incident}
-use Rattle.room_model.specs.Decisions.{Decided, show}
+use Rattle.room_model.specs.Decisions.{Verdict, show}
 use Rattle.room_model.specs.Proposals.{AreProposed}
 use Rattle.room_model.specs.Room.{Room}
 
 -- the proposals are what is told; or the same refusal is given, or memory was refused to what would be told
-abbrev pub AreTold : Result (List Proposal) Refusal → Decided → Type 0
+abbrev pub AreTold : Result (List Proposal) Refusal → Verdict → Type 0
 AreTold (Ok ps) decided = decided ≡ show (answer.Proposals ps)
 AreTold (Err e) decided = (decided ≡ Err e) ⊎ ((e ≡ Memory) × (is_ok decided ≡ true))
 

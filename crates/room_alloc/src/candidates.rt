@@ -16,7 +16,8 @@ use std::alloc::Global;
 /// The points that have no more holders than they want: their holders break cover. The one
 /// refusal is `Memory`.
 pub(crate) fn short_points(alloc: Global, slice: &Slice, at: Moment) -> Result<Rows<Point>, Refusal>
-    ensures ok { IfOk result (λ short. AreShort slice.now.division at (unplanned slice.now.rows) short) }
+    ensures ok { IfOk result (λ short.
+        AreShort slice.now.division at (unplanned slice.now.rows) short) }
     ensures memory { IfErr result (λ e. e ≡ Memory) }
 {
     // It also tells that the points are in order.
@@ -25,7 +26,9 @@ pub(crate) fn short_points(alloc: Global, slice: &Slice, at: Moment) -> Result<R
 }
 
 fn points_in_want(alloc: Global, slice: &Slice, at: Moment) -> Result<Rows<Point>, Refusal>
-    ensures ok { IfOk result (λ short. short ≡ filter (is_point_short slice.now.division at (unplanned slice.now.rows)) slice.now.rows.points) }
+    ensures ok { IfOk result (λ short.
+        short ≡ filter (is_point_short slice.now.division at
+        (unplanned slice.now.rows)) slice.now.rows.points) }
     ensures memory { IfErr result (λ e. e ≡ Memory) }
 {
     let mut short = Rows::new(alloc);

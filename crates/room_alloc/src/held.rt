@@ -3,7 +3,7 @@ ghost use Rattle.std.specs.Prelude.{◌≡◌, List, Some, Err, IfOk, IfSome, Ma
 ghost use Rattle.room_place.specs.declared.plans.Area.{Area};
 ghost use Rattle.room_types.specs.Slices.{vehicle_at};
 ghost use Rattle.room_types.specs.declared.tables.Vehicle.{Vehicle};
-ghost use Rattle.room_model.specs.Decisions.{Decided, where_held, not_held};
+ghost use Rattle.room_model.specs.Decisions.{Verdict, where_held, not_held};
 ghost use Rattle.room_model.specs.Queries.{held, lent};
 ghost use Rattle.room_model.specs.Slices.{room_of};
 
@@ -18,7 +18,13 @@ use room_types::tables::{Loan, Vehicle};
 /// whether another division has such a vehicle or not.
 pub fn held<'a>(slice: &'a Slice, callsign: &Callsign) -> Result<&'a Vehicle, Refusal>
     // Whatever is decided of a held vehicle, in whichever plan.
-    ensures decided { (plan : List Area) (decide : Vehicle → Decided) → MatchResult result (λ v. where_held (held slice.now.division callsign.now (room_of plan slice.now.rows)) (lent slice.now.division callsign.now (room_of plan slice.now.rows)) decide ≡ decide v.now) (λ refusal. where_held (held slice.now.division callsign.now (room_of plan slice.now.rows)) (lent slice.now.division callsign.now (room_of plan slice.now.rows)) decide ≡ Err refusal) }
+    ensures decided { (plan : List Area) (decide : Vehicle → Verdict)
+        → MatchResult result (λ v.
+        where_held (held slice.now.division callsign.now (room_of plan slice.now.rows))
+        (lent slice.now.division callsign.now
+        (room_of plan slice.now.rows)) decide ≡ decide v.now) (λ refusal.
+        where_held (held slice.now.division callsign.now (room_of plan slice.now.rows))
+        (lent slice.now.division callsign.now (room_of plan slice.now.rows)) decide ≡ Err refusal) }
     ensures there { IfOk result (λ v. vehicle_at callsign.now slice.now.rows ≡ Some v.now) }
 {
     match find(slice, callsign) {
@@ -30,7 +36,9 @@ pub fn held<'a>(slice: &'a Slice, callsign: &Callsign) -> Result<&'a Vehicle, Re
 /// The vehicle, where the division holds it.
 #[tactic(auto, unfolding(room_model::specs::Queries::held))]
 pub fn find<'a>(slice: &'a Slice, callsign: &Callsign) -> Option<&'a Vehicle>
-    ensures held { (plan : List Area) → option_copied result ≡ held slice.now.division callsign.now (room_of plan slice.now.rows) }
+    ensures held { (plan : List Area)
+        → option_copied result ≡ held slice.now.division callsign.now
+        (room_of plan slice.now.rows) }
     ensures there { IfSome result (λ v. vehicle_at callsign.now slice.now.rows ≡ Some v.now) }
 {
     match slice.rows.vehicles.get(callsign) {
@@ -42,7 +50,8 @@ pub fn find<'a>(slice: &'a Slice, callsign: &Callsign) -> Option<&'a Vehicle>
 /// The vehicle's loan, where the division is its lender.
 #[tactic(auto, unfolding(room_model::specs::Queries::lent))]
 pub fn find_lent<'a>(slice: &'a Slice, callsign: &Callsign) -> Option<&'a Loan>
-    ensures { (plan : List Area) → option_copied result ≡ lent slice.now.division callsign.now (room_of plan slice.now.rows) }
+    ensures { (plan : List Area) → option_copied result ≡ lent slice.now.division callsign.now
+        (room_of plan slice.now.rows) }
 {
     match slice.rows.loans.get(callsign) {
         Some(loan) if loan.lender == slice.division => Some(loan),
@@ -51,7 +60,8 @@ pub fn find_lent<'a>(slice: &'a Slice, callsign: &Callsign) -> Option<&'a Loan>
 }
 
 fn not_held(slice: &Slice, callsign: &Callsign) -> Refusal
-    ensures { (plan : List Area) → result ≡ not_held (lent slice.now.division callsign.now (room_of plan slice.now.rows)) }
+    ensures { (plan : List Area) → result ≡ not_held
+        (lent slice.now.division callsign.now (room_of plan slice.now.rows)) }
 {
     match find_lent(slice, callsign) {
         Some(_) => Refusal::VehicleLent,

@@ -29,7 +29,8 @@ pub fn lend(
     until: Moment,
     at: Moment,
 ) -> Result<(Vehicle, Offer), Refusal>
-    ensures { as_lent result ≡ lend slice.now.division callsign.now to until at (room_of plan.now.areas slice.now.rows) }
+    ensures { as_lent result ≡ lend slice.now.division callsign.now to until at
+        (room_of plan.now.areas slice.now.rows) }
 {
     let vehicle = held(slice, callsign)?;
     if to == slice.division || !plan.has(to) {
@@ -67,7 +68,8 @@ pub fn lend(
 /// Refused as `held` refuses, then as `NoSuchOffer` where the division offers no such vehicle.
 #[tactic(auto, unfolding(room_model::specs::Loans::withdraw, room_model::specs::Queries::offered_by))]
 pub fn withdraw(slice: &Slice, callsign: &Callsign) -> Result<Vehicle, Refusal>
-    ensures { (plan : List Area) → as_withdrawn result ≡ withdraw slice.now.division callsign.now (room_of plan slice.now.rows) }
+    ensures { (plan : List Area) → as_withdrawn result ≡ withdraw slice.now.division callsign.now
+        (room_of plan slice.now.rows) }
 {
     let vehicle = held(slice, callsign)?;
     match slice.rows.offers.get(callsign) {
@@ -85,7 +87,8 @@ pub fn withdraw(slice: &Slice, callsign: &Callsign) -> Result<Vehicle, Refusal>
 /// Refused as `NoSuchOffer` where no such vehicle is offered to the division.
 #[tactic(auto, unfolding(room_model::specs::Loans::decline))]
 pub fn decline(slice: &Slice, callsign: &Callsign) -> Result<Offer, Refusal>
-    ensures { (plan : List Area) → as_declined result ≡ decline slice.now.division callsign.now (room_of plan slice.now.rows) }
+    ensures { (plan : List Area) → as_declined result ≡ decline slice.now.division callsign.now
+        (room_of plan slice.now.rows) }
 {
     match offered_to(slice, callsign) {
         Some(offer) => Ok(*offer),
@@ -100,7 +103,8 @@ pub fn decline(slice: &Slice, callsign: &Callsign) -> Result<Offer, Refusal>
 /// lender's is looked at: the vehicle's shift may be over.
 #[tactic(auto, unfolding(room_model::specs::Loans::accept))]
 pub fn accept(slice: &Slice, callsign: &Callsign, at: Moment) -> Result<Loan, Refusal>
-    ensures { (plan : List Area) → as_accepted result ≡ accept slice.now.division callsign.now at (room_of plan slice.now.rows) }
+    ensures { (plan : List Area) → as_accepted result ≡ accept slice.now.division callsign.now at
+        (room_of plan slice.now.rows) }
 {
     match offered_to(slice, callsign) {
         Some(offer) => Ok(Loan {
@@ -121,7 +125,8 @@ pub fn accept(slice: &Slice, callsign: &Callsign, at: Moment) -> Result<Loan, Re
 /// else as `NoSuchVehicle`.
 #[tactic(auto, unfolding(room_model::specs::Loans::recall))]
 pub fn recall(slice: &Slice, callsign: &Callsign) -> Result<Loan, Refusal>
-    ensures { (plan : List Area) → as_recalled result ≡ recall slice.now.division callsign.now (room_of plan slice.now.rows) }
+    ensures { (plan : List Area) → as_recalled result ≡ recall slice.now.division callsign.now
+        (room_of plan slice.now.rows) }
 {
     if let Some(loan) = find_lent(slice, callsign) {
         return Ok(Loan {
@@ -141,7 +146,9 @@ pub fn recall(slice: &Slice, callsign: &Callsign) -> Result<Loan, Refusal>
 /// where it has an order.
 #[tactic(auto, unfolding(room_model::specs::Loans::give_back, room_model::specs::Decisions::refuse_if, room_model::specs::Queries::borrowed))]
 pub fn give_back(slice: &Slice, callsign: &Callsign) -> Result<Vehicle, Refusal>
-    ensures { (plan : List Area) → as_given_back result ≡ give_back slice.now.division callsign.now (room_of plan slice.now.rows) }
+    ensures { (plan : List Area)
+        → as_given_back result ≡ give_back slice.now.division callsign.now
+        (room_of plan slice.now.rows) }
 {
     let vehicle = held(slice, callsign)?;
     if vehicle.home == slice.division {
@@ -163,7 +170,9 @@ pub fn give_back(slice: &Slice, callsign: &Callsign) -> Result<Vehicle, Refusal>
 
 #[tactic(auto, unfolding(room_model::specs::Queries::offered_to))]
 fn offered_to<'a>(slice: &'a Slice, callsign: &Callsign) -> Option<&'a Offer>
-    ensures { (plan : List Area) → option_copied result ≡ offered_to slice.now.division callsign.now (room_of plan slice.now.rows) }
+    ensures { (plan : List Area)
+        → option_copied result ≡ offered_to slice.now.division callsign.now
+        (room_of plan slice.now.rows) }
 {
     match slice.rows.offers.get(callsign) {
         Some(offer) if offer.borrower == slice.division => Some(offer),

@@ -42,7 +42,9 @@ pub fn mobilise(
     callsign: &Callsign,
     at: Moment,
 ) -> Result<Mobilised, Refusal>
-    ensures decision { (plan : List Area) → as_mobilised result ≡ mobilise slice.now.division number callsign.now at (room_of plan slice.now.rows) }
+    ensures decision { (plan : List Area)
+        → as_mobilised result ≡ mobilise slice.now.division number callsign.now at
+        (room_of plan slice.now.rows) }
     // The vehicle had no assignment.
     ensures unassigned { IfOk result (λ m. assignment_at callsign.now slice.now.rows ≡ None) }
 {
@@ -66,24 +68,33 @@ pub fn mobilise(
 // Whether the incident has got as many vehicles of the kind as it needs.
 fn is_met(slice: &Slice, incident: &Incident, kind: Kind) -> bool
     requires { incident.now.division ≡ slice.now.division }
-    ensures { (n : ℕ) (plan : List Area) → incident.now.number ≡ n → result ≡ nat_le (need_of incident.now.needs kind) (served slice.now.division n kind (room_of plan slice.now.rows)) }
+    ensures { (n : ℕ) (plan : List Area) → incident.now.number ≡ n
+        → result ≡ nat_le (need_of incident.now.needs kind)
+        (served slice.now.division n kind (room_of plan slice.now.rows)) }
 {
     lack(incident, &slice.rows.turns, kind).get() == 0
 }
 
 // None where the vehicle's order numbers are used up.
 fn next_order(vehicle: &Vehicle) -> Option<Number>
-    ensures { result ≡ (if nat_le number_limit vehicle.now.last_order then None else Some (vehicle.now.last_order + 1)) }
+    ensures { result ≡ (if nat_le number_limit vehicle.now.last_order then None else Some
+        (vehicle.now.last_order + 1)) }
 {
     Number::new(vehicle.last_order.get() + 1)
 }
 
 fn order_for(incident: &Incident, vehicle: &Vehicle, order: Number, at: Moment) -> Mobilised
     requires { order ≡ vehicle.now.last_order + 1 }
-    ensures incident { result.incident ≡ record incident.now { first_order = first_of incident.now.first_order at } }
-    ensures vehicle { result.vehicle ≡ record vehicle.now { status = status.Mobilised; post = None; last_order = vehicle.now.last_order + 1 } }
+    ensures incident { result.incident ≡ record incident.now
+        { first_order = first_of incident.now.first_order at } }
+    ensures vehicle { result.vehicle ≡ record vehicle.now {
+      status = status.Mobilised;
+      post = None;
+      last_order = vehicle.now.last_order + 1;
+    } }
     ensures turn { result.turn ≡ turn_row incident.now.division incident.now.number at vehicle.now }
-    ensures assignment { result.assignment ≡ assignment_row incident.now.division incident.now vehicle.now }
+    ensures assignment { result.assignment ≡ assignment_row incident.now.division incident.now
+        vehicle.now }
 {
     Mobilised {
         incident: Incident {
@@ -121,7 +132,8 @@ fn order_for(incident: &Incident, vehicle: &Vehicle, order: Number, at: Moment) 
     }
 }
 
-/// A mobilised vehicle returning, and its turn ended as stood down. The caller drops its assignment.
+/// A mobilised vehicle returning, and its turn ended as stood down. The caller drops its
+/// assignment.
 ///
 /// Refused as `held` refuses, then as `WrongStatus` where the vehicle is not mobilised.
 #[tactic(auto, unfolding(room_model::specs::Vehicles::stand_down, room_model::specs::Decisions::refuse_if))]
@@ -130,7 +142,9 @@ pub fn stand_down(
     callsign: &Callsign,
     at: Moment,
 ) -> Result<(Vehicle, Turn), Refusal>
-    ensures { (plan : List Area) → as_stood_down result ≡ stand_down slice.now.division callsign.now at (room_of plan slice.now.rows) }
+    ensures { (plan : List Area)
+        → as_stood_down result ≡ stand_down slice.now.division callsign.now at
+        (room_of plan slice.now.rows) }
 {
     let vehicle = held(slice, callsign)?;
     if !vehicle.status.is_mobilised() {
@@ -153,7 +167,8 @@ pub fn stand_down(
 fn open_turn<'a>(slice: &'a Slice, callsign: &Callsign, vehicle: &Vehicle) -> &'a Turn
     requires there { vehicle_at callsign.now slice.now.rows ≡ Some vehicle.now }
     requires mobilised { is_mobilised vehicle.now.status ≡ true }
-    ensures { (plan : List Area) → open_turn slice.now.division callsign.now (room_of plan slice.now.rows) ≡ Some result.now }
+    ensures { (plan : List Area) → open_turn slice.now.division callsign.now
+        (room_of plan slice.now.rows) ≡ Some result.now }
 {
     // It also tells that the turns are in order, so that the first open one is this one.
     let _in_order = slice.rows.turns.as_slice();

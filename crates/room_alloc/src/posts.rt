@@ -26,7 +26,9 @@ pub fn post(
     post: Option<PointNumber>,
     at: Moment,
 ) -> Result<Vehicle, Refusal>
-    ensures { (plan : List Area) → as_posted result ≡ standby slice.now.division callsign.now post at (room_of plan slice.now.rows) }
+    ensures { (plan : List Area)
+        → as_posted result ≡ standby slice.now.division callsign.now post at
+        (room_of plan slice.now.rows) }
 {
     let vehicle = held(slice, callsign)?;
     if !vehicle.status.is_free() {

@@ -38,8 +38,11 @@ pub fn propose(
     number: Number,
     at: Moment,
 ) -> Result<Listed<Proposal>, Refusal>
-    ensures decision { (plan : List Area) → AreTold result (propose slice.now.division number at (room_of plan slice.now.rows)) }
-    ensures first { IfOk result (λ few. (plan : List Area) (i : Incident) → incident_of slice.now.division number (room_of plan slice.now.rows) ≡ Some i → AreForIncident slice.now.division i at (room_of plan slice.now.rows) few) }
+    ensures decision { (plan : List Area)
+        → AreTold result (propose slice.now.division number at (room_of plan slice.now.rows)) }
+    ensures first { IfOk result (λ few. (plan : List Area) (i : Incident)
+        → incident_of slice.now.division number (room_of plan slice.now.rows) ≡ Some i
+        → AreForIncident slice.now.division i at (room_of plan slice.now.rows) few) }
 {
     in_order(&slice.rows);
     proposals(alloc, slice, number, at)
@@ -51,7 +54,8 @@ fn proposals(
     number: Number,
     at: Moment,
 ) -> Result<Listed<Proposal>, Refusal>
-    ensures { (plan : List Area) → AreTold result (propose slice.now.division number at (room_of plan slice.now.rows)) }
+    ensures { (plan : List Area) → AreTold result
+        (propose slice.now.division number at (room_of plan slice.now.rows)) }
 {
     match active(slice, number) {
         Ok(incident) => of_all_kinds(alloc, slice, incident, at),
@@ -66,7 +70,8 @@ fn of_all_kinds(
     at: Moment,
 ) -> Result<Listed<Proposal>, Refusal>
     requires { incident.now.division ≡ slice.now.division }
-    ensures ok { IfOk result (λ all. all ≡ all_proposed slice.now.division incident.now at (unplanned slice.now.rows)) }
+    ensures ok { IfOk result (λ all.
+        all ≡ all_proposed slice.now.division incident.now at (unplanned slice.now.rows)) }
     ensures memory { IfErr result (λ e. e ≡ Memory) }
 {
     let short = short_points(alloc, slice, at)?;
@@ -87,7 +92,8 @@ fn of_kind(
 ) -> Result<Listed<Proposal>, Refusal>
     requires division { incident.now.division ≡ slice.now.division }
     requires short { AreShort slice.now.division at (unplanned slice.now.rows) short.now }
-    ensures ok { IfOk result (λ few. few ≡ proposed slice.now.division incident.now at (unplanned slice.now.rows) kind) }
+    ensures ok { IfOk result (λ few.
+        few ≡ proposed slice.now.division incident.now at (unplanned slice.now.rows) kind) }
     ensures memory { IfErr result (λ e. e ≡ Memory) }
 {
     let count = lack(incident, &slice.rows.turns, kind).get();
@@ -104,8 +110,10 @@ fn by_rings(
     count: u32,
 ) -> Result<Listed<Proposal>, Refusal>
     requires short { AreShort slice.now.division at (unplanned slice.now.rows) short.now }
-    requires count { count ≡ lacking slice.now.division incident.now (unplanned slice.now.rows) kind }
-    ensures ok { IfOk result (λ few. few ≡ proposed slice.now.division incident.now at (unplanned slice.now.rows) kind) }
+    requires count { count ≡ lacking slice.now.division incident.now
+        (unplanned slice.now.rows) kind }
+    ensures ok { IfOk result (λ few.
+        few ≡ proposed slice.now.division incident.now at (unplanned slice.now.rows) kind) }
     ensures memory { IfErr result (λ e. e ≡ Memory) }
 {
     in_order(&slice.rows);
@@ -125,7 +133,8 @@ fn first_of_both(
     requires placed { ArePlaced incident.now candidates.now }
     requires kind { AreOfKind kind candidates.now }
     requires apart { AreApart candidates.now }
-    ensures ok { IfOk result (λ few. AreFirst is_before count None (map (proposal_at incident.now) candidates.now) few) }
+    ensures ok { IfOk result (λ few.
+        AreFirst is_before count None (map (proposal_at incident.now) candidates.now) few) }
     ensures memory { IfErr result (λ e. e ≡ Memory) }
 {
     let mut few = nearest(alloc, candidates, incident, kind, false, count)?;

@@ -32,7 +32,9 @@ pub(crate) fn candidates_round(
     kind: Kind,
     at: Moment,
 ) -> Result<Vec<Candidate>, Refusal>
-    ensures ok { IfOk result (λ all. all.items ≡ candidates_round slice.now.division incident.now short.now kind at slice.now.rows.vehicles) }
+    ensures ok { IfOk result (λ all. all.items
+        ≡ candidates_round slice.now.division incident.now short.now kind at
+        slice.now.rows.vehicles) }
     ensures placed { IfOk result (λ all. ArePlaced incident.now all.items) }
     ensures memory { IfErr result (λ refusal. refusal ≡ Memory) }
 {
@@ -83,7 +85,9 @@ pub(crate) fn nearest(
     requires placed { ArePlaced incident.now candidates.now }
     requires kind { AreOfKind kind candidates.now }
     requires apart { AreApart candidates.now }
-    ensures ok { IfOk result (λ few. AreFirst is_before count None (map (proposal_at incident.now) (filter (is_marked breaks) candidates.now)) few) }
+    ensures ok { IfOk result (λ few.
+        AreFirst is_before count None
+        (map (proposal_at incident.now) (filter (is_marked breaks) candidates.now)) few) }
     ensures memory { IfErr result (λ refusal. refusal ≡ Memory) }
 {
     let by_ring = by_ring(alloc, candidates, breaks)?;
@@ -185,7 +189,8 @@ fn first_of(
     breaks: bool,
     count: usize,
 ) -> Result<Listed<Proposal>, AllocError>
-    ensures few { IfOk result (λ few. few ≡ map (proposal_with breaks kind) (take count found.now)) }
+    ensures few { IfOk result (λ few.
+        few ≡ map (proposal_with breaks kind) (take count found.now)) }
     ensures in_order { IsKeyed nearness_cmp whole found.now }
 {
     let rows = found.as_slice();

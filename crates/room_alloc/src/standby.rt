@@ -23,7 +23,9 @@ pub fn eligible(vehicle: &Vehicle, at: Moment) -> bool
 /// How many vehicles hold the point now; none where the division has no such point.
 #[tactic(auto, unfolding(room_model::specs::Queries::point_of))]
 pub fn cover(slice: &Slice, point: PointNumber, at: Moment) -> Option<usize>
-    ensures { (plan : List Area) → result ≡ option_map (λ p. length (holders slice.now.division point at (room_of plan slice.now.rows))) (point_of slice.now.division point (room_of plan slice.now.rows)) }
+    ensures { (plan : List Area) → result ≡ option_map (λ p.
+        length (holders slice.now.division point at (room_of plan slice.now.rows)))
+        (point_of slice.now.division point (room_of plan slice.now.rows)) }
 {
     match slice.rows.points.get(&(slice.division, point)) {
         Some(_) => Some(holders(slice, point, at)),
@@ -34,7 +36,8 @@ pub fn cover(slice: &Slice, point: PointNumber, at: Moment) -> Option<usize>
 /// Whether the vehicle holds a point that has no more holders than it wants.
 #[tactic(auto, unfolding(room_model::specs::Queries::point_of))]
 pub fn breaks_cover(slice: &Slice, vehicle: &Vehicle, at: Moment) -> bool
-    ensures { (plan : List Area) → result ≡ breaks_cover slice.now.division at (room_of plan slice.now.rows) vehicle.now }
+    ensures { (plan : List Area) → result ≡ breaks_cover slice.now.division at
+        (room_of plan slice.now.rows) vehicle.now }
 {
     if !is_eligible(vehicle, slice.division, at) {
         return false;
@@ -57,7 +60,8 @@ pub(crate) fn is_eligible(vehicle: &Vehicle, division: DivisionNumber, at: Momen
 // How many vehicles hold the point.
 #[tactic(auto, unfolding(room_model::specs::Queries::holders))]
 pub(crate) fn holders(slice: &Slice, point: PointNumber, at: Moment) -> usize
-    ensures { (plan : List Area) → result ≡ length (holders slice.now.division point at (room_of plan slice.now.rows)) }
+    ensures { (plan : List Area) → result ≡ length
+        (holders slice.now.division point at (room_of plan slice.now.rows)) }
 {
     holders_among(&slice.rows.vehicles, slice.division, point, at)
 }

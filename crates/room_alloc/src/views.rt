@@ -19,7 +19,9 @@ use std::alloc::Global;
 /// The division's points in number order, each with the number of vehicles that hold it now. The
 /// one refusal is `Memory`.
 pub fn point_lines(alloc: Global, slice: &Slice, at: Moment) -> Result<Listed<PointLine>, Refusal>
-    ensures ok { IfOk result (λ lines. (plan : List Area) → show_points slice.now.division at (room_of plan slice.now.rows) ≡ show (answer.Points lines)) }
+    ensures ok { IfOk result (λ lines. (plan : List Area)
+        → show_points slice.now.division at (room_of plan slice.now.rows) ≡ show
+        (answer.Points lines)) }
     ensures memory { IfErr result (λ refusal. refusal ≡ Memory) }
 {
     lines_of(alloc, slice, slice.rows.points.as_slice(), at)
@@ -31,7 +33,8 @@ fn lines_of(
     points: &[Point],
     at: Moment,
 ) -> Result<Listed<PointLine>, Refusal>
-    ensures ok { IfOk result (λ lines. lines ≡ map (point_line slice.now.division at (unplanned slice.now.rows)) points.now) }
+    ensures ok { IfOk result (λ lines.
+        lines ≡ map (point_line slice.now.division at (unplanned slice.now.rows)) points.now) }
     ensures memory { IfErr result (λ refusal. refusal ≡ Memory) }
 {
     let mut lines = Listed::new(alloc);
@@ -43,7 +46,8 @@ fn lines_of(
 
 // More vehicles than the line can count would be more than memory holds.
 fn line_of(slice: &Slice, point: &Point, at: Moment) -> Result<PointLine, Refusal>
-    ensures ok { IfOk result (λ line. line ≡ point_line slice.now.division at (unplanned slice.now.rows) point.now) }
+    ensures ok { IfOk result (λ line.
+        line ≡ point_line slice.now.division at (unplanned slice.now.rows) point.now) }
     ensures memory { IfErr result (λ refusal. refusal ≡ Memory) }
 {
     match u32::try_from(holders(slice, point.number, at)) {

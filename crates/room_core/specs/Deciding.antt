@@ -4,14 +4,14 @@ use Rattle.room_types.specs.declared.asks.Ask.{Ask}
 use Rattle.room_types.specs.declared.asks.Press.{Press}
 use Rattle.room_types.specs.declared.refusals.Refusal.{Refusal}
 use Rattle.room_types.specs.declared.tables.Report.{Report}
-use Rattle.room_model.specs.Decisions.{Decided, Decision, refuse_if, show}
+use Rattle.room_model.specs.Decisions.{Verdict, Decision, refuse_if, show}
 use Rattle.room_model.specs.Reports.{same_press}
 use Rattle.room_types.specs.declared.answers.Answer.TheVariants as answer
 use Rattle.room_types.specs.declared.asks.Ask.TheVariants as ask
 use Rattle.room_types.specs.declared.refusals.Refusal.TheVariants as refusal
 
 -- The decision and a refusal are the machine's. Memory may be refused in their place, and then nothing is decided.
-abbrev pub Decides : Decided → Result Decision Refusal → Type 0
+abbrev pub Decides : Verdict → Result Decision Refusal → Type 0
 Decides wanted (Ok x) = wanted ≡ Ok x
 Decides wanted (Err e) = (e ≡ refusal.Memory) ⊎ (wanted ≡ Err e)
 
@@ -21,5 +21,5 @@ number_in_hand (ask.Report p) = p.number
 number_in_hand a = 1
 
 -- a kept report gets its kept answer, and its number no other content
-abbrev pub again : Report → Press → Decided
+abbrev pub again : Report → Press → Verdict
 again k p = refuse_if (not (same_press k p)) refusal.NumberReused (show (answer.Reported k.number k.outcome k.status))

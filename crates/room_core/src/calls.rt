@@ -5,7 +5,7 @@ ghost use Rattle.room_types.specs.declared.asks.Ask.TheVariants.{Call as CallAsk
 ghost use Rattle.room_types.specs.declared.asks.CallForm.{CallForm};
 ghost use Rattle.room_types.specs.declared.answers.Answer.TheVariants.{Called};
 ghost use Rattle.room_types.specs.declared.refusals.Refusal.TheVariants.{SerialReused};
-ghost use Rattle.room_incident.specs.Taken.{decided_of_taken};
+ghost use Rattle.room_incident.specs.Taken.{verdict_of_taken};
 ghost use Rattle.room_model.specs.Calls.{new_call, same_call, take_call};
 ghost use Rattle.room_model.specs.Decisions.{refuse_if, show};
 ghost use Rattle.room_model.specs.Queries.{kept_call};
@@ -29,8 +29,12 @@ use std::alloc::Global;
 /// every well-formed room whose rows that the call may read are the slice's, the decision is the
 /// room's.
 pub fn decide_call(alloc: Global, slice: &Slice, new: &NewCall) -> Result<Decision, Refusal>
-    ensures { (r : Room) (f : CallForm) → IsWellFormed r → new.now ≡ new_call new.now.position f new.now.at → kept_call new.now.position f.serial r ≡ None → division_of r.plan f.place ≡ Some slice.now.division
-        → room_of r.plan slice.now.rows ≡ working slice.now.division (CallAsk f) r → Decides (take_call new.now r) result }
+    ensures { (r : Room) (f : CallForm) → IsWellFormed r
+        → new.now ≡ new_call new.now.position f new.now.at
+        → kept_call new.now.position f.serial r ≡ None
+        → division_of r.plan f.place ≡ Some slice.now.division
+        → room_of r.plan slice.now.rows ≡ working slice.now.division (CallAsk f) r
+        → Decides (take_call new.now r) result }
 {
     match take_call(slice, new) {
         Ok(taken) => put(alloc, &taken),
@@ -42,7 +46,8 @@ pub fn decide_call(alloc: Global, slice: &Slice, new: &NewCall) -> Result<Decisi
 /// nothing; of another it is refused as `SerialReused`.
 #[tactic(auto, unfolding(room_model::specs::Decisions::refuse_if))]
 pub fn decide_again(alloc: Global, kept: &Call, new: &NewCall) -> Result<Decision, Refusal>
-    ensures { result ≡ refuse_if (not (same_call kept.now new.now)) SerialReused (show (Called kept.now.division kept.now.given kept.now.linked)) }
+    ensures { result ≡ refuse_if (not (same_call kept.now new.now)) SerialReused
+        (show (Called kept.now.division kept.now.given kept.now.linked)) }
 {
     let is_same = kept.place == new.place
         && kept.class == new.class
@@ -56,7 +61,7 @@ pub fn decide_again(alloc: Global, kept: &Call, new: &NewCall) -> Result<Decisio
 }
 
 fn put(alloc: Global, taken: &Taken) -> Result<Decision, Refusal>
-    ensures { Decides (decided_of_taken (Ok taken.now)) result }
+    ensures { Decides (verdict_of_taken (Ok taken.now)) result }
 {
     let call = &taken.call;
     let answer = Answer::Called(call.division, call.given, call.linked);

@@ -31,7 +31,8 @@ pub fn decide_crew(
     ask: &Ask,
     at: Moment,
 ) -> Result<Decision, Refusal>
-    ensures { (r : Room) → IsWellFormed r → AreCrewRows slice.now.rows.vehicle.callsign (number_in_hand ask.now) r slice.now.rows
+    ensures { (r : Room) → IsWellFormed r
+        → AreCrewRows slice.now.rows.vehicle.callsign (number_in_hand ask.now) r slice.now.rows
         → Decides (crew_asks slice.now.rows.vehicle.callsign ask.now at r) result }
 {
     match ask {
@@ -84,7 +85,8 @@ fn take_report(
     press: &Press,
     at: Moment,
 ) -> Result<Decision, Refusal>
-    ensures { let after = reported slice.now.rows press.now at in Decides (tell (answered after) (changes_of slice.now.rows after)) result }
+    ensures { let after = reported slice.now.rows press.now at in Decides
+        (tell (answered after) (changes_of slice.now.rows after)) result }
 {
     let reported = report(slice, press, at);
     let kept = &reported.report;

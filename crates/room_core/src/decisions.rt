@@ -1,7 +1,7 @@
 //! A decision: the rows that change, and the answer.
 ghost use Rattle.std.specs.Prelude.{◌≡◌, ◌++◌, ◌∷◌, [], Ok, IfOk, IfErr};
 ghost use Rattle.room_types.specs.declared.refusals.Refusal.TheVariants.{Memory};
-ghost use Rattle.room_model.specs.Decisions.{Decision as Decided, done, show};
+ghost use Rattle.room_model.specs.Decisions.{Decision as Verdict, done, show};
 
 use room_types::answers::{Answer, Listed};
 use room_types::changes::Change;
@@ -17,7 +17,7 @@ pub struct Decision {
 }
 
 impl Model for Decision {
-    ghost Value = { Decided };
+    ghost Value = { Verdict };
 
     ghost view = { λ x. record { changes = x.changes; answer = x.answer } };
 }

@@ -26,7 +26,8 @@ pub fn decide_desk(
     ask: &Ask,
     at: Moment,
 ) -> Result<Decision, Refusal>
-    ensures { (r : Room) → IsWellFormed r → r.plan ≡ plan.now.areas → room_of r.plan slice.now.rows ≡ working slice.now.division ask.now r
+    ensures { (r : Room) → IsWellFormed r → r.plan ≡ plan.now.areas
+        → room_of r.plan slice.now.rows ≡ working slice.now.division ask.now r
         → Decides (desk_asks slice.now.division ask.now at r) result }
 {
     decide(alloc, plan, slice, ask, at)
@@ -39,7 +40,8 @@ fn decide(
     ask: &Ask,
     at: Moment,
 ) -> Result<Decision, Refusal>
-    ensures { Decides (desk_asks slice.now.division ask.now at (room_of plan.now.areas slice.now.rows)) result }
+    ensures { Decides (desk_asks slice.now.division ask.now at
+        (room_of plan.now.areas slice.now.rows)) result }
 {
     match ask {
         Ask::Incidents => incidents::incidents(alloc, slice),

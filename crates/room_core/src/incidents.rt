@@ -7,7 +7,7 @@ ghost use Rattle.room_model.specs.DayTimes.{show_times};
 ghost use Rattle.room_model.specs.Proposals.{propose};
 ghost use Rattle.room_model.specs.Slices.{room_of};
 ghost use Rattle.room_model.specs.Vehicles.{mobilise};
-ghost use Rattle.room_incident.specs.Joined.{decided_of_joined};
+ghost use Rattle.room_incident.specs.Joined.{verdict_of_joined};
 ghost use Rattle.room_core.specs.Deciding.{Decides};
 
 use crate::decisions::Decision;
@@ -26,7 +26,8 @@ use room_types::slices::Slice;
 use std::alloc::Global;
 
 pub(crate) fn incidents(alloc: Global, slice: &Slice) -> Result<Decision, Refusal>
-    ensures { (plan : List Area) → Decides (show_incidents slice.now.division (room_of plan slice.now.rows)) result }
+    ensures { (plan : List Area) → Decides
+        (show_incidents slice.now.division (room_of plan slice.now.rows)) result }
 {
     match incident_lines(alloc, slice) {
         Ok(lines) => Ok(Decision::show(alloc, Answer::Incidents(lines))),
@@ -40,7 +41,8 @@ pub(crate) fn propose(
     number: Number,
     at: Moment,
 ) -> Result<Decision, Refusal>
-    ensures { (plan : List Area) → Decides (propose slice.now.division number at (room_of plan slice.now.rows)) result }
+    ensures { (plan : List Area) → Decides
+        (propose slice.now.division number at (room_of plan slice.now.rows)) result }
 {
     match proposals::propose(alloc, slice, number, at) {
         Ok(lines) => Ok(Decision::show(alloc, Answer::Proposals(lines))),
@@ -55,7 +57,8 @@ pub(crate) fn mobilise(
     callsign: &Callsign,
     at: Moment,
 ) -> Result<Decision, Refusal>
-    ensures { (plan : List Area) → Decides (mobilise slice.now.division number callsign.now at (room_of plan slice.now.rows)) result }
+    ensures { (plan : List Area) → Decides
+        (mobilise slice.now.division number callsign.now at (room_of plan slice.now.rows)) result }
 {
     match orders::mobilise(slice, number, callsign, at) {
         Ok(
@@ -80,7 +83,8 @@ pub(crate) fn change_needs(
     number: Number,
     needs: Needs,
 ) -> Result<Decision, Refusal>
-    ensures { (plan : List Area) → Decides (change_needs slice.now.division number needs (room_of plan slice.now.rows)) result }
+    ensures { (plan : List Area) → Decides
+        (change_needs slice.now.division number needs (room_of plan slice.now.rows)) result }
 {
     match needs::change_needs(slice, number, needs) {
         Ok(incident) => Decision::done(alloc).with(Change::PutIncident(incident)),
@@ -89,7 +93,8 @@ pub(crate) fn change_needs(
 }
 
 pub(crate) fn close(alloc: Global, slice: &Slice, number: Number) -> Result<Decision, Refusal>
-    ensures { (plan : List Area) → Decides (close slice.now.division number (room_of plan slice.now.rows)) result }
+    ensures { (plan : List Area) → Decides
+        (close slice.now.division number (room_of plan slice.now.rows)) result }
 {
     match needs::close(slice, number) {
         Ok(incident) => Decision::done(alloc).with(Change::PutIncident(incident)),
@@ -103,7 +108,8 @@ pub(crate) fn merge(
     from: Number,
     into: Number,
 ) -> Result<Decision, Refusal>
-    ensures { (plan : List Area) → Decides (merge slice.now.division from into (room_of plan slice.now.rows)) result }
+    ensures { (plan : List Area) → Decides
+        (merge slice.now.division from into (room_of plan slice.now.rows)) result }
 {
     match merges::merge(alloc, slice, from, into) {
         Ok(joined) => put_joined(alloc, &joined),
@@ -112,7 +118,7 @@ pub(crate) fn merge(
 }
 
 fn put_joined(alloc: Global, joined: &Joined) -> Result<Decision, Refusal>
-    ensures ok { IfOk result (λ x. Ok x ≡ decided_of_joined (Ok joined.now)) }
+    ensures ok { IfOk result (λ x. Ok x ≡ verdict_of_joined (Ok joined.now)) }
     ensures memory { IfErr result (λ e. e ≡ Memory) }
 {
     let mut changes = Listed::new(alloc);
@@ -125,7 +131,8 @@ fn put_joined(alloc: Global, joined: &Joined) -> Result<Decision, Refusal>
 }
 
 pub(crate) fn times(alloc: Global, slice: &Slice, from: i64, to: i64) -> Result<Decision, Refusal>
-    ensures { (plan : List Area) → Decides (show_times slice.now.division from to (room_of plan slice.now.rows)) result }
+    ensures { (plan : List Area) → Decides
+        (show_times slice.now.division from to (room_of plan slice.now.rows)) result }
 {
     match day_times(alloc, slice, from, to) {
         Ok(times) => Ok(Decision::show(alloc, Answer::Times(times))),

@@ -26,7 +26,8 @@ pub(crate) fn lend(
     until: Moment,
     at: Moment,
 ) -> Result<Decision, Refusal>
-    ensures { Decides (lend slice.now.division callsign.now to until at (room_of plan.now.areas slice.now.rows)) result }
+    ensures { Decides (lend slice.now.division callsign.now to until at
+        (room_of plan.now.areas slice.now.rows)) result }
 {
     match lending::lend(plan, slice, callsign, to, until, at) {
         Ok((vehicle, offer)) => Decision::done(alloc)
@@ -41,7 +42,8 @@ pub(crate) fn withdraw(
     slice: &Slice,
     callsign: &Callsign,
 ) -> Result<Decision, Refusal>
-    ensures { (plan : List Area) → Decides (withdraw slice.now.division callsign.now (room_of plan slice.now.rows)) result }
+    ensures { (plan : List Area) → Decides
+        (withdraw slice.now.division callsign.now (room_of plan slice.now.rows)) result }
 {
     match lending::withdraw(slice, callsign) {
         Ok(vehicle) => Decision::done(alloc)
@@ -56,7 +58,8 @@ pub(crate) fn decline(
     slice: &Slice,
     callsign: &Callsign,
 ) -> Result<Decision, Refusal>
-    ensures { (plan : List Area) → Decides (decline slice.now.division callsign.now (room_of plan slice.now.rows)) result }
+    ensures { (plan : List Area) → Decides
+        (decline slice.now.division callsign.now (room_of plan slice.now.rows)) result }
 {
     match lending::decline(slice, callsign) {
         Ok(offer) => Decision::done(alloc)
@@ -72,7 +75,8 @@ pub(crate) fn accept(
     callsign: &Callsign,
     at: Moment,
 ) -> Result<Decision, Refusal>
-    ensures { (plan : List Area) → Decides (accept slice.now.division callsign.now at (room_of plan slice.now.rows)) result }
+    ensures { (plan : List Area) → Decides
+        (accept slice.now.division callsign.now at (room_of plan slice.now.rows)) result }
 {
     match lending::accept(slice, callsign, at) {
         Ok(loan) => Decision::done(alloc)
@@ -84,7 +88,8 @@ pub(crate) fn accept(
 }
 
 pub(crate) fn recall(alloc: Global, slice: &Slice, callsign: &Callsign) -> Result<Decision, Refusal>
-    ensures { (plan : List Area) → Decides (recall slice.now.division callsign.now (room_of plan slice.now.rows)) result }
+    ensures { (plan : List Area) → Decides
+        (recall slice.now.division callsign.now (room_of plan slice.now.rows)) result }
 {
     match lending::recall(slice, callsign) {
         Ok(loan) => Decision::done(alloc).with(Change::PutLoan(loan)),
@@ -97,7 +102,8 @@ pub(crate) fn give_back(
     slice: &Slice,
     callsign: &Callsign,
 ) -> Result<Decision, Refusal>
-    ensures { (plan : List Area) → Decides (give_back slice.now.division callsign.now (room_of plan slice.now.rows)) result }
+    ensures { (plan : List Area) → Decides
+        (give_back slice.now.division callsign.now (room_of plan slice.now.rows)) result }
 {
     match lending::give_back(slice, callsign) {
         Ok(vehicle) => Decision::done(alloc)
@@ -109,7 +115,8 @@ pub(crate) fn give_back(
 
 #[tactic(auto, unfolding(room_model::specs::Loans::show_loans))]
 pub(crate) fn loans(alloc: Global, slice: &Slice) -> Result<Decision, Refusal>
-    ensures { (plan : List Area) → Decides (show_loans slice.now.division (room_of plan slice.now.rows)) result }
+    ensures { (plan : List Area) → Decides
+        (show_loans slice.now.division (room_of plan slice.now.rows)) result }
 {
     match listed(alloc, slice.rows.loans.as_slice()) {
         Ok(loans) => Ok(Decision::show(alloc, Answer::Loans(loans))),
@@ -119,7 +126,8 @@ pub(crate) fn loans(alloc: Global, slice: &Slice) -> Result<Decision, Refusal>
 
 #[tactic(auto, unfolding(room_model::specs::Loans::show_offers))]
 pub(crate) fn offers(alloc: Global, slice: &Slice) -> Result<Decision, Refusal>
-    ensures { (plan : List Area) → Decides (show_offers slice.now.division (room_of plan slice.now.rows)) result }
+    ensures { (plan : List Area) → Decides
+        (show_offers slice.now.division (room_of plan slice.now.rows)) result }
 {
     match listed(alloc, slice.rows.offers.as_slice()) {
         Ok(offers) => Ok(Decision::show(alloc, Answer::Offers(offers))),

@@ -18,7 +18,8 @@ use room_types::tables::Report;
 use std::alloc::Global;
 
 pub(crate) fn queue(alloc: Global, slice: &Slice, at: Moment) -> Result<Decision, Refusal>
-    ensures { (plan : List Area) → Decides (show_queue slice.now.division at (room_of plan slice.now.rows)) result }
+    ensures { (plan : List Area) → Decides
+        (show_queue slice.now.division at (room_of plan slice.now.rows)) result }
 {
     match queues::queue(alloc, slice, at) {
         Ok(entries) => Ok(Decision::show(alloc, Answer::Queue(entries))),
@@ -32,7 +33,8 @@ pub(crate) fn clear(
     callsign: &Callsign,
     number: Number,
 ) -> Result<Decision, Refusal>
-    ensures { (plan : List Area) → Decides (clear slice.now.division callsign.now number (room_of plan slice.now.rows)) result }
+    ensures { (plan : List Area) → Decides
+        (clear slice.now.division callsign.now number (room_of plan slice.now.rows)) result }
 {
     match exceptions::clear(own_report(slice, callsign, number)) {
         Ok(report) => Decision::done(alloc).with(Change::PutReport(report)),
@@ -42,7 +44,9 @@ pub(crate) fn clear(
 
 #[tactic(auto, unfolding(room_model::specs::Queries::report_of))]
 fn own_report<'a>(slice: &'a Slice, callsign: &Callsign, number: Number) -> Option<&'a Report>
-    ensures { (plan : List Area) → option_copied result ≡ report_of slice.now.division callsign.now number (room_of plan slice.now.rows) }
+    ensures { (plan : List Area)
+        → option_copied result ≡ report_of slice.now.division callsign.now number
+        (room_of plan slice.now.rows) }
 {
     match slice.rows.reports.get(&(*callsign, number)) {
         Some(report) if report.division == slice.division => Some(report),

@@ -25,7 +25,8 @@ use std::alloc::Global;
 
 #[tactic(auto, unfolding(room_model::specs::Vehicles::show_vehicles))]
 pub(crate) fn vehicles(alloc: Global, slice: &Slice) -> Result<Decision, Refusal>
-    ensures { (plan : List Area) → Decides (show_vehicles slice.now.division (room_of plan slice.now.rows)) result }
+    ensures { (plan : List Area) → Decides
+        (show_vehicles slice.now.division (room_of plan slice.now.rows)) result }
 {
     match vehicle_lines(alloc, slice) {
         Ok(lines) => Ok(Decision::show(alloc, Answer::Vehicles(lines))),
@@ -39,7 +40,8 @@ pub(crate) fn stand_down(
     callsign: &Callsign,
     at: Moment,
 ) -> Result<Decision, Refusal>
-    ensures { (plan : List Area) → Decides (stand_down slice.now.division callsign.now at (room_of plan slice.now.rows)) result }
+    ensures { (plan : List Area) → Decides
+        (stand_down slice.now.division callsign.now at (room_of plan slice.now.rows)) result }
 {
     match orders::stand_down(slice, callsign, at) {
         Ok((vehicle, turn)) => Decision::done(alloc)
@@ -57,7 +59,8 @@ pub(crate) fn standby(
     point: Option<PointNumber>,
     at: Moment,
 ) -> Result<Decision, Refusal>
-    ensures { (plan : List Area) → Decides (standby slice.now.division callsign.now point at (room_of plan slice.now.rows)) result }
+    ensures { (plan : List Area) → Decides
+        (standby slice.now.division callsign.now point at (room_of plan slice.now.rows)) result }
 {
     match posts::post(slice, callsign, point, at) {
         Ok(vehicle) => Decision::done(alloc).with(Change::PutVehicle(vehicle)),
@@ -74,7 +77,9 @@ pub(crate) fn duty(
     until: Moment,
     at: Moment,
 ) -> Result<Decision, Refusal>
-    ensures { (plan : List Area) → Decides (duty slice.now.division callsign.now place.now until at (room_of plan slice.now.rows)) result }
+    ensures { (plan : List Area) → Decides
+        (duty slice.now.division callsign.now place.now until at
+        (room_of plan slice.now.rows)) result }
 {
     match held(slice, callsign) {
         Ok(vehicle) => put(alloc, on_duty(vehicle, until, place, at)),
@@ -84,7 +89,8 @@ pub(crate) fn duty(
 
 #[tactic(auto, unfolding(room_model::specs::Vehicles::off))]
 pub(crate) fn off(alloc: Global, slice: &Slice, callsign: &Callsign) -> Result<Decision, Refusal>
-    ensures { (plan : List Area) → Decides (off slice.now.division callsign.now (room_of plan slice.now.rows)) result }
+    ensures { (plan : List Area) → Decides
+        (off slice.now.division callsign.now (room_of plan slice.now.rows)) result }
 {
     match held(slice, callsign) {
         Ok(vehicle) => put(alloc, off_duty(vehicle)),
@@ -102,7 +108,8 @@ fn put(alloc: Global, vehicle: Result<Vehicle, Refusal>) -> Result<Decision, Ref
 }
 
 pub(crate) fn points(alloc: Global, slice: &Slice, at: Moment) -> Result<Decision, Refusal>
-    ensures { (plan : List Area) → Decides (show_points slice.now.division at (room_of plan slice.now.rows)) result }
+    ensures { (plan : List Area) → Decides
+        (show_points slice.now.division at (room_of plan slice.now.rows)) result }
 {
     match point_lines(alloc, slice, at) {
         Ok(lines) => Ok(Decision::show(alloc, Answer::Points(lines))),

@@ -15,7 +15,9 @@ use std::alloc::Global;
 /// The vehicles that the division holds, in callsign order, each with the incident that it is
 /// assigned to. The one refusal is `Memory`.
 pub fn vehicle_lines(alloc: Global, slice: &Slice) -> Result<Listed<VehicleLine>, Refusal>
-    ensures ok { IfOk result (λ lines. (plan : List Area) → let r = room_of plan slice.now.rows in lines ≡ map (vehicle_line slice.now.division r) (all_held slice.now.division r)) }
+    ensures ok { IfOk result (λ lines. (plan : List Area)
+        → let r = room_of plan slice.now.rows in lines ≡ map (vehicle_line slice.now.division r)
+        (all_held slice.now.division r)) }
     ensures memory { IfErr result (λ e. e ≡ Memory) }
 {
     let mut lines = Listed::new(alloc);
@@ -26,7 +28,8 @@ pub fn vehicle_lines(alloc: Global, slice: &Slice) -> Result<Listed<VehicleLine>
 }
 
 fn vehicle_line(slice: &Slice, vehicle: &Vehicle) -> VehicleLine
-    ensures { (plan : List Area) → result ≡ vehicle_line slice.now.division (room_of plan slice.now.rows) vehicle.now }
+    ensures { (plan : List Area) → result ≡ vehicle_line slice.now.division
+        (room_of plan slice.now.rows) vehicle.now }
 {
     let assignment = slice.rows.assignments.get(&vehicle.callsign);
     VehicleLine {

@@ -1,4 +1,5 @@
-//! That the reported rows are what the room makes of a report. The law is the contract of a function that does nothing.
+//! That the reported rows are what the room makes of a report. The law is the contract of a
+//! function that does nothing.
 ghost use Rattle.std.specs.Prelude.{◌≡◌, ℕ, None};
 ghost use Rattle.room_types.specs.Texts.{Callsign};
 ghost use Rattle.room_types.specs.declared.asks.Ask.TheVariants.{Report};
@@ -16,7 +17,12 @@ ghost use Rattle.room_fleet.specs.Reported.{AreHolders, answered, changes_of, re
 /// reported rows, and the crew is told the kept outcome and status.
 pub fn reports_are_the_rooms()
     // In any room, of a report that its holder takes as new.
-    ensures holder { (r : Room) (x : CrewRows) (p : Press) (at : ℕ) → AreHolders r x → report_in x.vehicle.holder x.vehicle.callsign p at r ≡ tell (answered (reported x p at)) (changes_of x (reported x p at)) }
+    ensures holder { (r : Room) (x : CrewRows) (p : Press) (at : ℕ) → AreHolders r x
+        → report_in x.vehicle.holder x.vehicle.callsign p at r ≡ tell (answered (reported x p at))
+        (changes_of x (reported x p at)) }
     // In a well-formed room, of one whose number it does not have.
-    ensures crew { (c : Callsign) (r : Room) (x : CrewRows) (p : Press) (at : ℕ) → IsWellFormed r → AreCrewRows c p.number r x → x.report ≡ None → crew_asks c (Report p) at r ≡ tell (answered (reported x p at)) (changes_of x (reported x p at)) }
+    ensures crew { (c : Callsign) (r : Room) (x : CrewRows) (p : Press) (at : ℕ) → IsWellFormed r
+        → AreCrewRows c p.number r x → x.report ≡ None
+        → crew_asks c (Report p) at r ≡ tell (answered (reported x p at))
+        (changes_of x (reported x p at)) }
 {}

@@ -35,12 +35,14 @@ pub struct Reported {
 #[tactic(auto, using(crate::proofs::MomentLaws::turn_keeps, crate::proofs::MomentLaws::same_turn_keeps))]
 pub fn report(slice: &CrewSlice, press: &Press, at: Moment) -> Reported
     ensures rows { result ≡ reported slice.now.rows press.now at }
-    ensures status_stays { IsKeptAlone result → result.vehicle.status ≡ slice.now.rows.vehicle.status }
+    ensures status_stays { IsKeptAlone result
+        → result.vehicle.status ≡ slice.now.rows.vehicle.status }
     ensures place_stays { IsKeptAlone result → result.vehicle.place ≡ slice.now.rows.vehicle.place }
     ensures turn_stays { IsKeptAlone result → result.turn ≡ slice.now.rows.turn }
     ensures moments_stay { TurnKeepsMoments slice.now.rows.turn result.turn }
     ensures owner { result.report.division ≡ slice.now.rows.vehicle.holder }
-    ensures greatest { result.vehicle.last_report ≡ max slice.now.rows.vehicle.last_report press.now.number }
+    ensures greatest { result.vehicle.last_report ≡ max slice.now.rows.vehicle.last_report
+        press.now.number }
 {
     let rows = &slice.rows;
     let outcome = outcome_of(&rows.vehicle, rows.turn.as_ref(), press);

@@ -1,4 +1,4 @@
--- A stream has one list of messages, and outcomes at their moments get one answer each.
+-- A stream has one list of messages, and arrivals at their moments get one answer each.
 use Rattle.std.proofs.Common.{◌≡◌, ◌∙◌, sym, ap, subst, refl, arith, ℕ, ℤ, List, [], ◌∷◌, ◌++◌, Bool, true, false, Option, Some, None, Result, Ok, Err}
 use Rattle.std.specs.Prelude.{MatchBool, pos}
 use Rattle.jiff_core.specs.Calendar.{days_from_civil}
@@ -10,15 +10,15 @@ use Rattle.room_types.specs.declared.fleet.Terminal.{Terminal}
 use Rattle.room_types.specs.declared.refusals.Refusal.{Refusal}
 use Rattle.room_types.specs.declared.refusals.Refusal.TheVariants.{WrongRole}
 use Rattle.room_model.specs.Room.{Room}
-use Rattle.room_http_messages.specs.declared.endings.Ending.TheVariants.{Refused}
+use Rattle.room_http_messages.specs.declared.unread.Unread.TheVariants.{Refused}
 use Rattle.room_http_messages.specs.Messages.{WholeMessage, terminal_of}
 use Rattle.room_http_messages.proofs.LawLemmas.{one_message_law, no_end_law}
 use Rattle.room_http_requests.specs.Targets.{routed}
 use Rattle.room_http_requests.specs.declared.targets.Target.{Target}
-use Rattle.room_http_requests.specs.Asking.{wanted_by}
+use Rattle.room_http_requests.specs.Asking.{request_by}
 use Rattle.room_http_requests.specs.Roles.{is_of, role_of}
-use Rattle.room_http_requests.specs.declared.asking.Wanted.{Wanted}
-use Rattle.room_http_requests.specs.declared.asking.Wanted.TheVariants as wanted
+use Rattle.room_http_requests.specs.declared.asking.Request.{Request}
+use Rattle.room_http_requests.specs.declared.asking.Request.TheVariants as request
 use Rattle.room_http_answers.specs.Replies.{IsReply}
 use Rattle.room_http_answers.proofs.Dates.{one_reply_law}
 use Rattle.room_http_time.specs.Days.{zone_of}
@@ -26,11 +26,11 @@ use Rattle.room_http_time.specs.declared.zones.Zone.{Zone}
 use Rattle.room_http_time.proofs.SpanLaws.{one_span_law}
 use Rattle.room_http.specs.Events.{AsksAs, AsksAt, AsksBy, IsAskFor, named}
 use Rattle.room_http.specs.Laws.{AreFirstOf, IsOneStream, IsOneTalk}
-use Rattle.room_http.specs.Outcomes.{Outcome, message, refused, is_head_only, is_closing, Begins}
+use Rattle.room_http.specs.Arrivals.{Arrival, message, refused, is_head_only, is_closing, Begins}
 use Rattle.room_service.specs.Rooms.{Step}
 use Rattle.room_http.specs.Talk.{Timed, Finds, replied, IsReplyTo, IsTalk}
 
-none_more : (few many : List Outcome) → few ≡ [] → AreFirstOf few many
+none_more : (few many : List Arrival) → few ≡ [] → AreFirstOf few many
 none_more few many none = rw none tt
 
 pub one_stream_law : IsOneStream
@@ -43,24 +43,24 @@ one_stream_law stream (message m ∷ few) (refused r head_only ∷ many) rest le
 one_stream_law stream (refused r head_only ∷ few) (message n ∷ many) rest left x y fewer = absurd (no_end_law stream n y.0 (Refused r head_only) y.1 x.1.0)
 one_stream_law stream (refused r head_only ∷ few) (refused s without ∷ many) rest left x y fewer = (tt, none_more few many (x.2 refl))
 
-one_ask : (zone : Zone) (given : Wanted) (a b : Ask) → IsAskFor zone given a → IsAskFor zone given b → a ≡ b
-one_ask zone (wanted.Ask x) a b is also = is ∙ sym also
-one_ask zone (wanted.Times day) a b is also =
+one_ask : (zone : Zone) (given : Request) (a b : Ask) → IsAskFor zone given a → IsAskFor zone given b → a ≡ b
+one_ask zone (request.Ask x) a b is also = is ∙ sym also
+one_ask zone (request.Times day) a b is also =
     is.2 ∙ ap (λ (span : ℤ × ℤ). ask.Times span.0 span.1) (one_span_law (zone_of zone) (days_from_civil (pos day.year) day.month day.day) is.0 also.0 is.1 also.1) ∙ sym also.2
 
-one_by : (zone : Zone) (at : ℕ) (who : Who) (given : Option Wanted) (f g : Result Event Refusal) → AsksBy zone at who given f → AsksBy zone at who given g → f ≡ g
+one_by : (zone : Zone) (at : ℕ) (who : Who) (given : Option Request) (f g : Result Event Refusal) → AsksBy zone at who given f → AsksBy zone at who given g → f ≡ g
 one_by zone at who None f g is also = is ∙ sym also
 one_by zone at who (Some w) f g is also =
     is.2 ∙ ap (λ (a : Ask). Ok (record { who = who; ask = a; at = at })) (one_ask zone w is.0 also.0 is.1 also.1) ∙ sym also.2
 
-one_role : (may : Bool) (zone : Zone) (at : ℕ) (who : Who) (given : Option Wanted) (f g : Result Event Refusal)
+one_role : (may : Bool) (zone : Zone) (at : ℕ) (who : Who) (given : Option Request) (f g : Result Event Refusal)
     → MatchBool may (AsksBy zone at who given f) (f ≡ Err WrongRole) → MatchBool may (AsksBy zone at who given g) (g ≡ Err WrongRole) → f ≡ g
 one_role true zone at who given f g is also = one_by zone at who given f g is also
 one_role false zone at who given f g is also = is ∙ sym also
 
 one_as : (zone : Zone) (t : Target) (body : List ℕ) (at : ℕ) (who : Option Who) (f g : Result Event Refusal) → AsksAs zone t body at who f → AsksAs zone t body at who g → f ≡ g
 one_as zone t body at None f g is also = is ∙ sym also
-one_as zone t body at (Some who) f g is also = one_role (is_of (role_of t) who) zone at who (wanted_by t body) f g is also
+one_as zone t body at (Some who) f g is also = one_role (is_of (role_of t) who) zone at who (request_by t body) f g is also
 
 one_at : (zone : Zone) (terminals : List Terminal) (m : WholeMessage) (at : ℕ) (r : Result Target Refusal) (f g : Result Event Refusal)
     → AsksAt zone terminals m at r f → AsksAt zone terminals m at r g → f ≡ g

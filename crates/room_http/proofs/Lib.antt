@@ -3,4 +3,7 @@ pub mod TalkLemmas
 pub mod ServeLemmas
 pub mod TerminalLemmas
 pub mod AskLemmas
+pub mod RunLemmas
+pub mod PromiseLaws
 pub mod LawLemmas
+pub mod ServedLaws

@@ -10,19 +10,19 @@ use Rattle.room_http_messages.specs.Messages.{IsPart}
 use Rattle.room_http_messages.proofs.StreamLemmas.{Appends-more, Appends-none}
 use Rattle.room_http_time.specs.declared.moments.TheConstants.{LAST_MOMENT}
 use Rattle.room_http.specs.declared.serving.ServeEnd.{ServeEnd}
-use Rattle.room_http.specs.declared.serving.ServeEnd.TheVariants.{Closed, Cut, ReadFault, WriteFault, ClockFault, Turns, Memory}
+use Rattle.room_http.specs.declared.serving.ServeEnd.TheVariants.{Closed, Cut, ReadFault, WriteFault, ClockFault, ReadsSpent, Memory}
 use Rattle.room_http_answers.specs.Replies.{fixed_bytes}
 use Rattle.room_http.specs.Answering.{Answers, EndsAnswering}
 use Rattle.room_http_time.specs.Moments.{HasNoMoment}
-use Rattle.room_http.specs.Outcomes.{Outcome, is_closing, is_head_only, Begins, HasNext}
+use Rattle.room_http.specs.Arrivals.{Arrival, is_closing, is_head_only, Begins, HasNext}
 use Rattle.room_http_time.specs.declared.zones.Zone.{Zone}
 use Rattle.room_service.specs.Rooms.{Step, IsWant}
-use Rattle.room_http.specs.Serving.{Sides, Finish, Answered, Wanted, Broken, LeavesPart, MissesNone, ServeIs}
+use Rattle.room_http.specs.Serving.{Sides, Finish, Answered, Unserved, Broken, LeavesPart, MissesNone, ServeIs}
 use Rattle.room_http.specs.Talk.{Timed, IsFront, BreaksOff, Talks}
 use Rattle.room_http.proofs.StreamLemmas.{Passes, Begins-push}
 use Rattle.room_http.proofs.TalkLemmas.{Talks-none, Talks-append}
 
--- the outcomes were answered, all of them stay open, and these bytes are left
+-- the arrivals were answered, all of them stay open, and these bytes are left
 pub record Going (step : Step) (zone : Zone) (old : Sides) (left held given : Option (List ℕ)) (trusted : Type 0) (stood stands : List Terminal → Room → Type 0) (outs : List Timed) : Type 0 where
   pub begins : (stream : List ℕ) → old.left ≡ Some stream → (rest : List ℕ) × (left ≡ Some rest) × Begins stream (map (λ x. x.0) outs) rest
   pub stay : All (λ x. is_closing x.0 ≡ false) outs
@@ -52,7 +52,7 @@ ends_missing_none left remains given gives ClockFault ends = tt
 ends_missing_none left remains given gives Cut ends = tt
 ends_missing_none left remains given gives Memory ends = tt
 ends_missing_none left remains given gives ReadFault ends = absurd ends
-ends_missing_none left remains given gives Turns ends = absurd ends
+ends_missing_none left remains given gives ReadsSpent ends = absurd ends
 
 module _ (step : Step) (zone : Zone) (old : Sides) where
   pub Going-none : (trusted : Type 0) (stood : List Terminal → Room → Type 0) → Going step zone old old.left old.held old.given trusted stood stood []
@@ -76,7 +76,7 @@ module _ (step : Step) (zone : Zone) (old : Sides) where
       talk = before.talk;
     }
 
-    -- serving ended between outcomes
+    -- serving ended between arrivals
     pub Going-ends : (reads : Option ℕ) (read_failed read_ended write_failed was_none : Bool) (follows : List ℕ → Type 0) → Going step zone old left held given early stood stays outs
         → ((rest : List ℕ) → left ≡ Some rest → follows rest)
         → Answered step zone old (record { reads = reads; held = held; given = given; read_failed = read_failed; read_ended = read_ended; write_failed = write_failed; was_none = was_none }) early stood stays outs follows
@@ -103,7 +103,7 @@ module _ (step : Step) (zone : Zone) (old : Sides) where
         )
 
     module _ (before : Going step zone old left held given early stood stays outs) (new : Finish) (late : Type 0) (stands : List Terminal → Room → Type 0) (earlier : late → early)
-        (after : Option (List ℕ)) (o : Outcome) (pass : Passes left after o) where
+        (after : Option (List ℕ)) (o : Arrival) (pass : Passes left after o) where
       begins_more : (at : ℕ) (stream : List ℕ) → old.left ≡ Some stream → (next : List ℕ) × (after ≡ Some next) × Begins stream (map (λ x. x.0) (outs ++ (o, at) ∷ [])) next
       begins_more at stream known =
           let begins = before.begins stream known in
@@ -148,9 +148,9 @@ module _ (step : Step) (zone : Zone) (old : Sides) where
           )
 
       -- one more was answered, and closes
-      pub closes : (turns : ℕ) → Answers step zone held new.held given new.given new.write_failed new.was_none late stays stands o (Ok tt) → is_closing o ≡ true
-          → ServeIs step zone old new late stood stands turns Closed
-      closes turns answers closing =
+      pub closes : (budget : ℕ) → Answers step zone held new.held given new.given new.write_failed new.was_none late stays stands o (Ok tt) → is_closing o ≡ true
+          → ServeIs step zone old new late stood stands budget Closed
+      closes budget answers closing =
           let at = answers.0 in
           inr (inl (
             outs ++ (o, at) ∷ [],
@@ -164,7 +164,7 @@ module _ (step : Step) (zone : Zone) (old : Sides) where
 
       wanted : (at : ℕ) (r : Refusal) (more : List ℕ → List ℕ → Type 0) → at ≤ LAST_MOMENT → Appends given new.given (at ∷ []) → IsWant r
           → Talks step zone late stays held new.held [] (λ terminals room tail. stands terminals room × more tail (fixed_bytes r (is_head_only o)))
-          → Wanted step zone old new late stood stands outs (o, at) more
+          → Unserved step zone old new late stood stands outs (o, at) more
       wanted at r more within moment want talk = record {
         begins = has_next;
         timed = (timed_more at within, moments_more at moment);
@@ -183,10 +183,10 @@ module _ (step : Step) (zone : Zone) (old : Sides) where
       }
 
       -- serving ended with one more
-      pub ends : (turns : ℕ) (e : ServeEnd) → Answers step zone held new.held given new.given new.write_failed new.was_none late stays stands o (Err e)
-          → ServeIs step zone old new late stood stands turns e
-      ends turns Closed answers = inr (inr (outs, (o, answers.0), wanted answers.0 answers.2.0 (λ tail fixed. tail ≡ fixed) answers.1.0 answers.1.1 answers.2.1 answers.2.2))
-      ends turns WriteFault answers = (
+      pub ends : (budget : ℕ) (e : ServeEnd) → Answers step zone held new.held given new.given new.write_failed new.was_none late stays stands o (Err e)
+          → ServeIs step zone old new late stood stands budget e
+      ends budget Closed answers = inr (inr (outs, (o, answers.0), wanted answers.0 answers.2.0 (λ tail fixed. tail ≡ fixed) answers.1.0 answers.1.1 answers.2.1 answers.2.2))
+      ends budget WriteFault answers = (
         (
           outs,
           (o, answers.0),
@@ -197,7 +197,7 @@ module _ (step : Step) (zone : Zone) (old : Sides) where
         ),
         answers.2,
       )
-      ends turns ClockFault answers = (
+      ends budget ClockFault answers = (
         outs,
         o,
         record {
@@ -207,7 +207,7 @@ module _ (step : Step) (zone : Zone) (old : Sides) where
           talk = talk_kept (λ terminals room tail. stands terminals room × (tail ≡ [])) answers.1;
         },
       )
-      ends turns Cut answers = absurd answers
-      ends turns ReadFault answers = absurd answers
-      ends turns Turns answers = absurd answers
-      ends turns Memory answers = absurd answers
+      ends budget Cut answers = absurd answers
+      ends budget ReadFault answers = absurd answers
+      ends budget ReadsSpent answers = absurd answers
+      ends budget Memory answers = absurd answers

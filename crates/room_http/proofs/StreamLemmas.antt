@@ -6,7 +6,7 @@ use Rattle.httparse.specs.Grammar.{print_request}
 use Rattle.room_types.specs.declared.refusals.Refusal.{Refusal}
 use Rattle.room_http_messages.specs.Messages.{WholeMessage, HasMessage, IsRefused}
 use Rattle.room_http_messages.specs.Streams.{CountsBy}
-use Rattle.room_http.specs.Outcomes.{Outcome, message, refused, is_closing, BeginsWith, Begins}
+use Rattle.room_http.specs.Arrivals.{Arrival, message, refused, is_closing, BeginsWith, Begins}
 
 pub CountsBy-none : (known : Option ℕ) → CountsBy 0 known known
 CountsBy-none None = refl
@@ -36,8 +36,8 @@ message-append bytes more m rest x = record {
   size = x.size;
 }
 
--- what is left after an outcome was taken, and before
-pub record Passes (before after : Option (List ℕ)) (o : Outcome) : Type 0 where
+-- what is left after an arrival was taken, and before
+pub record Passes (before after : Option (List ℕ)) (o : Arrival) : Type 0 where
   pub passes : (rest : List ℕ) → before ≡ Some rest → (next : List ℕ) × BeginsWith rest o next × (after ≡ Some next)
 
 -- the message at the front of the inbox is the next of the stream
@@ -67,14 +67,14 @@ nothing_left kept (Some left) rest end known =
     let same : kept ++ left ≡ rest = cc in
     sym same ∙ ap (λ t. kept ++ t) end ∙ append-nil kept
 
--- one outcome more, after those that stay open
-pub Begins-push : (stream : List ℕ) (outs : List (Outcome × ℕ)) (rest : List ℕ) (x : Outcome × ℕ) (next : List ℕ)
+-- one arrival more, after those that stay open
+pub Begins-push : (stream : List ℕ) (outs : List (Arrival × ℕ)) (rest : List ℕ) (x : Arrival × ℕ) (next : List ℕ)
     → Begins stream (map (λ y. y.0) outs) rest → All (λ y. is_closing y.0 ≡ false) outs → BeginsWith rest x.0 next
     → Begins stream (map (λ y. y.0) (outs ++ x ∷ [])) next
 Begins-push stream [] rest x next begins stay has = (next, rw begins has, λ _. refl, refl)
 Begins-push stream (y ∷ more) rest x next begins stay has =
-    let open_ = All-head (λ (z : Outcome × ℕ). is_closing z.0 ≡ false) y more stay in
-    (begins.0, begins.1, λ ends. absurd (cc), Begins-push begins.0 more rest x next begins.3 (All-tail (λ (z : Outcome × ℕ). is_closing z.0 ≡ false) y more stay) has)
+    let open_ = All-head (λ (z : Arrival × ℕ). is_closing z.0 ≡ false) y more stay in
+    (begins.0, begins.1, λ ends. absurd (cc), Begins-push begins.0 more rest x next begins.3 (All-tail (λ (z : Arrival × ℕ). is_closing z.0 ≡ false) y more stay) has)
 
 -- the bytes to come, with none in the inbox
 pub Keeps-prepend : (bytes : List ℕ) (left : Option (List ℕ)) → bytes ≡ [] → Keeps left (prepend_known bytes left)
@@ -82,6 +82,6 @@ Keeps-prepend bytes None none = tt
 Keeps-prepend bytes (Some left) none = rw none refl
 
 -- the reads so far, with those of one call more
-pub reads_by : (turns before after : ℕ) (a b c : Option ℕ) → before ≤ turns → after ≤ before → CountsBy (turns - before) a b → CountsBy (before - after) b c
-    → CountsBy (turns - after) a c
-reads_by turns before after a b c within fewer first second = CountsBy-trans (turns - before) (before - after) (turns - after) a b c first second (omega arith)
+pub reads_by : (budget before after : ℕ) (a b c : Option ℕ) → before ≤ budget → after ≤ before → CountsBy (budget - before) a b → CountsBy (before - after) b c
+    → CountsBy (budget - after) a c
+reads_by budget before after a b c within fewer first second = CountsBy-trans (budget - before) (before - after) (budget - after) a b c first second (omega arith)

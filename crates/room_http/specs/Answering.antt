@@ -6,9 +6,9 @@ use Rattle.room_types.specs.declared.refusals.Refusal.{Refusal}
 use Rattle.room_model.specs.Room.{Room}
 use Rattle.room_http_time.specs.declared.moments.TheConstants.{LAST_MOMENT}
 use Rattle.room_http.specs.declared.serving.ServeEnd.{ServeEnd}
-use Rattle.room_http.specs.declared.serving.ServeEnd.TheVariants.{Closed, Cut, ReadFault, WriteFault, ClockFault, Turns, Memory}
+use Rattle.room_http.specs.declared.serving.ServeEnd.TheVariants.{Closed, Cut, ReadFault, WriteFault, ClockFault, ReadsSpent, Memory}
 use Rattle.room_service.specs.Rooms.{Step, IsWant}
-use Rattle.room_http.specs.Outcomes.{Outcome, is_head_only}
+use Rattle.room_http.specs.Arrivals.{Arrival, is_head_only}
 use Rattle.room_http_time.specs.Moments.{HasNoMoment}
 use Rattle.room_http_answers.specs.Replies.{fixed_bytes}
 use Rattle.room_http_time.specs.declared.zones.Zone.{Zone}
@@ -21,12 +21,12 @@ EndsAnswering WriteFault = ⊤
 EndsAnswering ClockFault = ⊤
 EndsAnswering Cut = ⊥
 EndsAnswering ReadFault = ⊥
-EndsAnswering Turns = ⊥
+EndsAnswering ReadsSpent = ⊥
 EndsAnswering Memory = ⊥
 
 module _ (step : Step) (zone : Zone) (held holds given gives : Option (List ℕ)) (write_failed was_none : Bool)
-    (trusted : Type 0) (stood stands : List Terminal → Room → Type 0) (o : Outcome) where
-  -- the outcome had a moment
+    (trusted : Type 0) (stood stands : List Terminal → Room → Type 0) (o : Arrival) where
+  -- the arrival had a moment
   abbrev pub IsAt : ℕ → Type 0
   IsAt at = (at ≤ LAST_MOMENT) × Appends given gives (at ∷ [])
 
@@ -42,5 +42,5 @@ module _ (step : Step) (zone : Zone) (held holds given gives : Option (List ℕ)
   Answers (Err ClockFault) = HasNoMoment given gives was_none [] × Talks step zone trusted stood held holds [] (λ terminals after tail. stands terminals after × (tail ≡ []))
   Answers (Err Cut) = ⊥
   Answers (Err ReadFault) = ⊥
-  Answers (Err Turns) = ⊥
+  Answers (Err ReadsSpent) = ⊥
   Answers (Err Memory) = ⊥

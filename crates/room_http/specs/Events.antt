@@ -12,10 +12,10 @@ use Rattle.room_types.specs.declared.refusals.Refusal.TheVariants.{BadBody, NoTe
 use Rattle.room_http_messages.specs.Messages.{WholeMessage, terminal_of}
 use Rattle.room_http_requests.specs.Targets.{routed}
 use Rattle.room_http_requests.specs.declared.targets.Target.{Target}
-use Rattle.room_http_requests.specs.Asking.{wanted_by}
+use Rattle.room_http_requests.specs.Asking.{request_by}
 use Rattle.room_http_requests.specs.Roles.{is_of, role_of}
-use Rattle.room_http_requests.specs.declared.asking.Wanted.{Wanted}
-use Rattle.room_http_requests.specs.declared.asking.Wanted.TheVariants as wanted
+use Rattle.room_http_requests.specs.declared.asking.Request.{Request}
+use Rattle.room_http_requests.specs.declared.asking.Request.TheVariants as request
 use Rattle.room_http_time.specs.Days.{IsSpan, zone_of}
 use Rattle.room_http_time.specs.declared.zones.Zone.{Zone}
 use Rattle.room_service.specs.Rooms.{who_at}
@@ -28,21 +28,21 @@ token_of field = option_and_then (λ text. if is_token text then Some text else 
 abbrev pub named : List Terminal → Option (List ℕ) → Option Who
 named terminals field = option_and_then (who_at terminals) (token_of field)
 
--- what is wanted, asked of the room: the times of a day are those of its seconds in the zone
-abbrev pub IsAskFor : Zone → Wanted → Ask → Type 0
-IsAskFor zone (wanted.Ask a) asks = asks ≡ a
-IsAskFor zone (wanted.Times day) asks =
+-- a request, as the room is asked: the times of a day are those of its seconds in the zone
+abbrev pub IsAskFor : Zone → Request → Ask → Type 0
+IsAskFor zone (request.Ask a) asks = asks ≡ a
+IsAskFor zone (request.Times day) asks =
     (span : ℤ × ℤ) × IsSpan (zone_of zone) (days_from_civil (pos day.year) day.month day.day) span × (asks ≡ ask.Times span.0 span.1)
 
 -- what a terminal asks for, if its body wants anything
-abbrev pub AsksBy : Zone → ℕ → Who → Option Wanted → Result Event Refusal → Type 0
+abbrev pub AsksBy : Zone → ℕ → Who → Option Request → Result Event Refusal → Type 0
 AsksBy zone at who None found = found ≡ Err BadBody
 AsksBy zone at who (Some given) found = (asks : Ask) × IsAskFor zone given asks × (found ≡ Ok (record { who = who; ask = asks; at = at }))
 
 -- what a terminal asks for, if there is one: its role is looked at, and then the body
 abbrev pub AsksAs : Zone → Target → List ℕ → ℕ → Option Who → Result Event Refusal → Type 0
 AsksAs zone target body at None found = found ≡ Err NoTerminal
-AsksAs zone target body at (Some who) found = MatchBool (is_of (role_of target) who) (AsksBy zone at who (wanted_by target body) found) (found ≡ Err WrongRole)
+AsksAs zone target body at (Some who) found = MatchBool (is_of (role_of target) who) (AsksBy zone at who (request_by target body) found) (found ≡ Err WrongRole)
 
 -- what is asked of a target, if there is one: the terminal is looked at next
 abbrev pub AsksAt : Zone → List Terminal → WholeMessage → ℕ → Result Target Refusal → Result Event Refusal → Type 0

@@ -8,23 +8,23 @@ use Rattle.room_types.specs.declared.refusals.Refusal.{Refusal}
 use Rattle.room_types.specs.declared.refusals.Refusal.TheVariants.{BadBody, Memory, NoTerminal}
 use Rattle.room_model.specs.Room.{Room}
 use Rattle.room_model.specs.Step.{IsAddressed}
-use Rattle.room_http_requests.specs.declared.asking.Wanted.{Wanted}
+use Rattle.room_http_requests.specs.declared.asking.Request.{Request}
 use Rattle.room_http_requests.specs.Roles.{is_known}
 use Rattle.room_http_messages.specs.declared.messages.Message.{Message}
 use Rattle.room_http_messages.specs.Layouts.{Shows}
 use Rattle.room_http_messages.specs.Messages.{WholeMessage}
-use Rattle.room_http.specs.declared.requests.Request.{Request}
+use Rattle.room_http.specs.declared.arrivals.Arrived.{Arrived}
 use Rattle.room_http.specs.Events.{AsksFor, IsAskFor, named}
-use Rattle.room_http.specs.Outcomes.{Outcome, IsShown}
+use Rattle.room_http.specs.Arrivals.{Arrival, IsShown}
 use Rattle.room_http_time.specs.declared.zones.Zone.{Zone}
 use Rattle.room_service.specs.Rooms.{IsWant}
 use Rattle.room_http.specs.Talk.{Finds}
 
 -- what is wanted was found, or there was no memory to find it
-abbrev pub FindsAsk : Zone → Option Wanted → Result Ask Refusal → Type 0
+abbrev pub FindsAsk : Zone → Option Request → Result Ask Refusal → Type 0
 FindsAsk zone given result =
     MatchResult result
-    (λ asks. (w : Wanted) × (given ≡ Some w) × IsAskFor zone w asks)
+    (λ asks. (w : Request) × (given ≡ Some w) × IsAskFor zone w asks)
     (λ refusal. (refusal ≡ Memory) ⊎ ((refusal ≡ BadBody) × (given ≡ None)))
 
 -- The room was asked who shows the token of a field, and stayed as it was.
@@ -50,6 +50,6 @@ FindsMessage is_trusted stands old new zone shown at =
     FindsBy is_trusted stands old new (λ terminals found. (m : WholeMessage) → Shows shown m → AsksFor zone terminals m at found)
 
 -- of a request
-abbrev pub FindsEvent : {M : Type 0} → (M → Type 0) → (M → List Terminal → Room → Type 0) → M → M → Zone → Request → ℕ → Result Event Refusal → Type 0
+abbrev pub FindsEvent : {M : Type 0} → (M → Type 0) → (M → List Terminal → Room → Type 0) → M → M → Zone → Arrived → ℕ → Result Event Refusal → Type 0
 FindsEvent is_trusted stands old new zone request at =
-    FindsBy is_trusted stands old new (λ terminals found. (o : Outcome) → IsShown request o → Finds zone terminals (o, at) found)
+    FindsBy is_trusted stands old new (λ terminals found. (o : Arrival) → IsShown request o → Finds zone terminals (o, at) found)

@@ -1,8 +1,11 @@
-pub mod Outcomes
+pub mod Arrivals
 pub mod Events
 pub mod Talk
 pub mod Findings
 pub mod Replies
+pub mod Runs
+pub mod Promises
+pub mod Served
 pub mod Laws
 pub mod Answering
 pub mod Serving

@@ -3,17 +3,17 @@ use Rattle.std.specs.Prelude.{ℕ, List, Vec, Result, IfErr, MatchResult}
 use Rattle.room_types.specs.declared.fleet.Terminal.{Terminal}
 use Rattle.room_types.specs.declared.refusals.Refusal.{Refusal}
 use Rattle.room_model.specs.Room.{Room}
-use Rattle.room_http.specs.declared.requests.Request.{Request}
-use Rattle.room_http.specs.Outcomes.{Outcome, IsShown}
+use Rattle.room_http.specs.declared.arrivals.Arrived.{Arrived}
+use Rattle.room_http.specs.Arrivals.{Arrival, IsShown}
 use Rattle.room_http_time.specs.declared.zones.Zone.{Zone}
 use Rattle.room_service.specs.Rooms.{Step, IsWant}
 use Rattle.room_http.specs.Talk.{IsReplyTo}
 
 -- the bytes are the answer, and the room is the one after it; or memory or storage is wanting, and the room is as it was
-pub record Replies {M A : Type 0} (step : Step) (is_trusted : M → Type 0) (stands : M → List Terminal → Room → Type 0) (old new : M) (zone : Zone) (request : Request) (at : ℕ) (result : Result (Vec ℕ A) Refusal) : Type 0 where
+pub record Replies {M A : Type 0} (step : Step) (is_trusted : M → Type 0) (stands : M → List Terminal → Room → Type 0) (old new : M) (zone : Zone) (request : Arrived) (at : ℕ) (result : Result (Vec ℕ A) Refusal) : Type 0 where
   pub trusted : is_trusted new → is_trusted old
   pub wants : IfErr result IsWant
   pub says : is_trusted new → (terminals : List Terminal) (room : Room) → stands old terminals room
       → MatchResult result
-      (λ bytes. (o : Outcome) → IsShown request o → (after : Room) × IsReplyTo step zone terminals room (o, at) after bytes.items × stands new terminals after)
+      (λ bytes. (o : Arrival) → IsShown request o → (after : Room) × IsReplyTo step zone terminals room (o, at) after bytes.items × stands new terminals after)
       (λ _. stands new terminals room)

@@ -8,10 +8,10 @@ use Rattle.room_http_answers.specs.Replies.{fixed_bytes}
 use Rattle.room_http_messages.specs.Messages.{IsCut, IsPart}
 use Rattle.room_http_messages.specs.Streams.{CountsBy}
 use Rattle.room_http.specs.declared.serving.ServeEnd.{ServeEnd}
-use Rattle.room_http.specs.declared.serving.ServeEnd.TheVariants.{Closed, Cut, ReadFault, WriteFault, ClockFault, Turns, Memory}
+use Rattle.room_http.specs.declared.serving.ServeEnd.TheVariants.{Closed, Cut, ReadFault, WriteFault, ClockFault, ReadsSpent, Memory}
 use Rattle.room_http_time.specs.declared.moments.TheConstants.{LAST_MOMENT}
 use Rattle.room_service.specs.Rooms.{Step, IsWant}
-use Rattle.room_http.specs.Outcomes.{Outcome, is_head_only, is_closing, Begins, HasNext}
+use Rattle.room_http.specs.Arrivals.{Arrival, is_head_only, is_closing, Begins, HasNext}
 use Rattle.room_http_time.specs.declared.zones.Zone.{Zone}
 use Rattle.room_http_time.specs.Moments.{HasNoMoment}
 use Rattle.room_http.specs.Talk.{Timed, IsFront, BreaksOff, Talks}
@@ -35,18 +35,18 @@ pub record Finish : Type 0 where
 
 -- so many reads were made, or fewer
 abbrev pub ReadsAtMost : ℕ → Option ℕ → Option ℕ → Type 0
-ReadsAtMost turns old new = (n : ℕ) × (n ≤ turns) × CountsBy n old new
+ReadsAtMost budget old new = (n : ℕ) × (n ≤ budget) × CountsBy n old new
 
--- the last outcome closes
+-- the last arrival closes
 abbrev pub EndsClosing : List Timed → Type 0
 EndsClosing outs = (before : List Timed) × (x : Timed) × (outs ≡ before ++ x ∷ []) × (is_closing x.0 ≡ true)
 
 module _ (step : Step) (zone : Zone) (old : Sides) (new : Finish) (trusted : Type 0) (stood stands : List Terminal → Room → Type 0) where
-  -- the stream begins with the outcomes, and something is said of what follows them
+  -- the stream begins with the arrivals, and something is said of what follows them
   abbrev pub Reaches : List Timed → (List ℕ → Type 0) → Type 0
   Reaches outs follows = (stream : List ℕ) → old.left ≡ Some stream → (rest : List ℕ) × Begins stream (map (λ x. x.0) outs) rest × follows rest
 
-  -- each outcome had a moment, which the clock gave for it alone
+  -- each arrival had a moment, which the clock gave for it alone
   abbrev pub AreTimed : List Timed → Type 0
   AreTimed outs = All (λ x. x.1 ≤ LAST_MOMENT) outs × Appends old.given new.given (map (λ x. x.1) outs)
 
@@ -54,29 +54,29 @@ module _ (step : Step) (zone : Zone) (old : Sides) (new : Finish) (trusted : Typ
   abbrev pub Spoke : List Timed → (List Terminal → Room → List ℕ → Type 0) → Type 0
   Spoke = Talks step zone trusted stood old.held new.held
 
-  -- the first outcomes of the stream were answered, and no more was done
+  -- the first arrivals of the stream were answered, and no more was done
   pub record Answered (outs : List Timed) (follows : List ℕ → Type 0) : Type 0 where
     pub begins : Reaches outs follows
     pub timed : AreTimed outs
     pub talk : Spoke outs (λ terminals after tail. stands terminals after × (tail ≡ []))
 
-  -- The outcomes were answered. For the next one memory or storage was wanting: the room stayed as
+  -- The arrivals were answered. For the next one memory or storage was wanting: the room stayed as
   -- it was, and of the fixed answer so much was written.
-  pub record Wanted (outs : List Timed) (x : Timed) (so_much : List ℕ → List ℕ → Type 0) : Type 0 where
+  pub record Unserved (outs : List Timed) (x : Timed) (so_much : List ℕ → List ℕ → Type 0) : Type 0 where
     pub begins : Reaches outs (HasNext x.0)
     pub timed : AreTimed (outs ++ x ∷ [])
     pub refusal : Refusal
     pub want : IsWant refusal
     pub talk : Spoke outs (λ terminals after tail. stands terminals after × so_much tail (fixed_bytes refusal (is_head_only x.0)))
 
-  -- The outcomes were answered. The next one was acted on, and its answer was not written, or not wholly.
+  -- The arrivals were answered. The next one was acted on, and its answer was not written, or not wholly.
   pub record Broken (outs : List Timed) (x : Timed) : Type 0 where
     pub begins : Reaches (outs ++ x ∷ []) (λ rest. ⊤)
     pub timed : AreTimed (outs ++ x ∷ [])
     pub talk : Spoke outs (λ terminals after tail. BreaksOff step zone terminals stands after x tail)
 
-  -- The outcomes were answered. The next one had no moment, and nothing was done.
-  pub record Untimed (outs : List Timed) (o : Outcome) : Type 0 where
+  -- The arrivals were answered. The next one had no moment, and nothing was done.
+  pub record Untimed (outs : List Timed) (o : Arrival) : Type 0 where
     pub begins : Reaches outs (HasNext o)
     pub timed : All (λ x. x.1 ≤ LAST_MOMENT) outs
     pub clock : HasNoMoment old.given new.given new.was_none (map (λ x. x.1) outs)
@@ -85,29 +85,29 @@ module _ (step : Step) (zone : Zone) (old : Sides) (new : Finish) (trusted : Typ
   -- How serving ended, which was granted so many reads. Closed: the stream ended between messages,
   -- an answer closed, or memory or storage was wanting and its fixed answer closed.
   abbrev pub ServeIs : ℕ → ServeEnd → Type 0
-  ServeIs turns Closed =
+  ServeIs budget Closed =
       ((outs : List Timed) × Answered outs (λ rest. rest ≡ []) × (new.read_ended ≡ true))
       ⊎ ((outs : List Timed) × Answered outs (λ rest. ⊤) × EndsClosing outs)
-      ⊎ ((outs : List Timed) × (x : Timed) × Wanted outs x (λ tail fixed. tail ≡ fixed))
-  ServeIs turns Cut = (outs : List Timed) × Answered outs IsCut × (new.read_ended ≡ true)
-  ServeIs turns ReadFault = (outs : List Timed) × Answered outs (λ rest. ⊤) × (new.read_failed ≡ true)
-  ServeIs turns WriteFault = ((outs : List Timed) × (x : Timed) × (Broken outs x ⊎ Wanted outs x IsFront)) × (new.write_failed ≡ true)
-  ServeIs turns ClockFault = (outs : List Timed) × (o : Outcome) × Untimed outs o
-  ServeIs turns Turns = (outs : List Timed) × Answered outs (λ rest. ⊤) × CountsBy turns old.reads new.reads
-  ServeIs turns Memory = Answered [] (λ rest. ⊤) × CountsBy 0 old.reads new.reads
+      ⊎ ((outs : List Timed) × (x : Timed) × Unserved outs x (λ tail fixed. tail ≡ fixed))
+  ServeIs budget Cut = (outs : List Timed) × Answered outs IsCut × (new.read_ended ≡ true)
+  ServeIs budget ReadFault = (outs : List Timed) × Answered outs (λ rest. ⊤) × (new.read_failed ≡ true)
+  ServeIs budget WriteFault = ((outs : List Timed) × (x : Timed) × (Broken outs x ⊎ Unserved outs x IsFront)) × (new.write_failed ≡ true)
+  ServeIs budget ClockFault = (outs : List Timed) × (o : Arrival) × Untimed outs o
+  ServeIs budget ReadsSpent = (outs : List Timed) × Answered outs (λ rest. ⊤) × CountsBy budget old.reads new.reads
+  ServeIs budget Memory = Answered [] (λ rest. ⊤) × CountsBy 0 old.reads new.reads
 
--- the clock gave a moment for each of these outcomes
-abbrev pub HasMoments : Option (List ℕ) → Option (List ℕ) → List Outcome → Type 0
+-- the clock gave a moment for each of these arrivals
+abbrev pub HasMoments : Option (List ℕ) → Option (List ℕ) → List Arrival → Type 0
 HasMoments given gives outs = (moments : List ℕ) × (length moments ≡ length outs) × Appends given gives moments
 
--- the stream begins with as many outcomes as moments were given, and what was read after them is less than a message
+-- the stream begins with as many arrivals as moments were given, and what was read after them is less than a message
 abbrev pub LeavesPart : Option (List ℕ) → Option (List ℕ) → Option (List ℕ) → Option (List ℕ) → Type 0
 LeavesPart left remains given gives =
     (stream : List ℕ) → left ≡ Some stream
-    → (outs : List Outcome) × (part : List ℕ) × (rest : List ℕ) × (remains ≡ Some rest) × Begins stream outs (part ++ rest) × IsPart part × HasMoments given gives outs
+    → (outs : List Arrival) × (part : List ℕ) × (rest : List ℕ) × (remains ≡ Some rest) × Begins stream outs (part ++ rest) × IsPart part × HasMoments given gives outs
 
 -- a read that fails, and reads that are used up, leave no message without an answer that was read whole
 abbrev pub MissesNone : Option (List ℕ) → Option (List ℕ) → Option (List ℕ) → Option (List ℕ) → ServeEnd → Type 0
 MissesNone left remains given gives ReadFault = LeavesPart left remains given gives
-MissesNone left remains given gives Turns = LeavesPart left remains given gives
+MissesNone left remains given gives ReadsSpent = LeavesPart left remains given gives
 MissesNone left remains given gives end = ⊤

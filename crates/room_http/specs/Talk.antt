@@ -1,4 +1,4 @@
--- A talk: what is answered to outcomes at their moments, one after another.
+-- A talk: what is answered to arrivals at their moments, one after another.
 use Rattle.std.specs.Prelude.{◌≡◌, ℕ, List, [], ◌∷◌, ◌++◌, Option, Result, Ok, Err}
 use Rattle.std.specs.Io.KnownBytes.{Appends}
 use Rattle.room_types.specs.declared.answers.Answer.{Answer}
@@ -8,15 +8,15 @@ use Rattle.room_types.specs.declared.refusals.Refusal.{Refusal}
 use Rattle.room_model.specs.Room.{Room}
 use Rattle.room_http_answers.specs.Replies.{IsReply}
 use Rattle.room_http.specs.Events.{AsksFor}
-use Rattle.room_http.specs.Outcomes.{Outcome, message, refused, is_head_only, is_closing}
+use Rattle.room_http.specs.Arrivals.{Arrival, message, refused, is_head_only, is_closing}
 use Rattle.room_http_time.specs.declared.zones.Zone.{Zone}
 use Rattle.room_service.specs.Rooms.{Step}
 
--- an outcome, with the moment at which it is answered
+-- an arrival, with the moment at which it is answered
 abbrev pub Timed : Type 0
-Timed = Outcome × ℕ
+Timed = Arrival × ℕ
 
--- what an outcome asks for: an event, or the first refusal on the way to it
+-- what an arrival asks for: an event, or the first refusal on the way to it
 abbrev pub Finds : Zone → List Terminal → Timed → Result Event Refusal → Type 0
 Finds zone terminals (message m, at) found = AsksFor zone terminals m at found
 Finds zone terminals (refused r head_only, at) found = found ≡ Err r
@@ -27,13 +27,13 @@ replied step (Ok event) room = step event room
 replied step (Err r) room = (room, Err r)
 
 module _ (step : Step) (zone : Zone) (terminals : List Terminal) where
-  -- the room after an outcome, and the bytes of the answer
+  -- the room after an arrival, and the bytes of the answer
   abbrev pub IsReplyTo : Room → Timed → Room → List ℕ → Type 0
   IsReplyTo room x after bytes =
       (found : Result Event Refusal) × Finds zone terminals x found × (after ≡ (replied step found room).0)
       × IsReply (replied step found room).1 x.1 (is_head_only x.0) (is_closing x.0) bytes
 
-  -- the room after outcomes, and the bytes of the answers, one after another
+  -- the room after arrivals, and the bytes of the answers, one after another
   abbrev pub IsTalk : Room → List Timed → Room → List ℕ → Type 0
   IsTalk room [] after bytes = (after ≡ room) × (bytes ≡ [])
   IsTalk room (x ∷ more) after bytes =
@@ -43,13 +43,13 @@ module _ (step : Step) (zone : Zone) (terminals : List Terminal) where
 abbrev pub IsFront : List ℕ → List ℕ → Type 0
 IsFront front bytes = (rest : List ℕ) × (bytes ≡ front ++ rest)
 
--- the room has acted on the outcome, and its answer was not written, or not wholly
+-- the room has acted on the arrival, and its answer was not written, or not wholly
 abbrev pub BreaksOff : Step → Zone → List Terminal → (List Terminal → Room → Type 0) → Room → Timed → List ℕ → Type 0
 BreaksOff step zone terminals stands room x tail =
     (after : Room) × (bytes : List ℕ) × IsReplyTo step zone terminals room x after bytes × stands terminals after × IsFront tail bytes
 
 -- Where the room is kept by what gives back what was written: what was written to the other side is
--- the answers to the outcomes, and then a tail, of which something is said, and of the room after them.
+-- the answers to the arrivals, and then a tail, of which something is said, and of the room after them.
 abbrev pub Talks : Step → Zone → Type 0 → (List Terminal → Room → Type 0) → Option (List ℕ) → Option (List ℕ) → List Timed → (List Terminal → Room → List ℕ → Type 0) → Type 0
 Talks step zone trusted stood held holds outs says =
     trusted → (terminals : List Terminal) (room : Room) → stood terminals room

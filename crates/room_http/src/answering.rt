@@ -1,10 +1,12 @@
-//! One request, answered.
+//! What arrives, answered.
 ghost use Rattle.std.specs.Prelude.{◌≡◌, false, IfErr};
-ghost use Rattle.room_http.specs.Outcomes.{Outcome, IsShown};
+ghost use Rattle.room_http.specs.Arrivals.{Arrival, IsShown};
 ghost use Rattle.room_http.specs.Answering.{Answers, EndsAnswering};
+ghost use Rattle.room_http.specs.Served.{IsAtMost, KeepsPromises};
+ghost use Rattle.room_service.specs.Rooms.{machine};
 
+use crate::arrivals::Arrived;
 use crate::replies::reply;
-use crate::requests::Request;
 use crate::serving::ServeEnd;
 use room_http_answers::fixed::fixed;
 use room_http_messages::sinks::{Sink, write_all};
@@ -15,12 +17,12 @@ use room_http_time::zones::Zone;
 use room_service::rooms::Room;
 use std::alloc::Global;
 
-/// Answers a request at the moment of the clock, or says why serving ends with it.
+/// Answers what has arrived at the moment of the clock, or says why serving ends with it.
 pub fn answer<W: Sink, M: Room, C: Clock>(
     alloc: Global,
     routes: &Routes,
     zone: &Zone,
-    request: &Request,
+    arrived: &Arrived,
     writer: &mut W,
     room: &mut M,
     clock: &mut C,
@@ -30,19 +32,24 @@ pub fn answer<W: Sink, M: Room, C: Clock>(
     ensures ready { M.is_ready room.new }
     ensures trusted { M.is_trusted room.new → M.is_trusted room.old }
     ensures ends { IfErr result EndsAnswering }
-    ensures answers { (o : Outcome) → IsShown request.now o → Answers M.step zone.now
-        (W.held writer.old) (W.held writer.new) (C.given clock.old) (C.given clock.new) (W.has_failed writer.new) (C.was_none clock.new)
+    ensures answers { (o : Arrival) → IsShown arrived.now o → Answers M.step zone.now
+        (W.held writer.old) (W.held writer.new) (C.given clock.old) (C.given clock.new)
+        (W.has_failed writer.new) (C.was_none clock.new)
         (M.is_trusted room.new) (M.stands room.old) (M.stands room.new) o result }
+    ensures promised { M.step ≡ machine → (o : Arrival) → IsShown arrived.now o
+        → KeepsPromises zone.now (IsAtMost o (C.given clock.old) (C.given clock.new))
+        (W.held writer.old) (W.held writer.new)
+        (M.is_trusted room.new) (M.stands room.old) (M.stands room.new) }
 {
     let Some(at) = moment(clock) else {
         return Err(ServeEnd::ClockFault);
     };
-    match reply(alloc, routes, zone, room, request, at) {
+    match reply(alloc, routes, zone, room, arrived, at) {
         Ok(bytes) => match write_all(writer, bytes.as_slice()) {
             Ok(()) => Ok(()),
             Err(_) => Err(ServeEnd::WriteFault),
         },
-        Err(refusal) => match write_all(writer, fixed(refusal, request.head_only())) {
+        Err(refusal) => match write_all(writer, fixed(refusal, arrived.head_only())) {
             Ok(()) => Err(ServeEnd::Closed),
             Err(_) => Err(ServeEnd::WriteFault),
         },

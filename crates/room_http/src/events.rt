@@ -1,14 +1,14 @@
-//! The event that a request asks for, or the first refusal on the way to it.
+//! The event that a message asks for, or the first refusal on the way to it.
 ghost use Rattle.std.specs.Prelude.{◌≡◌, List, Some};
 ghost use Rattle.std.specs.Option.{option_map, option_copied};
-ghost use Rattle.room_http_requests.specs.Asking.{wanted_by};
-ghost use Rattle.room_http_requests.specs.declared.asking.Wanted.TheVariants as wanted;
+ghost use Rattle.room_http_requests.specs.Asking.{request_by};
+ghost use Rattle.room_http_requests.specs.declared.asking.Request.TheVariants as request;
 ghost use Rattle.room_http.specs.Events.{IsAskFor, token_of};
 ghost use Rattle.room_http.specs.Findings.{FindsAsk, FindsEvent, FindsMessage, FindsTerminal};
 
-use crate::requests::Request;
+use crate::arrivals::Arrived;
 use room_http_messages::messages::Message;
-use room_http_requests::asking::{Wanted, ask_of};
+use room_http_requests::asking::{Request, ask_of};
 use room_http_requests::roles::Role;
 use room_http_requests::routes::Routes;
 use room_http_requests::targets::Target;
@@ -36,7 +36,8 @@ fn token(field: Option<&[u8]>) -> Option<Token>
 fn terminal<M: Room>(alloc: Global, room: &mut M, message: &Message) -> Result<Who, Refusal>
     requires { M.is_ready room.old }
     ensures ready { M.is_ready room.new }
-    ensures terminal { FindsTerminal M.is_trusted M.stands room.old room.new (option_map (λ text. text.now) message.now.terminal) result }
+    ensures terminal { FindsTerminal M.is_trusted M.stands room.old room.new (option_map (λ text.
+        text.now) message.now.terminal) result }
 {
     let Some(token) = token(message.terminal) else {
         return Err(Refusal::NoTerminal);
@@ -50,28 +51,28 @@ fn terminal<M: Room>(alloc: Global, room: &mut M, message: &Message) -> Result<W
 
 /// The times of a day in a zone.
 fn times(zone: &Zone, day: Day) -> Ask
-    ensures { IsAskFor zone.now (wanted.Times day) result }
+    ensures { IsAskFor zone.now (request.Times day) result }
 {
     let (from, to) = zone.day(day.year(), day.month(), day.day()).unwrap();
     Ask::Times(from, to)
 }
 
-/// What is wanted, asked of the room.
-fn ask_for(zone: &Zone, wanted: &Wanted) -> Ask
-    ensures { IsAskFor zone.now wanted.now result }
+/// A request, as the room is asked.
+fn ask_for(zone: &Zone, request: &Request) -> Ask
+    ensures { IsAskFor zone.now request.now result }
 {
-    match wanted {
-        Wanted::Ask(ask) => *ask,
-        Wanted::Times(day) => times(zone, *day),
+    match request {
+        Request::Ask(ask) => *ask,
+        Request::Times(day) => times(zone, *day),
     }
 }
 
 /// What a target and a body ask for.
 fn ask(alloc: Global, zone: &Zone, target: &Target, body: &[u8]) -> Result<Ask, Refusal>
-    ensures { FindsAsk zone.now (wanted_by target.now body.now) result }
+    ensures { FindsAsk zone.now (request_by target.now body.now) result }
 {
     match ask_of(alloc, target, body) {
-        Ok(wanted) => Ok(ask_for(zone, &wanted)),
+        Ok(request) => Ok(ask_for(zone, &request)),
         Err(refusal) => Err(refusal),
     }
 }
@@ -88,7 +89,8 @@ fn asked<M: Room>(
 ) -> Result<Event, Refusal>
     requires { M.is_ready room.old }
     ensures ready { M.is_ready room.new }
-    ensures event { FindsMessage M.is_trusted M.stands room.old room.new zone.now message.now at result }
+    ensures event { FindsMessage M.is_trusted M.stands room.old room.new zone.now message.now at
+        result }
 {
     let target = match routes.route(message.method, message.target) {
         Ok(target) => target,
@@ -107,21 +109,22 @@ fn asked<M: Room>(
     }
 }
 
-/// The event that a request asks for.
+/// The event that what has arrived asks for.
 pub fn event_of<M: Room>(
     alloc: Global,
     routes: &Routes,
     zone: &Zone,
     room: &mut M,
-    request: &Request,
+    arrived: &Arrived,
     at: Moment,
 ) -> Result<Event, Refusal>
     requires { M.is_ready room.old }
     ensures ready { M.is_ready room.new }
-    ensures event { FindsEvent M.is_trusted M.stands room.old room.new zone.now request.now at result }
+    ensures event { FindsEvent M.is_trusted M.stands room.old room.new zone.now arrived.now at
+        result }
 {
-    match request {
-        Request::Whole(message) => asked(alloc, routes, zone, room, message, at),
-        Request::Refused { refusal, .. } => Err(*refusal),
+    match arrived {
+        Arrived::Message(message) => asked(alloc, routes, zone, room, message, at),
+        Arrived::Refused { refusal, .. } => Err(*refusal),
     }
 }

@@ -1,6 +1,16 @@
-//! What a stream alone decides, and what its outcomes, their moments and the room do. A law is the
+//! What a stream alone decides, and what its arrivals, their moments and the room do. A law is the
 //! contract of a function that does nothing.
+ghost use Rattle.std.specs.Prelude.{◌≡◌, ◌++◌, ℕ, List};
+ghost use Rattle.room_types.specs.declared.fleet.Terminal.{Terminal};
+ghost use Rattle.room_model.specs.Enrol.{AreTerminals};
+ghost use Rattle.room_model.specs.Room.{Room};
+ghost use Rattle.room_model.specs.WellFormed.{IsWellFormed};
+ghost use Rattle.room_http_time.specs.declared.zones.Zone.{Zone};
+ghost use Rattle.room_service.specs.Rooms.{machine};
 ghost use Rattle.room_http.specs.Laws.{IsOneStream, IsOneTalk};
+ghost use Rattle.room_http.specs.Promises.{Promises};
+ghost use Rattle.room_http.specs.Runs.{Exchange, IsRun, IsRunOf, room_by};
+ghost use Rattle.room_http.specs.Talk.{IsTalk, Timed};
 
 /// A stream has the same messages however it was cut into pieces: two readings of it differ only in
 /// how far they went, and, where it is refused, perhaps in the refusal.
@@ -11,4 +21,31 @@ pub fn one_stream()
 /// Equal messages at equal moments, in equal rooms, leave equal rooms and get equal bytes.
 pub fn one_talk()
     ensures { IsOneTalk }
+{}
+
+/// A talk with the dispatch machine is a run: its messages ask for events that the room knows, they
+/// lead to the room after it, and each is told what the room answers at its turn.
+pub fn a_talk_is_a_run()
+    ensures { (zone : Zone) (terminals : List Terminal) (room : Room) (outs : List Timed)
+        (after : Room) (bytes : List ℕ) →
+        AreTerminals room terminals → IsTalk machine zone terminals room outs after bytes →
+        (xs : List Exchange) × IsRunOf zone terminals outs after bytes xs room }
+{}
+
+/// A run goes on where another one ended: over any connections, one after another, the two are one.
+pub fn a_run_goes_on()
+    ensures run { (zone : Zone) (terminals : List Terminal) (room : Room) (xs ys : List Exchange) →
+        AreTerminals room terminals →
+        IsRun zone terminals xs room → IsRun zone terminals ys (room_by xs room) →
+        IsRun zone terminals (xs ++ ys) room }
+    ensures leads { (room : Room) (xs ys : List Exchange) →
+        room_by (xs ++ ys) room ≡ room_by ys (room_by xs room) }
+{}
+
+/// Every run keeps the promises: a division sees of the others what it is handed, no vehicle is
+/// sent to two incidents, and what is sent again acts once.
+pub fn a_run_keeps_the_promises()
+    ensures { (zone : Zone) (terminals : List Terminal) (xs : List Exchange) (room : Room) →
+        IsWellFormed room → IsRun zone terminals xs room →
+        Promises terminals xs room }
 {}

@@ -2,8 +2,8 @@
 #![tactic(auto)]
 
 pub mod answering;
+pub mod arrivals;
 pub mod events;
 pub mod laws;
 pub mod replies;
-pub mod requests;
 pub mod serving;

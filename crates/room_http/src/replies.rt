@@ -1,9 +1,9 @@
-//! The answer to a request, and what becomes of the room.
+//! The answer to what has arrived, and what becomes of the room.
 ghost use Rattle.std.specs.Prelude.{◌≡◌};
 ghost use Rattle.room_http.specs.Replies.{Replies};
 
+use crate::arrivals::Arrived;
 use crate::events::event_of;
-use crate::requests::Request;
 use room_http_answers::replies::render;
 use room_http_requests::routes::Routes;
 use room_http_time::zones::Zone;
@@ -12,22 +12,23 @@ use room_types::numbers::Moment;
 use room_types::refusals::Refusal;
 use std::alloc::Global;
 
-/// The bytes of the answer to a request. The room has acted on it once they are there. A refusal is
-/// want of memory or of storage; it leaves the room as it was.
+/// The bytes of the answer to what has arrived. The room has acted on it once they are there. A
+/// refusal is want of memory or of storage; it leaves the room as it was.
 pub fn reply<M: Room>(
     alloc: Global,
     routes: &Routes,
     zone: &Zone,
     room: &mut M,
-    request: &Request,
+    arrived: &Arrived,
     at: Moment,
 ) -> Result<Vec<u8>, Refusal>
     requires { M.is_ready room.old }
     ensures ready { M.is_ready room.new }
-    ensures reply { Replies M.step M.is_trusted M.stands room.old room.new zone.now request.now at result }
+    ensures reply { Replies M.step M.is_trusted M.stands room.old room.new zone.now arrived.now at
+        result }
 {
-    let (head_only, closing) = (request.head_only(), request.is_closing());
-    match event_of(alloc, routes, zone, room, request, at) {
+    let (head_only, closing) = (arrived.head_only(), arrived.is_closing());
+    match event_of(alloc, routes, zone, room, arrived, at) {
         Ok(event) => room.act(alloc, &event, |answer| {
             render(alloc, answer, at, head_only, closing)
         }),

@@ -1,14 +1,16 @@
 //! A connection that is served.
 ghost use Rattle.std.specs.Prelude.{◌≡◌, false};
+ghost use Rattle.room_service.specs.Rooms.{machine};
+ghost use Rattle.room_http.specs.Served.{AreFirst, KeepsPromises};
 ghost use Rattle.room_http.specs.Serving.{MissesNone, ReadsAtMost, ServeIs};
 
 use crate::answering::answer;
-use crate::requests::Request;
-use room_http_messages::endings::Ending;
+use crate::arrivals::Arrived;
 use room_http_messages::inbox::Inbox;
 use room_http_messages::reading::read_message;
 use room_http_messages::sinks::Sink;
 use room_http_messages::sources::Source;
+use room_http_messages::unread::Unread;
 use room_http_requests::routes::Routes;
 use room_http_time::clocks::Clock;
 use room_http_time::zones::Zone;
@@ -29,14 +31,15 @@ pub enum ServeEnd {
     /// The clock gave no moment, or a later one than the last of the room.
     ClockFault,
     /// The reads that were granted are used up.
-    Turns,
+    ReadsSpent,
     /// Memory was refused before anything was read.
     Memory,
 }
 
 /// Answers the messages of a stream, until it ends or an answer closes the connection, or until
-/// something fails. It makes at most `turns` reads, and reads the clock once for each message, after
-/// the message is whole or refused.
+/// something fails. It makes at most `budget` reads, and reads the clock once for each message,
+/// after the message is whole or refused. Where the room is the dispatch machine's, what is served
+/// keeps the room's promises.
 pub fn serve<R: Source, W: Sink, M: Room, C: Clock>(
     alloc: Global,
     reader: &mut R,
@@ -44,19 +47,37 @@ pub fn serve<R: Source, W: Sink, M: Room, C: Clock>(
     room: &mut M,
     zone: &Zone,
     clock: &mut C,
-    turns: u32,
+    budget: u32,
 ) -> ServeEnd
     requires reader { R.has_failed reader.old ≡ false }
     requires writer { W.has_failed writer.old ≡ false }
     requires ready { M.is_ready room.old }
     ensures ready { M.is_ready room.new }
-    ensures reads { ReadsAtMost turns (R.reads reader.old) (R.reads reader.new) }
+    ensures reads { ReadsAtMost budget (R.reads reader.old) (R.reads reader.new) }
     ensures trusted { M.is_trusted room.new → M.is_trusted room.old }
     ensures talk { ServeIs M.step zone.now
-        (record { left = R.left reader.old; reads = R.reads reader.old; held = W.held writer.old; given = C.given clock.old })
-        (record { reads = R.reads reader.new; held = W.held writer.new; given = C.given clock.new; read_failed = R.has_failed reader.new; read_ended = R.has_ended reader.new; write_failed = W.has_failed writer.new; was_none = C.was_none clock.new })
-        (M.is_trusted room.new) (M.stands room.old) (M.stands room.new) turns result }
-    ensures none_missed { MissesNone (R.left reader.old) (R.left reader.new) (C.given clock.old) (C.given clock.new) result }
+        (record {
+          left = R.left reader.old;
+          reads = R.reads reader.old;
+          held = W.held writer.old;
+          given = C.given clock.old;
+        })
+        (record {
+          reads = R.reads reader.new;
+          held = W.held writer.new;
+          given = C.given clock.new;
+          read_failed = R.has_failed reader.new;
+          read_ended = R.has_ended reader.new;
+          write_failed = W.has_failed writer.new;
+          was_none = C.was_none clock.new;
+        })
+        (M.is_trusted room.new) (M.stands room.old) (M.stands room.new) budget result }
+    ensures promised { M.step ≡ machine → KeepsPromises zone.now
+        (AreFirst (R.left reader.old) (C.given clock.old) (C.given clock.new))
+        (W.held writer.old) (W.held writer.new)
+        (M.is_trusted room.new) (M.stands room.old) (M.stands room.new) }
+    ensures none_missed { MissesNone (R.left reader.old) (R.left reader.new) (C.given clock.old)
+        (C.given clock.new) result }
 {
     let Ok(routes) = Routes::new(alloc) else {
         return ServeEnd::Memory;
@@ -64,12 +85,12 @@ pub fn serve<R: Source, W: Sink, M: Room, C: Clock>(
     let Ok(mut inbox) = Inbox::new(alloc) else {
         return ServeEnd::Memory;
     };
-    let mut left = turns;
+    let mut left = budget;
     'messages: loop {
         match read_message(&mut inbox, reader, &mut left) {
             Ok(layout) => {
-                let request = Request::Whole(inbox.message(&layout));
-                if let Err(end) = answer(alloc, &routes, zone, &request, writer, room, clock) {
+                let arrived = Arrived::Message(inbox.message(&layout));
+                if let Err(end) = answer(alloc, &routes, zone, &arrived, writer, room, clock) {
                     return end;
                 }
                 if layout.closing {
@@ -77,17 +98,17 @@ pub fn serve<R: Source, W: Sink, M: Room, C: Clock>(
                 }
                 inbox.remove(&layout);
             }
-            Err(Ending::Refused { refusal, head_only }) => {
-                let request = Request::Refused { refusal, head_only };
-                return match answer(alloc, &routes, zone, &request, writer, room, clock) {
+            Err(Unread::Refused { refusal, head_only }) => {
+                let arrived = Arrived::Refused { refusal, head_only };
+                return match answer(alloc, &routes, zone, &arrived, writer, room, clock) {
                     Ok(()) => ServeEnd::Closed,
                     Err(end) => end,
                 };
             }
-            Err(Ending::End) => return ServeEnd::Closed,
-            Err(Ending::Cut) => return ServeEnd::Cut,
-            Err(Ending::ReadFault) => return ServeEnd::ReadFault,
-            Err(Ending::Turns) => return ServeEnd::Turns,
+            Err(Unread::End) => return ServeEnd::Closed,
+            Err(Unread::Cut) => return ServeEnd::Cut,
+            Err(Unread::ReadFault) => return ServeEnd::ReadFault,
+            Err(Unread::ReadsSpent) => return ServeEnd::ReadsSpent,
         }
     }
 }

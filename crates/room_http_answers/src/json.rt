@@ -7,8 +7,8 @@ ghost use Rattle.room_http_answers.specs.Shapes.{whole, or_null, list_of};
 ghost use Rattle.room_http_answers.specs.Contents.{counts_json, place_json};
 ghost use Rattle.room_types.specs.Codes.{kind_number, status_number, outcome_name};
 
+use room_place::bounded::Bounded;
 use room_place::places::Place;
-use room_place::whole::Whole;
 use room_types::answers::Listed;
 use room_types::callsign::Callsign;
 use room_types::codes::{Kind, Outcome, Status};
@@ -74,7 +74,7 @@ impl ToJson for &str {
     }
 }
 
-impl<const LEAST: u32, const GREATEST: u32> ToJson for Whole<LEAST, GREATEST> {
+impl<const LEAST: u32, const GREATEST: u32> ToJson for Bounded<LEAST, GREATEST> {
     ghost json = { whole };
 
     fn to_json(&self, _alloc: Global) -> Result<Value, AllocError> {

@@ -35,14 +35,16 @@ const HEAD_ROOM: usize = 256;
 /// Adds the line of the status.
 #[tactic(auto, unfolding(crate::specs::Replies::line))]
 fn put_status(head: &mut String, status: StatusCode) -> Result<(), AllocError>
-    ensures { OnOk result (string_bytes head.new ≡ string_bytes head.old ++ line (codes "HTTP/1.1 " ++ status_text status)) }
+    ensures { OnOk result (string_bytes head.new ≡ string_bytes head.old ++ line
+        (codes "HTTP/1.1 " ++ status_text status)) }
 {
     write!(head, "HTTP/1.1 {status}\r\n")
 }
 
 /// Adds a field of the head.
 fn put_field<T: Display + Drop>(head: &mut String, name: &str, value: T) -> Result<(), AllocError>
-    ensures { OnOk result (IfSome (T.output value) (λ text. string_bytes head.new ≡ string_bytes head.old ++ field name.now text)) }
+    ensures { OnOk result (IfSome (T.output value) (λ text.
+        string_bytes head.new ≡ string_bytes head.old ++ field name.now text)) }
 {
     write!(head, "{name}: {value}\r\n")
 }
@@ -58,7 +60,8 @@ fn methods(allow: &Allow) -> &'static str
 
 /// Adds the methods that the path takes, where it doesn't take the one that was asked.
 fn put_allow(head: &mut String, answer: &Result<Answer, Refusal>) -> Result<(), AllocError>
-    ensures { OnOk result (string_bytes head.new ≡ string_bytes head.old ++ allow_field answer.now) }
+    ensures { OnOk result
+        (string_bytes head.new ≡ string_bytes head.old ++ allow_field answer.now) }
 {
     match answer {
         Err(Refusal::WrongMethod(allow)) => put_field(head, "Allow", methods(allow)),

@@ -8,8 +8,8 @@ use Rattle.httparse.specs.Grammar.{RequestHead, print_request, HasNoRequest}
 use Rattle.httparse.proofs.GrammarLemmas.{request_unique}
 use Rattle.room_types.specs.declared.refusals.Refusal.{Refusal}
 use Rattle.room_http_messages.specs.declared.limits.TheConstants.{HEAD_LIMIT, FIELD_LIMIT}
-use Rattle.room_http_messages.specs.declared.endings.Ending.{Ending}
-use Rattle.room_http_messages.specs.declared.endings.Ending.TheVariants.{End, Cut, ReadFault, Turns, Refused}
+use Rattle.room_http_messages.specs.declared.unread.Unread.{Unread}
+use Rattle.room_http_messages.specs.declared.unread.Unread.TheVariants.{End, Cut, ReadFault, ReadsSpent, Refused}
 use Rattle.room_http_messages.specs.Laws.{IsOneMessage, IsNoEnd, IsOneSplit, IsOneReading}
 use Rattle.room_http_messages.specs.Messages.{WholeMessage, window, HasHead, HasMessage, IsRefused, no_head, too_long, by_rule, IsPart, in_head, in_body, EndsWith, Splits, closes}
 use Rattle.room_http_messages.proofs.LookLemmas.{head_not_empty}
@@ -76,7 +76,7 @@ no_end_law stream m rest End x nothing = message_not_empty stream m rest x nothi
 no_end_law stream m rest Cut x cut = not_part stream m rest x cut.1
 no_end_law stream m rest (Refused r head_only) x refused = not_refused stream m rest r head_only x refused
 no_end_law stream m rest ReadFault x never = never
-no_end_law stream m rest Turns x never = never
+no_end_law stream m rest ReadsSpent x never = never
 
 pub one_split_law : IsOneSplit
 one_split_law stream [] many rest left x y fewer = (many, refl, rw (← x) y)
@@ -87,7 +87,7 @@ one_split_law stream (m ∷ few) (n ∷ many) rest left x y fewer =
     (tail.0, ap (λ k. k ∷ many) (sym same.0) ∙ ap (λ t. m ∷ t) tail.1, tail.2)
 
 -- a reading that ends has all the messages
-longest : (stream : List ℕ) (few many : List WholeMessage) (rest left : List ℕ) (e : Ending) → Splits stream few rest → EndsWith rest e
+longest : (stream : List ℕ) (few many : List WholeMessage) (rest left : List ℕ) (e : Unread) → Splits stream few rest → EndsWith rest e
     → Splits stream many left → length few ≤ length many → (few ≡ many) × (rest ≡ left)
 longest stream few many rest left e x end y fewer =
     let split = one_split_law stream few many rest left x y fewer in

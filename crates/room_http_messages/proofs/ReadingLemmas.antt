@@ -3,8 +3,8 @@ use Rattle.std.proofs.Common.{◌≡◌, ◌∙◌, ap, refl, arith, ℕ, ◌+�
 use Rattle.std.specs.Io.KnownBytes.{prepend_known, Keeps, Consumes, IsAtEnd}
 use Rattle.std.proofs.lemmas.List.{nil_from_length, drop-append-le}
 use Rattle.httparse.specs.Grammar.{print_request}
-use Rattle.room_http_messages.specs.declared.endings.Ending.{Ending}
-use Rattle.room_http_messages.specs.declared.endings.Ending.TheVariants.{End, Cut, ReadFault, Turns, Refused}
+use Rattle.room_http_messages.specs.declared.unread.Unread.{Unread}
+use Rattle.room_http_messages.specs.declared.unread.Unread.TheVariants.{End, Cut, ReadFault, ReadsSpent, Refused}
 use Rattle.room_http_messages.specs.declared.messages.Layout.{Layout}
 use Rattle.room_http_messages.specs.Messages.{WholeMessage, HasMessage, IsPart}
 use Rattle.room_http_messages.specs.Readings.{StopsAs, SaysOf, FirstIs, end_of}
@@ -31,9 +31,9 @@ same_stream (Some old) None before more after is taken = taken
 same_stream (Some old) (Some new) before more after is taken = rw (is, taken) (append_assoc before more new)
 
 module _ {R : Type 0} (left : R → Option (List ℕ)) (reads : R → Option ℕ) where
-  pub Reads-none : (r : R) (bytes : List ℕ) (turns : ℕ) → Reads left reads r r bytes bytes turns turns
-  Reads-none r bytes turns =
-      let none : turns - turns ≡ 0 = omega arith in
+  pub Reads-none : (r : R) (bytes : List ℕ) (budget : ℕ) → Reads left reads r r bytes bytes budget budget
+  Reads-none r bytes budget =
+      let none : budget - budget ≡ 0 = omega arith in
       record { same = Keeps-refl _; spent = omega arith; count = rw none (CountsBy-none (reads r)); room = omega arith }
 
   pub Reads-trans : {a b c : R} {x y z : List ℕ} {s t u : ℕ} → Reads left reads a b x y s t → Reads left reads b c y z t u → Reads left reads a c x z s u
@@ -56,13 +56,13 @@ module _ {R : Type 0} (left : R → Option (List ℕ)) (reads : R → Option ℕ
       }
 
 -- a read that found the end ends the stream
-pub stops_at_end : (before bytes more : List ℕ) (turns : ℕ) (failed ended : Bool) (left : Option (List ℕ))
+pub stops_at_end : (before bytes more : List ℕ) (budget : ℕ) (failed ended : Bool) (left : Option (List ℕ))
     → length more ≡ 0 → bytes ≡ before ++ more → IsPart before → failed ≡ false → ended ≡ true → IsAtEnd left
-    → StopsAs bytes turns failed ended left (end_of bytes)
-stops_at_end before bytes more turns failed ended left none is part sound found end =
+    → StopsAs bytes budget failed ended left (end_of bytes)
+stops_at_end before bytes more budget failed ended left none is part sound found end =
     go bytes (is ∙ ap (λ t. before ++ t) (nil_from_length more none) ∙ append-nil before)
   where
-    go : (bytes : List ℕ) → bytes ≡ before → StopsAs bytes turns failed ended left (end_of bytes)
+    go : (bytes : List ℕ) → bytes ≡ before → StopsAs bytes budget failed ended left (end_of bytes)
     go [] same = (refl, found, end, sound)
     go (byte ∷ rest) same = ((omega arith, rw same part), found, end, sound)
 
@@ -91,23 +91,23 @@ message-append bytes more m rest x = record {
 }
 
 -- what is said of the bytes that are kept and of the reader holds of the stream
-says_first : (kept more : List ℕ) (turns : ℕ) (failed ended : Bool) (result : Result Layout Ending)
-    → SaysOf kept turns failed ended (Some more) result → FirstIs (kept ++ more) kept result
-says_first kept more turns failed ended (Ok layout) says =
+says_first : (kept more : List ℕ) (budget : ℕ) (failed ended : Bool) (result : Result Layout Unread)
+    → SaysOf kept budget failed ended (Some more) result → FirstIs (kept ++ more) kept result
+says_first kept more budget failed ended (Ok layout) says =
     let whole = says.0 in
     let rest = drop-append-le layout.body.end kept more whole.3.content.1 in
     (whole.0, rw rest (message-append kept more whole.0 (drop layout.body.end kept) whole.1), whole.2)
-says_first kept more turns failed ended (Err End) says = λ _. rw (says.0, says.2) refl
-says_first kept more turns failed ended (Err Cut) says = λ _. rw (says.2, append-nil) says.0
-says_first kept more turns failed ended (Err (Refused r head_only)) says = λ _. says.0 more
-says_first kept more turns failed ended (Err ReadFault) says = λ is. absurd (cc)
-says_first kept more turns failed ended (Err Turns) says = λ is. absurd (cc)
+says_first kept more budget failed ended (Err End) says = λ _. rw (says.0, says.2) refl
+says_first kept more budget failed ended (Err Cut) says = λ _. rw (says.2, append-nil) says.0
+says_first kept more budget failed ended (Err (Refused r head_only)) says = λ _. says.0 more
+says_first kept more budget failed ended (Err ReadFault) says = λ is. absurd (cc)
+says_first kept more budget failed ended (Err ReadsSpent) says = λ is. absurd (cc)
 
-pub first_outcome : (old new : Option (List ℕ)) (before after : List ℕ) (turns : ℕ) (failed ended : Bool) (result : Result Layout Ending)
-    → Keeps (prepend_known before old) (prepend_known after new) → SaysOf after turns failed ended new result
+pub first_found : (old new : Option (List ℕ)) (before after : List ℕ) (budget : ℕ) (failed ended : Bool) (result : Result Layout Unread)
+    → Keeps (prepend_known before old) (prepend_known after new) → SaysOf after budget failed ended new result
     → (stream : List ℕ) → prepend_known before old ≡ Some stream → FirstIs stream after result
-first_outcome None new before after turns failed ended result same says stream is = absurd (cc)
-first_outcome (Some old) None before after turns failed ended result same says stream is = absurd same
-first_outcome (Some old) (Some new) before after turns failed ended result same says stream is =
+first_found None new before after budget failed ended result same says stream is = absurd (cc)
+first_found (Some old) None before after budget failed ended result same says stream is = absurd same
+first_found (Some old) (Some new) before after budget failed ended result same says stream is =
     let whole : before ++ old ≡ stream = cc in
-    subst (λ (s : List ℕ). FirstIs s after result) (same ∙ whole) (says_first after new turns failed ended result says)
+    subst (λ (s : List ℕ). FirstIs s after result) (same ∙ whole) (says_first after new budget failed ended result says)

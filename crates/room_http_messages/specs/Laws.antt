@@ -1,6 +1,6 @@
 -- What the stream alone decides, however it was cut into pieces.
 use Rattle.std.specs.Prelude.{◌≡◌, ℕ, ◌≤◌, List, ◌++◌, length}
-use Rattle.room_http_messages.specs.declared.endings.Ending.{Ending}
+use Rattle.room_http_messages.specs.declared.unread.Unread.{Unread}
 use Rattle.room_http_messages.specs.Messages.{WholeMessage, HasMessage, EndsWith, Splits}
 
 -- a stream begins with at most one message
@@ -11,7 +11,7 @@ IsOneMessage =
 
 -- a stream that begins with a message doesn't end there
 abbrev pub IsNoEnd : Type 0
-IsNoEnd = (stream : List ℕ) (m : WholeMessage) (rest : List ℕ) (e : Ending) → HasMessage stream m rest → ¬ (EndsWith stream e)
+IsNoEnd = (stream : List ℕ) (m : WholeMessage) (rest : List ℕ) (e : Unread) → HasMessage stream m rest → ¬ (EndsWith stream e)
 
 -- of two lists of messages that a stream splits into, the shorter begins the longer
 abbrev pub IsOneSplit : Type 0
@@ -23,5 +23,5 @@ IsOneSplit =
 -- a stream that is read to an end has the messages that it has in each such reading
 abbrev pub IsOneReading : Type 0
 IsOneReading =
-    (stream : List ℕ) (first second : List WholeMessage) (rest left : List ℕ) (e f : Ending)
+    (stream : List ℕ) (first second : List WholeMessage) (rest left : List ℕ) (e f : Unread)
     → Splits stream first rest → EndsWith rest e → Splits stream second left → EndsWith left f → (first ≡ second) × (rest ≡ left)

@@ -5,8 +5,8 @@ use Rattle.httparse.specs.Spans.{RequestOverflows}
 use Rattle.room_types.specs.declared.refusals.Refusal.{Refusal}
 use Rattle.room_types.specs.declared.refusals.Refusal.TheVariants.{BadMessage, HeadTooLong}
 use Rattle.room_http_messages.specs.declared.limits.TheConstants.{HEAD_LIMIT, FIELD_LIMIT}
-use Rattle.room_http_messages.specs.declared.endings.Ending.{Ending}
-use Rattle.room_http_messages.specs.declared.endings.Ending.TheVariants.{End, Cut, ReadFault, Turns, Refused}
+use Rattle.room_http_messages.specs.declared.unread.Unread.{Unread}
+use Rattle.room_http_messages.specs.declared.unread.Unread.TheVariants.{End, Cut, ReadFault, ReadsSpent, Refused}
 use Rattle.room_http_messages.specs.Fields.{values_of, only_value}
 use Rattle.room_http_messages.specs.Connection.{is_closing}
 use Rattle.room_http_messages.specs.Rules.{head_fields, fault_of, body_length}
@@ -75,10 +75,10 @@ Splits stream [] rest = stream ≡ rest
 Splits stream (m ∷ more) rest =
     (next : List ℕ) × HasMessage stream m next × (closes m.head ≡ true → more ≡ []) × Splits next more rest
 
--- the last outcome of a whole stream, by what follows its messages
-abbrev pub EndsWith : List ℕ → Ending → Type 0
+-- how a whole stream ends, by what follows its messages
+abbrev pub EndsWith : List ℕ → Unread → Type 0
 EndsWith rest End = rest ≡ []
 EndsWith rest Cut = IsCut rest
 EndsWith rest (Refused r head_only) = IsRefused rest r head_only
 EndsWith rest ReadFault = ⊥
-EndsWith rest Turns = ⊥
+EndsWith rest ReadsSpent = ⊥

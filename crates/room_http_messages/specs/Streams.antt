@@ -32,11 +32,11 @@ pub record Fills {R E : Type 0} (left : R → Option (List ℕ)) (reads : R → 
 -- Any number of reads: the bytes that were kept, and then what is left, stay the same stream, where
 -- the bytes are known. Each read took a turn, and gave no more than the inbox has room for.
 pub record Reads {R : Type 0} (left : R → Option (List ℕ)) (reads : R → Option ℕ)
-    (old new : R) (before after : List ℕ) (turns_before turns_after : ℕ) : Type 0 where
+    (old new : R) (before after : List ℕ) (budget_before budget_after : ℕ) : Type 0 where
   pub same : Keeps (prepend_known before (left old)) (prepend_known after (left new))
-  pub spent : turns_after ≤ turns_before
-  pub count : CountsBy (turns_before - turns_after) (reads old) (reads new)
-  pub room : length after + INBOX_ROOM * turns_after ≤ length before + INBOX_ROOM * turns_before
+  pub spent : budget_after ≤ budget_before
+  pub count : CountsBy (budget_before - budget_after) (reads old) (reads new)
+  pub room : length after + INBOX_ROOM * budget_after ≤ length before + INBOX_ROOM * budget_before
 
 -- the call failed, or took nothing of what there was
 abbrev pub took_none : {E : Type 0} → Result ℕ E → ℕ → Bool

@@ -65,7 +65,8 @@ pub fn has_field(buf: &[u8], headers: &[HeaderSpan], name: &[u8]) -> bool
 /// Where the value of the only field of a name is.
 pub fn only_field(buf: &[u8], headers: &[HeaderSpan], name: &[u8]) -> Option<Span>
     requires { AreWithin buf.now headers.now }
-    ensures value { option_map (span_bytes buf.now) result ≡ only_value (values_of name.now (map (header_bytes buf.now) headers.now)) }
+    ensures value { option_map (span_bytes buf.now) result ≡ only_value
+        (values_of name.now (map (header_bytes buf.now) headers.now)) }
     ensures within { IfSome result (IsWithin (length buf.now)) }
 {
     match find_field(buf, headers, name) {

@@ -49,7 +49,8 @@ impl Inbox {
     /// One read into the room that is left.
     pub fn fill<R: Source>(&mut self, reader: &mut R) -> Result<usize, ReadFailed>
         requires { length self.old < INBOX_ROOM }
-        ensures { Fills R.left R.reads R.has_failed R.has_ended reader.old reader.new self.old self.new result }
+        ensures { Fills R.left R.reads R.has_failed R.has_ended reader.old reader.new self.old
+            self.new result }
     {
         let len = self.len;
         match reader.read(&mut self.room.as_mut_slice()[len..]) {

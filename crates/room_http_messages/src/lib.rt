@@ -5,7 +5,6 @@
 #![tactic(auto)]
 
 pub mod connection;
-pub mod endings;
 pub mod fields;
 pub mod inbox;
 pub mod laws;
@@ -16,4 +15,5 @@ pub mod reading;
 pub mod rules;
 pub mod sinks;
 pub mod sources;
+pub mod unread;
 pub mod wires;

@@ -4,36 +4,37 @@ ghost use Rattle.room_http_messages.specs.declared.limits.TheConstants.{INBOX_RO
 ghost use Rattle.room_http_messages.specs.Messages.{IsPart};
 ghost use Rattle.room_http_messages.specs.Readings.{ReadsMessage, ReadsOnce, end_of};
 
-use crate::endings::Ending;
 use crate::inbox::Inbox;
 use crate::looks::{Look, look_at};
 use crate::messages::Layout;
 use crate::sources::Source;
+use crate::unread::Unread;
 
 /// How a stream ends that has these bytes left.
-fn end_of(bytes: &[u8]) -> Ending
+fn end_of(bytes: &[u8]) -> Unread
     ensures { result ≡ end_of bytes.now }
 {
     if bytes.is_empty() {
-        Ending::End
+        Unread::End
     } else {
-        Ending::Cut
+        Unread::Cut
     }
 }
 
-/// One read, which takes one of the turns. The inbox holds a part of a message.
-fn read_once<R: Source>(inbox: &mut Inbox, reader: &mut R, turns: &mut u32) -> Result<(), Ending>
+/// One read, which takes one of the budget. The inbox holds a part of a message.
+fn read_once<R: Source>(inbox: &mut Inbox, reader: &mut R, budget: &mut u32) -> Result<(), Unread>
     requires sound { R.has_failed reader.old ≡ false }
     requires room { length inbox.old < INBOX_ROOM }
     requires part { IsPart inbox.old }
-    ensures { ReadsOnce R.left R.reads R.has_failed R.has_ended reader.old reader.new inbox.old inbox.new turns.old turns.new result }
+    ensures { ReadsOnce R.left R.reads R.has_failed R.has_ended reader.old reader.new inbox.old
+        inbox.new budget.old budget.new result }
 {
-    if *turns == 0 {
-        return Err(Ending::Turns);
+    if *budget == 0 {
+        return Err(Unread::ReadsSpent);
     }
-    *turns -= 1;
+    *budget -= 1;
     match inbox.fill(reader) {
-        Err(_) => Err(Ending::ReadFault),
+        Err(_) => Err(Unread::ReadFault),
         Ok(0) => Err(end_of(inbox.bytes())),
         Ok(_) => Ok(()),
     }
@@ -43,27 +44,28 @@ fn read_once<R: Source>(inbox: &mut Inbox, reader: &mut R, turns: &mut u32) -> R
 /// or says why there is none. The message stays at the front of the inbox, where `Inbox::message`
 /// shows it, until `Inbox::remove` lets it go.
 ///
-/// Each read takes one of the `turns`. The head is looked at after each read that may have made it
+/// Each read takes one of the `budget`. The head is looked at after each read that may have made it
 /// whole, and not while only the body is short: so a peer that sends single bytes makes at most
 /// `HEAD_LIMIT` looks a message.
 pub fn read_message<R: Source>(
     inbox: &mut Inbox,
     reader: &mut R,
-    turns: &mut u32,
-) -> Result<Layout, Ending>
+    budget: &mut u32,
+) -> Result<Layout, Unread>
     requires { R.has_failed reader.old ≡ false }
-    ensures { ReadsMessage R.left R.reads R.has_failed R.has_ended reader.old reader.new inbox.old inbox.new turns.old turns.new result }
+    ensures { ReadsMessage R.left R.reads R.has_failed R.has_ended reader.old reader.new inbox.old
+        inbox.new budget.old budget.new result }
 {
     'looks: loop {
         let wanted = match look_at(inbox.bytes()) {
             Look::Whole(layout) => return Ok(layout),
             Look::Refused { refusal, head_only } => {
-                return Err(Ending::Refused { refusal, head_only });
+                return Err(Unread::Refused { refusal, head_only });
             }
             Look::Wants(count) => count,
         };
         'reads: while inbox.bytes().len() < wanted {
-            read_once(inbox, reader, turns)?;
+            read_once(inbox, reader, budget)?;
         }
     }
 }

@@ -32,7 +32,8 @@ fn numeral(value: &[u8]) -> Option<usize>
 /// Whether the Host fields are at fault.
 fn has_host_fault(buf: &[u8], headers: &[HeaderSpan], minor: u8) -> bool
     requires { AreWithin buf.now headers.now }
-    ensures { result ≡ has_host_fault minor (values_of (codes "host") (map (header_bytes buf.now) headers.now)) }
+    ensures { result ≡ has_host_fault minor
+        (values_of (codes "host") (map (header_bytes buf.now) headers.now)) }
 {
     match find_field(buf, headers, b"host") {
         Found::Nowhere => minor == 1,
@@ -44,7 +45,8 @@ fn has_host_fault(buf: &[u8], headers: &[HeaderSpan], minor: u8) -> bool
 /// The length of the body by the Content-Length fields, none where they are at fault.
 fn announced_length(buf: &[u8], headers: &[HeaderSpan]) -> Option<usize>
     requires { AreWithin buf.now headers.now }
-    ensures { let values = values_of (codes "content-length") (map (header_bytes buf.now) headers.now) in
+    ensures { let values = values_of (codes "content-length")
+        (map (header_bytes buf.now) headers.now) in
         MatchOption result (has_length_fault values ≡ true)
         (λ n. (has_length_fault values ≡ false) × (n ≡ min (length_of values) TOO_LONG)) }
 {

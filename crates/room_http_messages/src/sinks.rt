@@ -19,7 +19,8 @@ pub trait Sink {
     fn write(&mut self, buf: &[u8]) -> Result<usize, WriteFailed>
         ensures bound { IfOk result (λ n. n ≤ length buf.now) }
         ensures bytes { WriteAppends (held self.old) (held self.new) result buf.now }
-        ensures failed { has_failed self.new ≡ (has_failed self.old || took_none result (length buf.now)) };
+        ensures failed { has_failed self.new ≡
+            (has_failed self.old || took_none result (length buf.now)) };
 }
 
 /// Writes all the bytes. A write that takes nothing is a failure: so there are at most as many

@@ -27,5 +27,6 @@ pub trait Source {
         ensures bytes { ReadConsumes (left self.old) (left self.new) result buf.new }
         ensures count { CountsBy 1 (reads self.old) (reads self.new) }
         ensures failed { has_failed self.new ≡ (has_failed self.old || is_err result) }
-        ensures ended { has_ended self.new ≡ (has_ended self.old || found_end result (length buf.new)) };
+        ensures ended { has_ended self.new ≡
+            (has_ended self.old || found_end result (length buf.new)) };
 }

@@ -15,12 +15,12 @@ use Rattle.room_http_requests.specs.declared.targets.Target.TheVariants as targe
 use Rattle.room_model.specs.Events.{IsNumbered}
 use Rattle.room_model.specs.Room.{Room}
 use Rattle.room_model.specs.Step.{is_crews, is_desks, is_for, is_positions}
-use Rattle.room_http_requests.specs.Asking.{wanted_by}
+use Rattle.room_http_requests.specs.Asking.{request_by}
 use Rattle.room_http_requests.specs.Bodies.{and_then, call_form, exactly, duty, lend, merge, mobilise, needs_change, point_form, posted, press, standby}
 use Rattle.room_http_requests.specs.Fields.{fields_of, has_members, number_at, number_in}
 use Rattle.room_http_requests.specs.Roles.{is_known, is_of, role_of}
-use Rattle.room_http_requests.specs.declared.asking.Wanted.{Wanted}
-use Rattle.room_http_requests.specs.declared.asking.Wanted.TheVariants as wanted
+use Rattle.room_http_requests.specs.declared.asking.Request.{Request}
+use Rattle.room_http_requests.specs.declared.asking.Request.TheVariants as request
 use Rattle.room_http_requests.specs.declared.roles.Role.{Role}
 use Rattle.room_http_requests.specs.declared.roles.Role.TheVariants as role
 
@@ -87,9 +87,9 @@ role_asks role.Crew a = is_crews a
 abbrev pub IsAskOf : Target → Ask → Type 0
 IsAskOf t a = (role_asks (role_of t) a ≡ true) × IsNumbered a
 
-abbrev pub IsWantedOf : Target → Wanted → Type 0
-IsWantedOf t (wanted.Ask a) = IsAskOf t a
-IsWantedOf t (wanted.Times day) = Unit {0}
+abbrev pub IsRequestOf : Target → Request → Type 0
+IsRequestOf t (request.Ask a) = IsAskOf t a
+IsRequestOf t (request.Times day) = Unit {0}
 
 press_numbered : (fields : Data) → IfSome (press fields) (λ p. 1 ≤ p.number)
 unfolding press
@@ -123,22 +123,22 @@ fields_role : (t : Target) (fields : Option Data) → IfSome (option_and_then (p
 fields_role t None = tt
 fields_role t (Some fields) = posted_is t fields
 
-wanted_is : (t : Target) (body : List ℕ) → IfSome (wanted_by t body) (IsWantedOf t)
-unfolding wanted_by
-wanted_is target.Incidents body = (refl, tt)
-wanted_is (target.Propose n) body = (refl, tt)
-wanted_is target.Vehicles body = (refl, tt)
-wanted_is target.Queue body = (refl, tt)
-wanted_is target.Points body = (refl, tt)
-wanted_is target.Loans body = (refl, tt)
-wanted_is target.Offers body = (refl, tt)
-wanted_is (target.Times day) body = tt
-wanted_is target.Order body = (refl, tt)
-wanted_is t body = some_map (IsWantedOf t) (option_and_then (posted t) (fields_of body)) wanted.Ask (fields_role t (fields_of body))
+request_is : (t : Target) (body : List ℕ) → IfSome (request_by t body) (IsRequestOf t)
+unfolding request_by
+request_is target.Incidents body = (refl, tt)
+request_is (target.Propose n) body = (refl, tt)
+request_is target.Vehicles body = (refl, tt)
+request_is target.Queue body = (refl, tt)
+request_is target.Points body = (refl, tt)
+request_is target.Loans body = (refl, tt)
+request_is target.Offers body = (refl, tt)
+request_is (target.Times day) body = tt
+request_is target.Order body = (refl, tt)
+request_is t body = some_map (IsRequestOf t) (option_and_then (posted t) (fields_of body)) request.Ask (fields_role t (fields_of body))
 
 -- what is asked is of its target's role
-pub asked_is : (t : Target) (body : List ℕ) (a : Ask) → wanted_by t body ≡ Some (wanted.Ask a) → IsAskOf t a
-asked_is t body a asked = rw asked at (wanted_is t body)
+pub asked_is : (t : Target) (body : List ℕ) (a : Ask) → request_by t body ≡ Some (request.Ask a) → IsAskOf t a
+asked_is t body a asked = rw asked at (request_is t body)
 
 -- an ask of a role is for the known terminals of the role
 pub addressed : (of : Role) (a : Ask) (who : Who) (r : Room) → role_asks of a ≡ true → is_of of who ≡ true → is_for who a r ≡ is_known who r

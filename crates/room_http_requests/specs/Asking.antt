@@ -5,11 +5,11 @@ use Rattle.room_http_requests.specs.declared.targets.Target.{Target}
 use Rattle.room_http_requests.specs.declared.targets.Target.TheVariants as target
 use Rattle.room_http_requests.specs.Bodies.{posted}
 use Rattle.room_http_requests.specs.Fields.{fields_of}
-use Rattle.room_http_requests.specs.declared.asking.Wanted.{Wanted}
-use Rattle.room_http_requests.specs.declared.asking.Wanted.TheVariants.{Ask, Times}
+use Rattle.room_http_requests.specs.declared.asking.Request.{Request}
+use Rattle.room_http_requests.specs.declared.asking.Request.TheVariants.{Ask, Times}
 
 -- what a target that takes no body wants
-abbrev pub shown : Target → Option Wanted
+abbrev pub shown : Target → Option Request
 shown target.Incidents = Some (Ask ask.Incidents)
 shown (target.Propose n) = Some (Ask (ask.Propose n))
 shown target.Vehicles = Some (Ask ask.Vehicles)
@@ -21,11 +21,11 @@ shown (target.Times day) = Some (Times day)
 shown target.Order = Some (Ask ask.Order)
 shown other = None
 
--- what is wanted without a body, or else by the fields of the body
-abbrev pub or_posted : Option Wanted → Target → List ℕ → Option Wanted
+-- what is asked for without a body, or else by the fields of the body
+abbrev pub or_posted : Option Request → Target → List ℕ → Option Request
 or_posted (Some given) t body = Some given
 or_posted None t body = option_map Ask (option_and_then (posted t) (fields_of body))
 
 -- what a request wants, if its body serves
-unfoldable pub wanted_by : Target → List ℕ → Option Wanted
-wanted_by t body = or_posted (shown t) t body
+unfoldable pub request_by : Target → List ℕ → Option Request
+request_by t body = or_posted (shown t) t body

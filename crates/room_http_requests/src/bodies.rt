@@ -10,8 +10,8 @@ use room_types::callsign::Callsign;
 use room_types::numbers::{Number, PointNumber};
 use serde_json::Value;
 
-/// What the fields ask for of a target that takes a body: none where they are not exactly those that
-/// the target wants, each of its form, and none for a target that takes no body.
+/// What the fields ask for of a target that takes a body: none where they are not exactly those
+/// that the target wants, each of its form, and none for a target that takes no body.
 pub(crate) fn posted(target: &Target, fields: &Value) -> Option<Ask>
     ensures { result ≡ posted target.now (view fields.now) }
 {

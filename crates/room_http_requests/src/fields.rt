@@ -5,8 +5,8 @@ ghost use Rattle.serde_json.specs.View.{view};
 ghost use Rattle.room_types.specs.declared.refusals.Refusal.TheVariants.{BadBody, Memory};
 ghost use Rattle.room_http_requests.specs.Fields.{button_at, callsign_at, fields_of, has_members, needs_at, needs_of, note_at, number_at, number_in, place_at, point_at, text_at};
 
+use room_place::bounded::Bounded;
 use room_place::places::Place;
-use room_place::whole::Whole;
 use room_types::callsign::Callsign;
 use room_types::codes::Button;
 use room_types::needs::{Counts, Needs};
@@ -46,12 +46,14 @@ pub(crate) fn has_members(fields: &Value, count: usize) -> bool
 }
 
 /// The whole number of a range that a value is.
-fn number_in<const LEAST: u32, const GREATEST: u32>(value: &Value) -> Option<Whole<LEAST, GREATEST>>
+fn number_in<const LEAST: u32, const GREATEST: u32>(
+    value: &Value,
+) -> Option<Bounded<LEAST, GREATEST>>
     ensures { result ≡ number_in LEAST GREATEST (view value.now) }
 {
     let number = value.as_u64()?;
     if number <= u64::from(GREATEST) {
-        Whole::new(number as u32)
+        Bounded::new(number as u32)
     } else {
         None
     }
@@ -62,7 +64,7 @@ fn number_in<const LEAST: u32, const GREATEST: u32>(value: &Value) -> Option<Who
 pub(crate) fn number<const LEAST: u32, const GREATEST: u32>(
     fields: &Value,
     name: &str,
-) -> Option<Whole<LEAST, GREATEST>>
+) -> Option<Bounded<LEAST, GREATEST>>
     ensures { result ≡ number_at LEAST GREATEST name.now (view fields.now) }
 {
     number_in(fields.get(name)?)

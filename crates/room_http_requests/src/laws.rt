@@ -9,7 +9,7 @@ ghost use Rattle.room_http_requests.specs.declared.targets.Target.{Target};
 ghost use Rattle.room_model.specs.Events.{IsNumbered};
 ghost use Rattle.room_model.specs.Room.{Room};
 ghost use Rattle.room_model.specs.Step.{is_for};
-ghost use Rattle.room_http_requests.specs.Asking.{wanted_by};
+ghost use Rattle.room_http_requests.specs.Asking.{request_by};
 ghost use Rattle.room_http_requests.specs.Roles.{is_known, is_of, role_of};
 
 /// Each path is found by its targets.
@@ -38,14 +38,17 @@ pub fn paths_take_methods()
 
 ghost use Rattle.room_types.specs.declared.asks.Ask.TheVariants as ask;
 ghost use Rattle.room_http_requests.specs.declared.targets.Target.TheVariants as target;
-ghost use Rattle.room_http_requests.specs.declared.asking.Wanted.TheVariants as wanted;
+ghost use Rattle.room_http_requests.specs.declared.asking.Request.TheVariants as request;
 
-/// An ask that a request makes is for any known terminal of its target's role, and a report's number
-/// is from 1. So a request that passed the test of its role is addressed.
+/// An ask that a request makes is for any known terminal of its target's role, and a report's
+/// number is from 1. So a request that passed the test of its role is addressed.
 pub fn requests_are_addressed()
-    ensures asks { (t : Target) (body : List ℕ) (a : Ask) (who : Who) (r : Room) → wanted_by t body ≡ Some (wanted.Ask a)
+    ensures asks { (t : Target) (body : List ℕ) (a : Ask) (who : Who) (r : Room)
+        → request_by t body ≡ Some (request.Ask a)
         → is_of (role_of t) who ≡ true → is_for who a r ≡ is_known who r }
-    ensures times { (day : Date) (from to : ℤ) (who : Who) (r : Room) → is_of (role_of (target.Times day)) who ≡ true
+    ensures times { (day : Date) (from to : ℤ) (who : Who) (r : Room)
+        → is_of (role_of (target.Times day)) who ≡ true
         → is_for who (ask.Times from to) r ≡ is_known who r }
-    ensures numbered { (t : Target) (body : List ℕ) (a : Ask) → wanted_by t body ≡ Some (wanted.Ask a) → IsNumbered a }
+    ensures numbered { (t : Target) (body : List ℕ) (a : Ask)
+        → request_by t body ≡ Some (request.Ask a) → IsNumbered a }
 {}

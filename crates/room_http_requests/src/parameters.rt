@@ -2,7 +2,7 @@
 ghost use Rattle.std.specs.Prelude.{◌≡◌, option_map};
 ghost use Rattle.room_http_requests.specs.Parameters.{are_ascii, are_digits, is_numeral, segment_at, text_of, whole_of};
 
-use room_place::whole::Whole;
+use room_place::bounded::Bounded;
 
 /// The text of a target: none where a byte is not of ASCII.
 pub(crate) fn text_of(target: &[u8]) -> Option<&str>
@@ -21,7 +21,8 @@ fn are_ascii(bytes: &[u8]) -> bool
     bytes.iter().all(|byte| *byte < 128)
 }
 
-/// A segment of a target, counted from what stands before its first slash: empty where there is none.
+/// A segment of a target, counted from what stands before its first slash: empty where there is
+/// none.
 pub(crate) fn segment(target: &str, at: usize) -> &str
     ensures { result.now ≡ segment_at at target.now }
 {
@@ -32,14 +33,14 @@ pub(crate) fn segment(target: &str, at: usize) -> &str
 /// this range.
 pub(crate) fn whole<const LEAST: u32, const GREATEST: u32>(
     text: &str,
-) -> Option<Whole<LEAST, GREATEST>>
+) -> Option<Bounded<LEAST, GREATEST>>
     ensures { result ≡ whole_of LEAST GREATEST text.now }
 {
     if !is_numeral(text.as_bytes()) {
         return None;
     }
     match text.parse::<u32>() {
-        Ok(number) => Whole::new(number),
+        Ok(number) => Bounded::new(number),
         Err(_) => None,
     }
 }

@@ -56,7 +56,8 @@ impl Routes {
         }
     }
 
-    /// What a target names: none where it is no path of the room, or a parameter is not of its form.
+    /// What a target names: none where it is no path of the room, or a parameter is not of its
+    /// form.
     #[tactic(auto, unfolding(crate::specs::Targets::target_of))]
     fn target_of(&self, target: &[u8]) -> Option<Target>
         ensures { result ≡ target_of target.now }
@@ -68,9 +69,9 @@ impl Routes {
 
     /// What a request names by its method and target.
     ///
-    /// Refused as `NoPath` where the target is no path of the room or a parameter is not of its form
-    /// or range, then as `WrongMethod` where the path doesn't take the method. Methods are compared
-    /// with case, and HEAD is taken where GET is.
+    /// Refused as `NoPath` where the target is no path of the room or a parameter is not of its
+    /// form or range, then as `WrongMethod` where the path doesn't take the method. Methods are
+    /// compared with case, and HEAD is taken where GET is.
     pub fn route(&self, method: &[u8], target: &[u8]) -> Result<Target, Refusal>
         ensures { result ≡ routed method.now target.now }
     {

@@ -14,8 +14,10 @@ pub trait Clock {
 
     /// The moment, or none where there is none to be had.
     fn now(&mut self) -> Option<u64>
-        ensures moments { MatchOption result (Keeps (given self.old) (given self.new)) (λ at. Appends (given self.old) (given self.new) (at ∷ [])) }
-        ensures none { MatchOption result (was_none self.new ≡ true) (λ at. was_none self.new ≡ false) };
+        ensures moments { MatchOption result (Keeps (given self.old) (given self.new)) (λ at.
+            Appends (given self.old) (given self.new) (at ∷ [])) }
+        ensures none { MatchOption result (was_none self.new ≡ true) (λ at.
+            was_none self.new ≡ false) };
 }
 
 /// The clock of the machine: it answers none where it can't be read, or is set before 1970.
@@ -77,9 +79,11 @@ impl<const MOMENT: u64> Clock for FixedClock<MOMENT> {
     ghost was_none = { λ clock. clock.was_none };
 
     fn now(&mut self) -> Option<u64>
-        ensures moments { let old = Some (replicate self.old.count MOMENT) in let new = Some (replicate self.new.count MOMENT) in
+        ensures moments { let old = Some (replicate self.old.count MOMENT) in let new = Some
+            (replicate self.new.count MOMENT) in
             MatchOption result (Keeps old new) (λ at. Appends old new (at ∷ [])) }
-        ensures none { MatchOption result (self.new.was_none ≡ true) (λ at. self.new.was_none ≡ false) }
+        ensures none { MatchOption result (self.new.was_none ≡ true) (λ at.
+            self.new.was_none ≡ false) }
         ensures moment { self.old.count < u64.MAX → result ≡ Some MOMENT }
     {
         self.was_none = self.count == u64::MAX;

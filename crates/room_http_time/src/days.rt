@@ -29,7 +29,8 @@ impl Model for Day {
 impl Day {
     /// The day of these numbers: none where the calendar has none, or not in these years.
     pub fn new(year: u16, month: u8, day: u8) -> Option<Day>
-        ensures { SomeIff result (is_date year month day ≡ true) (record { year = year; month = month; day = day }) }
+        ensures { SomeIff result (is_date year month day ≡ true)
+            (record { year = year; month = month; day = day }) }
     {
         if is_date(year, month, day) {
             Some(Day { year, month, day })

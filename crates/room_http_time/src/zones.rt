@@ -51,7 +51,8 @@ impl Zone {
     /// shows it twice, the offset before the change counts.
     pub fn day(&self, year: u16, month: u8, day: u8) -> Option<(i64, i64)>
         ensures found { IsSome result ↔ IsDay year month day }
-        ensures span { IfSome result (IsSpan (zone_of self.now) (days_from_civil (pos year) month day)) }
+        ensures span { IfSome result (IsSpan (zone_of self.now)
+            (days_from_civil (pos year) month day)) }
     {
         let date = date_of(year, month, day)?;
         let next = date.tomorrow().unwrap();

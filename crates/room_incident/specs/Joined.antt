@@ -7,13 +7,13 @@ use Rattle.room_types.specs.declared.codes.Kind.{Kind}
 use Rattle.room_types.specs.declared.refusals.Refusal.{Refusal}
 use Rattle.room_types.specs.declared.tables.Call.{Call}
 use Rattle.room_types.specs.declared.tables.Incident.{Incident}
-use Rattle.room_model.specs.Decisions.{Decided, done}
+use Rattle.room_model.specs.Decisions.{Verdict, done}
 use Rattle.room_incident.specs.declared.merges.Joined.{Joined}
 
 -- these rows are put and no others, or the same refusal is given
-abbrev pub decided_of_joined : Result Joined Refusal → Decided
-decided_of_joined (Ok j) = done (PutIncident j.into ∷ PutIncident j.from ∷ map PutCall j.calls)
-decided_of_joined (Err e) = Err e
+abbrev pub verdict_of_joined : Result Joined Refusal → Verdict
+verdict_of_joined (Ok j) = done (PutIncident j.into ∷ PutIncident j.from ∷ map PutCall j.calls)
+verdict_of_joined (Err e) = Err e
 
 -- an incident as urgent as this one at least, with as large needs, and opened no later
 pub record IsNoLess (n j : Incident) : Type 0 where

@@ -1,5 +1,5 @@
 pub mod CallsOf
-pub mod Decided
+pub mod Verdicts
 pub mod Joined
 pub mod Links
 pub mod Served

@@ -9,7 +9,7 @@ use Rattle.room_types.specs.declared.changes.Change.TheVariants.{PutCall, PutDiv
 use Rattle.room_types.specs.declared.codes.Kind.{Kind}
 use Rattle.room_types.specs.declared.refusals.Refusal.{Refusal}
 use Rattle.room_types.specs.declared.tables.Division.{Division}
-use Rattle.room_model.specs.Decisions.{Decided, tell}
+use Rattle.room_model.specs.Decisions.{Verdict, tell}
 use Rattle.room_incident.specs.declared.calls.Taken.{Taken}
 
 abbrev pub put_division : Option Division → List Change
@@ -17,9 +17,9 @@ put_division None = []
 put_division (Some v) = PutDivision v ∷ []
 
 -- these rows are put and no others, and the call's division, incident and link are told
-abbrev pub decided_of_taken : Result Taken Refusal → Decided
-decided_of_taken (Ok t) = tell (Called t.call.division t.call.given t.call.linked) (put_division t.division ++ (PutIncident t.incident ∷ PutCall t.call ∷ []))
-decided_of_taken (Err e) = Err e
+abbrev pub verdict_of_taken : Result Taken Refusal → Verdict
+verdict_of_taken (Ok t) = tell (Called t.call.division t.call.given t.call.linked) (put_division t.division ++ (PutIncident t.incident ∷ PutCall t.call ∷ []))
+verdict_of_taken (Err e) = Err e
 
 -- the call's incident is active, as urgent as the call at least, with as large needs, and opened no later
 pub record Covers (new : NewCall) (t : Taken) : Type 0 where

@@ -2,7 +2,7 @@
 ghost use Rattle.std.specs.Prelude.{◌≡◌, List, IfOk, MatchResult, Err};
 ghost use Rattle.room_place.specs.declared.plans.Area.{Area};
 ghost use Rattle.room_types.specs.declared.tables.Incident.{Incident};
-ghost use Rattle.room_model.specs.Decisions.{Decided, where_active};
+ghost use Rattle.room_model.specs.Decisions.{Verdict, where_active};
 ghost use Rattle.room_model.specs.Queries.{incident_of};
 ghost use Rattle.room_model.specs.Slices.{room_of};
 
@@ -17,7 +17,12 @@ use room_types::tables::Incident;
 #[tactic(auto, unfolding(room_model::specs::Decisions::refuse_if, room_model::specs::Queries::incident_of))]
 pub fn active(slice: &Slice, number: Number) -> Result<&Incident, Refusal>
     // Whatever is decided of an active incident, in whichever plan.
-    ensures decided { (plan : List Area) (decide : Incident → Decided) → MatchResult result (λ i. where_active (incident_of slice.now.division number (room_of plan slice.now.rows)) decide ≡ decide i.now) (λ refusal. where_active (incident_of slice.now.division number (room_of plan slice.now.rows)) decide ≡ Err refusal) }
+    ensures decided { (plan : List Area) (decide : Incident → Verdict)
+        → MatchResult result (λ i.
+        where_active (incident_of slice.now.division number
+        (room_of plan slice.now.rows)) decide ≡ decide i.now) (λ refusal.
+        where_active (incident_of slice.now.division number
+        (room_of plan slice.now.rows)) decide ≡ Err refusal) }
     ensures division { IfOk result (λ i. i.now.division ≡ slice.now.division) }
     ensures number { IfOk result (λ i. i.now.number ≡ number) }
 {

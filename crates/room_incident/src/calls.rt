@@ -6,7 +6,7 @@ ghost use Rattle.room_model.specs.Calls.{call_in, call_new, call_row, new_incide
 ghost use Rattle.room_model.specs.Queries.{last_number, link_target};
 ghost use Rattle.room_model.specs.Slices.{room_of};
 ghost use Rattle.room_incident.specs.CallsOf.{is_call_of};
-ghost use Rattle.room_incident.specs.Taken.{decided_of_taken, Covers};
+ghost use Rattle.room_incident.specs.Taken.{verdict_of_taken, Covers};
 
 use crate::links::nearest;
 use room_place::plans::DivisionNumber;
@@ -34,7 +34,9 @@ pub struct Taken {
 /// Refused as `NumbersUsedUp` where it makes a new one and the last number is given out.
 #[tactic(auto, unfolding(room_model::specs::Decisions::refuse_if, room_model::specs::Calls::call_in))]
 pub fn take_call(slice: &Slice, new: &NewCall) -> Result<Taken, Refusal>
-    ensures taken { (plan : List Area) → decided_of_taken result ≡ call_in slice.now.division new.now (room_of plan slice.now.rows) }
+    ensures taken { (plan : List Area)
+        → verdict_of_taken result ≡ call_in slice.now.division new.now
+        (room_of plan slice.now.rows) }
     ensures covers { IfOk result (Covers new.now) }
 {
     match target(slice, new) {
@@ -44,7 +46,9 @@ pub fn take_call(slice: &Slice, new: &NewCall) -> Result<Taken, Refusal>
 }
 
 fn target<'a>(slice: &'a Slice, new: &NewCall) -> Option<&'a Incident>
-    ensures target { (plan : List Area) → option_copied result ≡ link_target slice.now.division new.now.place new.now.at (room_of plan slice.now.rows) }
+    ensures target { (plan : List Area)
+        → option_copied result ≡ link_target slice.now.division new.now.place new.now.at
+        (room_of plan slice.now.rows) }
     ensures active { IfSome result (λ i. is_active i.now.state ≡ true) }
     ensures division { IfSome result (λ i. i.now.division ≡ slice.now.division) }
 {
@@ -55,7 +59,11 @@ fn target<'a>(slice: &'a Slice, new: &NewCall) -> Option<&'a Incident>
 fn linked(division: DivisionNumber, incident: &Incident, new: &NewCall) -> Taken
     requires active { is_active incident.now.state ≡ true }
     requires division { incident.now.division ≡ division }
-    ensures rows { result ≡ record { call = call_row division incident.now.number true new.now; incident = with_call new.now incident.now; division = None } }
+    ensures rows { result ≡ record {
+      call = call_row division incident.now.number true new.now;
+      incident = with_call new.now incident.now;
+      division = None;
+    } }
     ensures covers { Covers new.now result }
 {
     Taken {
@@ -67,7 +75,9 @@ fn linked(division: DivisionNumber, incident: &Incident, new: &NewCall) -> Taken
 
 #[tactic(auto, using(crate::proofs::CallLaws::opened_covers), unfolding(room_model::specs::Decisions::refuse_if, room_model::specs::Queries::last_number))]
 fn opened(slice: &Slice, new: &NewCall) -> Result<Taken, Refusal>
-    ensures taken { (plan : List Area) → decided_of_taken result ≡ call_new slice.now.division new.now (last_number slice.now.division (room_of plan slice.now.rows)) }
+    ensures taken { (plan : List Area)
+        → verdict_of_taken result ≡ call_new slice.now.division new.now
+        (last_number slice.now.division (room_of plan slice.now.rows)) }
     ensures covers { IfOk result (Covers new.now) }
 {
     let Some(division) = slice.rows.divisions.get(&slice.division) else {

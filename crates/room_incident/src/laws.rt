@@ -8,5 +8,6 @@ ghost use Rattle.room_model.specs.Room.{Room};
 
 /// What a room decides of a call that it does not have is decided in the division of its place.
 pub fn new_calls_are_taken_in_their_division()
-    ensures { (d : ℕ) (new : NewCall) (r : Room) → kept_call new.position new.serial r ≡ None → division_of r.plan new.place ≡ Some d → take_call new r ≡ call_in d new r }
+    ensures { (d : ℕ) (new : NewCall) (r : Room) → kept_call new.position new.serial r ≡ None
+        → division_of r.plan new.place ≡ Some d → take_call new r ≡ call_in d new r }
 {}

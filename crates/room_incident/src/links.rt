@@ -25,8 +25,11 @@ const LINK_AGE: u32 = 900;
 /// The incidents are one division's (the caller sees to that).
 pub fn link_target(incidents: &Rows<Incident>, place: &Place, at: Moment) -> Option<Number>
     // In any room of these incidents.
-    ensures room { (d : ℕ) (r : Room) → r.incidents ≡ incidents.now → list_all (owns_incident d) incidents.now ≡ true → result ≡ option_map (λ i. i.number) (link_target d place.now at r) }
-    ensures nearest { (d : ℕ) → list_all (owns_incident d) incidents.now ≡ true → IsLinkTarget d place.now at incidents.now result }
+    ensures room { (d : ℕ) (r : Room) → r.incidents ≡ incidents.now
+        → list_all (owns_incident d) incidents.now ≡ true
+        → result ≡ option_map (λ i. i.number) (link_target d place.now at r) }
+    ensures nearest { (d : ℕ) → list_all (owns_incident d) incidents.now ≡ true
+        → IsLinkTarget d place.now at incidents.now result }
 {
     match nearest(incidents, place, at) {
         Some(incident) => Some(incident.number),
@@ -40,7 +43,8 @@ pub(crate) fn nearest<'a>(
     place: &Place,
     at: Moment,
 ) -> Option<&'a Incident>
-    ensures { option_copied result ≡ least (is_nearer place.now) (filter (is_open_near place.now at) incidents.now) }
+    ensures { option_copied result ≡ least (is_nearer place.now)
+        (filter (is_open_near place.now at) incidents.now) }
 {
     let mut nearest: Option<&Incident> = None;
     for incident in incidents.as_slice() {

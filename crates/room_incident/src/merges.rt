@@ -10,8 +10,8 @@ ghost use Rattle.room_model.specs.Incidents.{joined, merge, moved_call};
 ghost use Rattle.room_model.specs.Moments.{earlier};
 ghost use Rattle.room_model.specs.Queries.{calls_of};
 ghost use Rattle.room_model.specs.Slices.{room_of};
-ghost use Rattle.room_incident.specs.Decided.{IsDecided};
-ghost use Rattle.room_incident.specs.Joined.{Joins, decided_of_joined};
+ghost use Rattle.room_incident.specs.Verdicts.{DecidesAs};
+ghost use Rattle.room_incident.specs.Joined.{Joins, verdict_of_joined};
 
 use crate::calls::is_call_of;
 use crate::served::is_attended;
@@ -42,8 +42,12 @@ pub struct Joined {
 /// has an open turn. `Memory` may be refused where nothing else is.
 #[tactic(auto, unfolding(room_model::specs::Decisions::refuse_if, room_model::specs::Incidents::merge, room_model::specs::Queries::incident_of))]
 pub fn merge(alloc: Global, slice: &Slice, from: Number, into: Number) -> Result<Joined, Refusal>
-    ensures joined { (plan : List Area) → IsDecided decided_of_joined result (merge slice.now.division from into (room_of plan slice.now.rows)) }
-    ensures joins { IfOk result (λ j. (n m : Incident) → incident_at slice.now.division from slice.now.rows ≡ Some n → incident_at slice.now.division into slice.now.rows ≡ Some m → Joins n m j) }
+    ensures joined { (plan : List Area)
+        → DecidesAs verdict_of_joined result
+        (merge slice.now.division from into (room_of plan slice.now.rows)) }
+    ensures joins { IfOk result (λ j. (n m : Incident)
+        → incident_at slice.now.division from slice.now.rows ≡ Some n
+        → incident_at slice.now.division into slice.now.rows ≡ Some m → Joins n m j) }
 {
     let Some(source) = slice.rows.incidents.get(&(slice.division, from)) else {
         return Err(Refusal::NoSuchIncident);
@@ -104,7 +108,9 @@ fn moved_calls(
     from: Number,
     into: Number,
 ) -> Result<Listed<Call>, AllocError>
-    ensures puts { IfOk result (λ moved. (plan : List Area) → map PutCall moved ≡ map (moved_call into) (calls_of slice.now.division from (room_of plan slice.now.rows))) }
+    ensures puts { IfOk result (λ moved. (plan : List Area)
+        → map PutCall moved ≡ map (moved_call into)
+        (calls_of slice.now.division from (room_of plan slice.now.rows))) }
     ensures all { IfOk result (λ moved. (c : Call) → Among c moved → c.incident ≡ into) }
 {
     let mut moved = Listed::new(alloc);

@@ -8,7 +8,7 @@ ghost use Rattle.room_types.specs.declared.tables.Turn.{Turn};
 ghost use Rattle.room_model.specs.Incidents.{change_needs, close, is_below};
 ghost use Rattle.room_model.specs.Queries.{served};
 ghost use Rattle.room_model.specs.Slices.{room_of};
-ghost use Rattle.room_incident.specs.Decided.{put_decided};
+ghost use Rattle.room_incident.specs.Verdicts.{put_verdict};
 
 use crate::active::active;
 use crate::served::{is_attended, served};
@@ -25,8 +25,11 @@ use room_types::tables::Incident;
 /// below what the incident got of that kind.
 #[tactic(auto, unfolding(room_model::specs::Decisions::refuse_if, room_model::specs::Incidents::change_needs))]
 pub fn change_needs(slice: &Slice, number: Number, needs: Needs) -> Result<Incident, Refusal>
-    ensures decided { (plan : List Area) → put_decided result ≡ change_needs slice.now.division number needs (room_of plan slice.now.rows) }
-    ensures served { IfOk result (λ i. (plan : List Area) (k : Kind) → served slice.now.division number k (room_of plan slice.now.rows) ≤ need_of i.needs k) }
+    ensures decided { (plan : List Area)
+        → put_verdict result ≡ change_needs slice.now.division number needs
+        (room_of plan slice.now.rows) }
+    ensures served { IfOk result (λ i. (plan : List Area) (k : Kind)
+        → served slice.now.division number k (room_of plan slice.now.rows) ≤ need_of i.needs k) }
 {
     let incident = active(slice, number)?;
     if is_below(slice, number, needs) {
@@ -36,7 +39,8 @@ pub fn change_needs(slice: &Slice, number: Number, needs: Needs) -> Result<Incid
 }
 
 fn is_below(slice: &Slice, number: Number, needs: Needs) -> bool
-    ensures { (plan : List Area) → result ≡ is_below needs (λ k. served slice.now.division number k (room_of plan slice.now.rows)) }
+    ensures { (plan : List Area) → result ≡ is_below needs (λ k.
+        served slice.now.division number k (room_of plan slice.now.rows)) }
 {
     let turns = &slice.rows.turns;
     (needs.of(Kind::Ambulance).get() as usize)
@@ -52,8 +56,10 @@ fn is_below(slice: &Slice, number: Number, needs: Needs) -> bool
 /// open turn.
 #[tactic(auto, unfolding(room_model::specs::Decisions::refuse_if, room_model::specs::Incidents::close))]
 pub fn close(slice: &Slice, number: Number) -> Result<Incident, Refusal>
-    ensures decided { (plan : List Area) → put_decided result ≡ close slice.now.division number (room_of plan slice.now.rows) }
-    ensures ended { IfOk result (λ i. (t : Turn) → Among t slice.now.rows.turns → t.division ≡ slice.now.division → t.incident ≡ number → IsSome t.ended) }
+    ensures decided { (plan : List Area)
+        → put_verdict result ≡ close slice.now.division number (room_of plan slice.now.rows) }
+    ensures ended { IfOk result (λ i. (t : Turn) → Among t slice.now.rows.turns
+        → t.division ≡ slice.now.division → t.incident ≡ number → IsSome t.ended) }
 {
     let incident = active(slice, number)?;
     if is_attended(&slice.rows.turns, slice.division, number) {

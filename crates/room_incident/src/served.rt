@@ -26,7 +26,8 @@ pub fn served(turns: &Rows<Turn>, division: DivisionNumber, number: Number, kind
 /// How many vehicles of the kind the incident lacks: what it needs less what it got, 0 where it
 /// got as many or more.
 pub fn lack(incident: &Incident, turns: &Rows<Turn>, kind: Kind) -> Need
-    ensures { (d : ℕ) (r : Room) → r.turns ≡ turns.now → incident.now.division ≡ d → result ≡ lacking d incident.now r kind }
+    ensures { (d : ℕ) (r : Room) → r.turns ≡ turns.now → incident.now.division ≡ d
+        → result ≡ lacking d incident.now r kind }
 {
     let need = incident.needs.of(kind).get() as usize;
     let got = served(turns, incident.division, incident.number, kind);
@@ -35,7 +36,8 @@ pub fn lack(incident: &Incident, turns: &Rows<Turn>, kind: Kind) -> Need
 
 /// What the incident lacks of each kind.
 pub fn lacks(incident: &Incident, turns: &Rows<Turn>) -> Counts
-    ensures { (d : ℕ) (r : Room) → r.turns ≡ turns.now → incident.now.division ≡ d → result ≡ needs_by (lacking d incident.now r) }
+    ensures { (d : ℕ) (r : Room) → r.turns ≡ turns.now → incident.now.division ≡ d
+        → result ≡ needs_by (lacking d incident.now r) }
 {
     Counts {
         ambulances: lack(incident, turns, Kind::Ambulance),

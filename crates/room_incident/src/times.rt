@@ -32,7 +32,9 @@ pub fn times(
 ) -> Result<Times, Refusal>
     requires { AreOneDivisions incidents.now }
     // In any room of these incidents.
-    ensures times { IfOk result (λ times. (d : ℕ) (r : Room) → r.incidents ≡ incidents.now → list_all (owns_incident d) incidents.now ≡ true → show (answer.Times times) ≡ show_times d from to r) }
+    ensures times { IfOk result (λ times. (d : ℕ) (r : Room) → r.incidents ≡ incidents.now
+        → list_all (owns_incident d) incidents.now ≡ true
+        → show (answer.Times times) ≡ show_times d from to r) }
     ensures rising { IfOk result (λ times. IsKeyed nat_cmp line_number times.lines) }
     ensures memory { IfErr result (λ refusal. refusal ≡ Memory) }
     ensures listing { OnErr result (list_any (is_opened_between from to) incidents.now ≡ true) }
@@ -54,7 +56,8 @@ fn lines_between(
     to: i64,
 ) -> Result<Listed<TimesLine>, Refusal>
     requires { AreOneDivisions incidents.now }
-    ensures lines { IfOk result (λ lines. lines ≡ map times_line (filter (is_opened_between from to) incidents.now)) }
+    ensures lines { IfOk result (λ lines.
+        lines ≡ map times_line (filter (is_opened_between from to) incidents.now)) }
     ensures rising { IfOk result (λ lines. IsKeyed nat_cmp line_number lines) }
     ensures few { IfOk result (λ lines. length lines < 2 ^ 32) }
     ensures memory { IfErr result (λ refusal. refusal ≡ Memory) }

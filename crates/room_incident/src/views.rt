@@ -28,9 +28,12 @@ use std::alloc::Global;
 /// lacks. The one refusal is `Memory`, where there is such an incident.
 #[tactic(auto, unfolding(room_model::specs::Incidents::show_incidents))]
 pub fn incident_lines(alloc: Global, slice: &Slice) -> Result<Listed<IncidentLine>, Refusal>
-    ensures lines { IfOk result (λ lines. (plan : List Area) → show (answer.Incidents lines) ≡ show_incidents slice.now.division (room_of plan slice.now.rows)) }
+    ensures lines { IfOk result (λ lines. (plan : List Area)
+        → show (answer.Incidents lines) ≡ show_incidents slice.now.division
+        (room_of plan slice.now.rows)) }
     ensures memory { IfErr result (λ refusal. refusal ≡ Memory) }
-    ensures listing { OnErr result (list_any (λ i. is_active i.state) slice.now.rows.incidents ≡ true) }
+    ensures listing { OnErr result (list_any (λ i.
+        is_active i.state) slice.now.rows.incidents ≡ true) }
 {
     let mut lines = Listed::new(alloc);
     for incident in slice.rows.incidents.as_slice() {
@@ -44,7 +47,8 @@ pub fn incident_lines(alloc: Global, slice: &Slice) -> Result<Listed<IncidentLin
 #[tactic(auto, unfolding(room_model::specs::Queries::calls_of))]
 fn incident_line(slice: &Slice, incident: &Incident) -> IncidentLine
     requires { incident.now.division ≡ slice.now.division }
-    ensures { (plan : List Area) → result ≡ incident_line slice.now.division (room_of plan slice.now.rows) incident.now }
+    ensures { (plan : List Area) → result ≡ incident_line slice.now.division
+        (room_of plan slice.now.rows) incident.now }
 {
     IncidentLine {
         number: incident.number,
@@ -58,12 +62,15 @@ fn incident_line(slice: &Slice, incident: &Incident) -> IncidentLine
 }
 
 /// The times of the division's active and closed incidents that were opened from one second (of UTC
-/// since 1970) and before another, in number order. The one refusal is `Memory`, where there is such
-/// an incident.
+/// since 1970) and before another, in number order. The one refusal is `Memory`, where there is
+/// such an incident.
 pub fn day_times(alloc: Global, slice: &Slice, from: i64, to: i64) -> Result<Times, Refusal>
-    ensures times { IfOk result (λ times. (plan : List Area) → show (answer.Times times) ≡ show_times slice.now.division from to (room_of plan slice.now.rows)) }
+    ensures times { IfOk result (λ times. (plan : List Area)
+        → show (answer.Times times) ≡ show_times slice.now.division from to
+        (room_of plan slice.now.rows)) }
     ensures memory { IfErr result (λ refusal. refusal ≡ Memory) }
-    ensures listing { OnErr result (list_any (is_opened_between from to) slice.now.rows.incidents ≡ true) }
+    ensures listing { OnErr result
+        (list_any (is_opened_between from to) slice.now.rows.incidents ≡ true) }
 {
     times(alloc, &slice.rows.incidents, from, to)
 }

@@ -23,7 +23,7 @@ use Rattle.room_model.proofs.Tests.{among_filter, first_among, left_true, row_ke
 use Rattle.room_types.specs.Codes.{is_active}
 use Rattle.room_model.specs.Crossing.{is_local}
 use Rattle.room_model.specs.DayTimes.{show_times}
-use Rattle.room_model.specs.Decisions.{Decided, changes_of, refuse_if, where_active, where_held}
+use Rattle.room_model.specs.Decisions.{Verdict, changes_of, refuse_if, where_active, where_held}
 use Rattle.room_model.specs.Incidents.{change_needs, close, joined, merge, merge_of, moved_call, show_incidents}
 use Rattle.room_model.specs.Loans.{show_loans, show_offers}
 use Rattle.room_model.specs.Moments.{first_of}
@@ -40,19 +40,19 @@ use Rattle.room_types.specs.declared.asks.Ask.TheVariants as ask
 use Rattle.room_types.specs.declared.refusals.Refusal.TheVariants as refusal
 
 module _ (d h : ℕ) (r : Room) (w : IsWellFormed r) (apart : h == d ≡ false) where
-  abbrev pub LeavesShare : Decided → Type 0
+  abbrev pub LeavesShare : Verdict → Type 0
   LeavesShare x = AllForeign d (own d r) (changes_of x)
 
-  pub refuse_leaves : (b : Bool) (e : Refusal) (x : Decided) → LeavesShare x → LeavesShare (refuse_if b e x)
+  pub refuse_leaves : (b : Bool) (e : Refusal) (x : Verdict) → LeavesShare x → LeavesShare (refuse_if b e x)
   unfolding refuse_if
   refuse_leaves true e x f = tt
   refuse_leaves false e x f = f
 
-  pub held_leaves : (o : Option Vehicle) (l : Option Loan) (f : Vehicle → Decided) → ((v : Vehicle) → o ≡ Some v → LeavesShare (f v)) → LeavesShare (where_held o l f)
+  pub held_leaves : (o : Option Vehicle) (l : Option Loan) (f : Vehicle → Verdict) → ((v : Vehicle) → o ≡ Some v → LeavesShare (f v)) → LeavesShare (where_held o l f)
   held_leaves None l f g = tt
   held_leaves (Some v) l f g = g v refl
 
-  pub active_leaves : (o : Option Incident) (f : Incident → Decided) → ((i : Incident) → o ≡ Some i → LeavesShare (f i)) → LeavesShare (where_active o f)
+  pub active_leaves : (o : Option Incident) (f : Incident → Verdict) → ((i : Incident) → o ≡ Some i → LeavesShare (f i)) → LeavesShare (where_active o f)
   active_leaves None f g = tt
   active_leaves (Some i) f g = refuse_leaves (not (is_active i.state)) refusal.IncidentNotOpen (f i) (g i refl)
 

@@ -20,7 +20,7 @@ use Rattle.room_model.proofs.Tests.{map_among, row_key}
 use Rattle.room_types.specs.Codes.{is_active}
 use Rattle.room_types.specs.Needs.{need_of, needs_by}
 use Rattle.room_model.specs.DayTimes.{show_times, times_line, times_of}
-use Rattle.room_model.specs.Decisions.{Decided, refuse_if, show, where_active, where_held}
+use Rattle.room_model.specs.Decisions.{Verdict, refuse_if, show, where_active, where_held}
 use Rattle.room_model.specs.Incidents.{change_needs, close, close_active, incident_line, lacking, merge, merge_of, needs_changed, show_incidents}
 use Rattle.room_model.specs.Loans.{accept, accepted, decline, declined, give_back, given_back, lend, offered, recall, recall_lent, show_loans, show_offers, withdraw, withdrawn}
 use Rattle.room_model.specs.Points.{breaks_post, is_short, point_line, show_points}
@@ -34,7 +34,7 @@ use Rattle.room_types.specs.declared.refusals.Refusal.TheVariants as refusal
 
 module _ (d : ℕ) (s r : Room) (sees : SeesVehicles d s r) where
   -- ---- vehicles
-  where_same : (c : Callsign) (f : Vehicle → Decided) → where_held (held d c s) (lent d c s) f ≡ where_held (held d c r) (lent d c r) f
+  where_same : (c : Callsign) (f : Vehicle → Verdict) → where_held (held d c s) (lent d c s) f ≡ where_held (held d c r) (lent d c r) f
   where_same c f = ap (λ v. where_held v (lent d c s) f) (sees.same_held c) ∙ ap (λ l. where_held (held d c r) l f) (sees.same_lent c)
 
   pub vehicles_same : show_vehicles d s ≡ show_vehicles d r
@@ -161,9 +161,9 @@ module _ (d : ℕ) (s r : Room) (sees : SeesVehicles d s r) where
       ∙ ap (λ ps. proposed d i at r Ambulance ++ (ps ++ proposed d i at s Support)) (proposed_same i at Car (h Car))
       ∙ ap (λ ps. proposed d i at r Ambulance ++ (proposed d i at r Car ++ ps)) (proposed_same i at Support (h Support))
 
-  active_same : (o : Option Incident) (f g : Incident → Decided) → ((i : Incident) → o ≡ Some i → f i ≡ g i) → where_active o f ≡ where_active o g
+  active_same : (o : Option Incident) (f g : Incident → Verdict) → ((i : Incident) → o ≡ Some i → f i ≡ g i) → where_active o f ≡ where_active o g
   active_same None f g h = refl
-  active_same (Some i) f g h = ap (λ (x : Decided). refuse_if (not (is_active i.state)) refusal.IncidentNotOpen x) (h i refl)
+  active_same (Some i) f g h = ap (λ (x : Verdict). refuse_if (not (is_active i.state)) refusal.IncidentNotOpen x) (h i refl)
 
   -- an incident that was looked up has its number
   named : (n : ℕ) (i : Incident) → incident_of d n r ≡ Some i → i.number ≡ n

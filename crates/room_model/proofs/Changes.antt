@@ -33,7 +33,7 @@ use Rattle.room_model.proofs.Tests.{among_filter}
 use Rattle.room_model.specs.Calls.{call_in, call_kept, call_somewhere, call_taken, new_call}
 use Rattle.room_types.specs.Codes.{is_active}
 use Rattle.room_model.specs.DayTimes.{show_times}
-use Rattle.room_model.specs.Decisions.{Decided, changes_of, refuse_if, show, where_active, where_held}
+use Rattle.room_model.specs.Decisions.{Verdict, changes_of, refuse_if, show, where_active, where_held}
 use Rattle.room_model.specs.Incidents.{change_needs, close, close_active, merge, merge_of, moved_call, needs_changed, show_incidents}
 use Rattle.room_model.specs.Loans.{accept, accepted, decline, declined, give_back, given_back, lend, offered, recall, recall_lent, show_loans, show_offers, withdraw, withdrawn}
 use Rattle.room_model.specs.Points.{show_points}
@@ -74,17 +74,17 @@ abbrev pub AllowsSettling : (Change → Type 0) → Type 0
 AllowsSettling Q = (c : Callsign) (d : ℕ) → Q (Settle c d)
 
 module _ (r : Room) (Q : Change → Type 0) (q : Allows r Q) where
-  abbrev Holds : Decided → Type 0
+  abbrev Holds : Verdict → Type 0
   Holds x = AllOf Q (changes_of x)
 
-  refuse : (b : Bool) (e : Refusal) (x : Decided) → Holds x → Holds (refuse_if b e x)
+  refuse : (b : Bool) (e : Refusal) (x : Verdict) → Holds x → Holds (refuse_if b e x)
   refuse b e x f = by_refuse Holds b e x tt (λ g. f)
 
-  by_vehicle : (o : Option Vehicle) (l : Option Loan) (f : Vehicle → Decided) → ((v : Vehicle) → Holds (f v)) → Holds (where_held o l f)
+  by_vehicle : (o : Option Vehicle) (l : Option Loan) (f : Vehicle → Verdict) → ((v : Vehicle) → Holds (f v)) → Holds (where_held o l f)
   by_vehicle None l f g = tt
   by_vehicle (Some v) l f g = g v
 
-  by_incident : (o : Option Incident) (f : Incident → Decided) → ((i : Incident) → Holds (f i)) → Holds (where_active o f)
+  by_incident : (o : Option Incident) (f : Incident → Verdict) → ((i : Incident) → Holds (f i)) → Holds (where_active o f)
   by_incident None f g = tt
   by_incident (Some i) f g = refuse (not (is_active i.state)) refusal.IncidentNotOpen (f i) (g i)
 

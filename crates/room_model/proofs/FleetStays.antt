@@ -39,7 +39,7 @@ use Rattle.room_model.proofs.VehicleRows.{settle}
 use Rattle.room_model.specs.Calls.{call_in, call_kept, call_new, call_somewhere, call_taken, new_call}
 use Rattle.room_types.specs.Codes.{acts, same_kind}
 use Rattle.room_model.specs.DayTimes.{show_times}
-use Rattle.room_model.specs.Decisions.{Decided, changes_of, refuse_if, show, tell, where_active, where_held}
+use Rattle.room_model.specs.Decisions.{Verdict, changes_of, refuse_if, show, tell, where_active, where_held}
 use Rattle.room_model.specs.Enrol.{AreTerminals, fate_by, fate_of, fleet_at, home_and_kind, is_crews_terminal, terminal_at}
 use Rattle.room_model.specs.Incidents.{change_needs, close, close_active, merge, merge_of, moved_call, needs_changed, show_incidents}
 use Rattle.room_model.specs.Loans.{accept, accepted, decline, declined, give_back, given_back, lend, offered, recall, recall_lent, show_loans, show_offers, withdraw, withdrawn}
@@ -90,25 +90,25 @@ fleet_after c r (x ∷ xs) h = fleet_after c (apply_one r x) xs (all_still_keep 
 
 -- ---- each decision's changes
 module _ (r : Room) where
-  abbrev SameFleet : Decided → Type 0
+  abbrev SameFleet : Verdict → Type 0
   SameFleet x = AllKeepFleet r (changes_of x)
 
   -- the vehicle is there with its home and kind
   abbrev IsThere : Vehicle → Type 0
   IsThere v = fleet_at v.callsign r ≡ Some (home_and_kind v)
 
-  refused_fleet : (b : Bool) (e : Refusal) (x : Decided) → SameFleet x → SameFleet (refuse_if b e x)
+  refused_fleet : (b : Bool) (e : Refusal) (x : Verdict) → SameFleet x → SameFleet (refuse_if b e x)
   unfolding refuse_if
   refused_fleet true e x f = tt
   refused_fleet false e x f = f
 
-  held_fleet : (d : ℕ) (c : Callsign) (f : Vehicle → Decided) → ((v : Vehicle) → IsThere v → SameFleet (f v)) → SameFleet (where_held (held d c r) (lent d c r) f)
+  held_fleet : (d : ℕ) (c : Callsign) (f : Vehicle → Verdict) → ((v : Vehicle) → IsThere v → SameFleet (f v)) → SameFleet (where_held (held d c r) (lent d c r) f)
   held_fleet d c f g = (elim (held d c r) as (λ (o : Option Vehicle). held d c r ≡ o → SameFleet (where_held o (lent d c r) f)) [
     | None ↦ λ e. tt
     | Some v ↦ λ e. g v (ap (option_map home_and_kind) (held_is d c r v e).there)
   ]) refl
 
-  active_fleet : (o : Option Incident) (f : Incident → Decided) → ((i : Incident) → SameFleet (f i)) → SameFleet (where_active o f)
+  active_fleet : (o : Option Incident) (f : Incident → Verdict) → ((i : Incident) → SameFleet (f i)) → SameFleet (where_active o f)
   active_fleet None f g = tt
   active_fleet (Some i) f g = refused_fleet _ _ _ (g i)
 
@@ -210,7 +210,7 @@ module _ (r : Room) where
   back_fleet c true = (tt, tt)
   back_fleet c false = tt
 
-  either_fleet : (b : Bool) (x y : Decided) → SameFleet x → SameFleet y → SameFleet (cond b x y)
+  either_fleet : (b : Bool) (x y : Verdict) → SameFleet x → SameFleet y → SameFleet (cond b x y)
   either_fleet true x y f g = f
   either_fleet false x y f g = g
 

@@ -27,7 +27,7 @@ use Rattle.room_model.proofs.Tests.{or_left, or_right, row_key}
 use Rattle.room_model.specs.Alone.{freed, marked, share_by}
 use Rattle.room_types.specs.Codes.{is_free, is_offered}
 use Rattle.room_model.specs.Crossing.{Arrive, Crossing, Declined, Left, OfferIn, Recalled, Withdrawn, cross_other, is_loan_ended, is_local, is_offered_by, is_offered_to, newly_recalled}
-use Rattle.room_model.specs.Decisions.{Decided, changes_of, done, refuse_if, where_held}
+use Rattle.room_model.specs.Decisions.{Verdict, changes_of, done, refuse_if, where_held}
 use Rattle.room_model.specs.Loans.{accept, accepted, decline, declined, give_back, given_back, lend, lender_of, loan_row, offer_row, offered, recall, recall_lent, withdraw, withdrawn}
 use Rattle.room_model.specs.Queries.{borrowed, held, lent, loan_at, offer_at, offered_by, offered_to, vehicle_at}
 use Rattle.room_model.specs.Room.{Room, apply, apply_one, settled}
@@ -63,15 +63,15 @@ free_if true g = refl
 free_if false g = cc
 
 module _ (d h : ℕ) (r : Room) (w : IsWellFormed r) (apart : h == d ≡ false) where
-  abbrev pub Isolated : Ask → Decided → Type 0
+  abbrev pub Isolated : Ask → Verdict → Type 0
   Isolated a x = own d (apply r (changes_of x)) ≡ share_by d (own d r) (cond (is_ok x) (cross_other d h a r (apply r (changes_of x))) None)
 
-  refuse_isolated : (a : Ask) (b : Bool) (e : Refusal) (x : Decided) → (b ≡ false → Isolated a x) → Isolated a (refuse_if b e x)
+  refuse_isolated : (a : Ask) (b : Bool) (e : Refusal) (x : Verdict) → (b ≡ false → Isolated a x) → Isolated a (refuse_if b e x)
   unfolding refuse_if
   refuse_isolated a true e x f = refl
   refuse_isolated a false e x f = f refl
 
-  held_isolated : (a : Ask) (o : Option Vehicle) (l : Option Loan) (f : Vehicle → Decided) → ((v : Vehicle) → o ≡ Some v → Isolated a (f v)) → Isolated a (where_held o l f)
+  held_isolated : (a : Ask) (o : Option Vehicle) (l : Option Loan) (f : Vehicle → Verdict) → ((v : Vehicle) → o ≡ Some v → Isolated a (f v)) → Isolated a (where_held o l f)
   held_isolated a None l f g = refl
   held_isolated a (Some v) l f g = g v refl
 

@@ -23,7 +23,7 @@ use Rattle.room_model.proofs.VehicleAgreements.{Agrees, IsLast, agreed, free_is_
 use Rattle.room_model.proofs.VehicleChanges.{idle_agrees, is_true, like_post, mobilised_agrees, off_is, replaced}
 use Rattle.room_model.proofs.VehicleRows.{VehicleRows, bare, put_at, put_here, rows_of}
 use Rattle.room_types.specs.Codes.{is_active, is_busy, is_free, is_offered}
-use Rattle.room_model.specs.Decisions.{Decided, changes_of, done, refuse_if, where_active, where_held}
+use Rattle.room_model.specs.Decisions.{Verdict, changes_of, done, refuse_if, where_active, where_held}
 use Rattle.room_model.specs.Moments.{first_of}
 use Rattle.room_model.specs.Queries.{held, incident_of, lent, open_turn, point_of, served}
 use Rattle.room_model.specs.Room.{Room, apply}
@@ -70,21 +70,21 @@ abbrev pub stood_down_turn : ℕ → Turn → Turn
 stood_down_turn at t = record t { ended = Some at; stood_down = true }
 
 module _ (d : ℕ) (r : Room) (w : IsWellFormed r) where
-  abbrev pub Kept : Decided → Type 0
+  abbrev pub Kept : Verdict → Type 0
   Kept x = IsWellFormed (apply r (changes_of x))
 
-  pub refuse_kept : (b : Bool) (e : Refusal) (x : Decided) → (b ≡ false → Kept x) → Kept (refuse_if b e x)
+  pub refuse_kept : (b : Bool) (e : Refusal) (x : Verdict) → (b ≡ false → Kept x) → Kept (refuse_if b e x)
   unfolding refuse_if
   refuse_kept true e x f = w
   refuse_kept false e x f = f refl
 
-  pub held_kept : (c : Callsign) (f : Vehicle → Decided) → ((v : Vehicle) → IsHeld d c r v → Agrees (bare r) (record (rows_of v.callsign r) { vehicle = Some v }) → Kept (f v)) → Kept (where_held (held d c r) (lent d c r) f)
+  pub held_kept : (c : Callsign) (f : Vehicle → Verdict) → ((v : Vehicle) → IsHeld d c r v → Agrees (bare r) (record (rows_of v.callsign r) { vehicle = Some v }) → Kept (f v)) → Kept (where_held (held d c r) (lent d c r) f)
   held_kept c f g = (elim (held d c r) as (λ (o : Option Vehicle). held d c r ≡ o → Kept (where_held o (lent d c r) f)) [
     | None ↦ λ e. w
     | Some v ↦ λ e. let is = held_is d c r v e in g v is (known (bare r) (rows_of v.callsign r) v is.there (agreed r w v.callsign))
   ]) refl
 
-  pub active_kept : (n : ℕ) (f : Incident → Decided) → ((i : Incident) → incident_of d n r ≡ Some i → is_active i.state ≡ true → Kept (f i)) → Kept (where_active (incident_of d n r) f)
+  pub active_kept : (n : ℕ) (f : Incident → Verdict) → ((i : Incident) → incident_of d n r ≡ Some i → is_active i.state ≡ true → Kept (f i)) → Kept (where_active (incident_of d n r) f)
   active_kept n f g = (elim (incident_of d n r) as (λ (o : Option Incident). incident_of d n r ≡ o → Kept (where_active o f)) [
     | None ↦ λ e. w
     | Some i ↦ λ e. refuse_kept _ _ _ (λ active. g i e (is_true _ active))

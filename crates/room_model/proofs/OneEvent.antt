@@ -21,7 +21,7 @@ use Rattle.room_model.specs.Alone.{share_by}
 use Rattle.room_types.specs.Codes.{is_active}
 use Rattle.room_model.specs.Crossing.{cross, cross_other, cross_own}
 use Rattle.room_model.specs.DayTimes.{show_times}
-use Rattle.room_model.specs.Decisions.{Decided, changes_of, refuse_if, show, where_active, where_held}
+use Rattle.room_model.specs.Decisions.{Verdict, changes_of, refuse_if, show, where_active, where_held}
 use Rattle.room_model.specs.Incidents.{change_needs, close, close_active, merge, merge_of, moved_call, needs_changed, show_incidents}
 use Rattle.room_model.specs.Loans.{give_back, given_back, lend, offered, recall, recall_lent, show_loans, show_offers, withdraw, withdrawn}
 use Rattle.room_model.specs.Points.{show_points}
@@ -44,16 +44,16 @@ other_desk d h r a at w apart =
     ∙ sym (ap (λ (b : Bool). share_by d (own d r) (cond b (Some (cross_own (is_ok (desk_asks h a at r)) (record { who = Desk h; ask = a; at = at }) a r)) (cond (is_ok (desk_asks h a at r)) (cross_other d h a r (apply r (changes_of (desk_asks h a at r)))) None))) apart)
 
 -- ---- changes that a share can follow
-plain_refuse : (b : Bool) (e : Refusal) (x : Decided) → ArePlain (changes_of x) → ArePlain (changes_of (refuse_if b e x))
+plain_refuse : (b : Bool) (e : Refusal) (x : Verdict) → ArePlain (changes_of x) → ArePlain (changes_of (refuse_if b e x))
 unfolding refuse_if
 plain_refuse true e x f = tt
 plain_refuse false e x f = f
 
-plain_held : (o : Option Vehicle) (l : Option Loan) (f : Vehicle → Decided) → ((v : Vehicle) → ArePlain (changes_of (f v))) → ArePlain (changes_of (where_held o l f))
+plain_held : (o : Option Vehicle) (l : Option Loan) (f : Vehicle → Verdict) → ((v : Vehicle) → ArePlain (changes_of (f v))) → ArePlain (changes_of (where_held o l f))
 plain_held None l f g = tt
 plain_held (Some v) l f g = g v
 
-plain_active : (o : Option Incident) (f : Incident → Decided) → ((i : Incident) → ArePlain (changes_of (f i))) → ArePlain (changes_of (where_active o f))
+plain_active : (o : Option Incident) (f : Incident → Verdict) → ((i : Incident) → ArePlain (changes_of (f i))) → ArePlain (changes_of (where_active o f))
 plain_active None f g = tt
 plain_active (Some i) f g = plain_refuse (not (is_active i.state)) refusal.IncidentNotOpen (f i) (g i)
 

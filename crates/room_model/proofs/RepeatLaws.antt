@@ -43,7 +43,7 @@ use Rattle.room_model.proofs.Tests.{both_true, is_equal, left_true, right_true, 
 use Rattle.room_model.specs.Calls.{call_in, call_kept, call_row, call_somewhere, call_taken, new_call, new_incident, same_call, take_call, with_call}
 use Rattle.room_types.specs.Codes.{same_button}
 use Rattle.room_types.specs.Needs.{same_needs}
-use Rattle.room_model.specs.Decisions.{Decided, answer_of, changes_of, refuse_if, show, tell}
+use Rattle.room_model.specs.Decisions.{Verdict, answer_of, changes_of, refuse_if, show, tell}
 use Rattle.room_model.specs.Events.{OnlyAnswers, by_crew, by_position}
 use Rattle.room_model.specs.Queries.{borrowed, held, kept_call, kept_report, last_number, link_target, open_turn, vehicle_at}
 use Rattle.room_model.specs.Reports.{ends_turn, is_due, is_home, outcome_of, report_acts, report_held, report_in, report_kept, report_row, report_somewhere, same_press, status_after, vehicle_after, with_report}
@@ -185,12 +185,12 @@ call_spared k r order there = record {
     silent_spared (PutCall x) e = cc
     silent_spared x e = tt
 
-ok_of : (x : Decided) → is_ok (answer_of x) ≡ true → is_ok x ≡ true
+ok_of : (x : Verdict) → is_ok (answer_of x) ≡ true → is_ok x ≡ true
 ok_of (Ok x) e = refl
 ok_of (Err x) e = cc
 
 -- ---- a report that was accepted
-record WasReported (c : Callsign) (p : Press) (r : Room) (x : Decided) : Type 0 where
+record WasReported (c : Callsign) (p : Press) (r : Room) (x : Verdict) : Type 0 where
   row : Report
   key : (c, p.number) ≡ report_key row
   content : same_press row p ≡ true
@@ -210,7 +210,7 @@ same_place_self : (p : Place) → same_place p p ≡ true
 same_place_self p = both_true _ _ (eq-eqb p.east p.east refl) (eq-eqb p.north p.north refl)
 
 module _ (c : Callsign) (p : Press) (at : ℕ) (r : Room) (order : IsInOrder r) where
-  abbrev IfReported : Decided → Type 0
+  abbrev IfReported : Verdict → Type 0
   IfReported x = is_ok x ≡ true → WasReported c p r x
 
   new_row : (v : Vehicle) → c ≡ v.callsign → (o : Outcome) (s : Status) (cs : List Change) → (apply r cs).reports ≡ put_row numbered_cmp report_key r.reports (report_row v p at o s) → WasReported c p r (tell (answer.Reported p.number o s) cs)
@@ -248,17 +248,17 @@ module _ (c : Callsign) (p : Press) (at : ℕ) (r : Room) (order : IsInOrder r) 
       by_refuse IfReported _ _ _ (λ ok. cc) (λ same ok. record { row = k; key = key; content = not_false (same_press k p) same; told = refl; there = (k.cleared, subst (λ (z : Callsign × ℕ). row_at numbered_cmp report_key r.reports z ≡ Some k) key e) })
 
 -- ---- what is decided of it later
-told_if : (b : Bool) (e : Refusal) (x : Decided) → b ≡ true → refuse_if (not b) e x ≡ x
+told_if : (b : Bool) (e : Refusal) (x : Verdict) → b ≡ true → refuse_if (not b) e x ≡ x
 unfolding refuse_if
 told_if true e x h = refl
 told_if false e x h = cc
 
-refused_if : (b : Bool) (e : Refusal) (x : Decided) → (b ≡ true → ⊥) → refuse_if (not b) e x ≡ Err e
+refused_if : (b : Bool) (e : Refusal) (x : Verdict) → (b ≡ true → ⊥) → refuse_if (not b) e x ≡ Err e
 unfolding refuse_if
 refused_if true e x h = absurd (h refl)
 refused_if false e x h = refl
 
-only_answers : (e : Event) (r : Room) (x : Decided) (a : Result Answer Refusal) → decided e r ≡ x → changes_of x ≡ [] → answer_of x ≡ a → OnlyAnswers e r a
+only_answers : (e : Event) (r : Room) (x : Verdict) (a : Result Answer Refusal) → decided e r ≡ x → changes_of x ≡ [] → answer_of x ≡ a → OnlyAnswers e r a
 only_answers e r x a same none told = (ap (λ y. apply r (changes_of y)) same ∙ ap (apply r) none, ap answer_of same ∙ told)
 
 report_later : (c : Callsign) (q : Press) (at : ℕ) (s : Room) (k : Report) → (c, q.number) ≡ report_key k → ReportThere k s → crew_asks c (ask.Report q) at s ≡ refuse_if (not (same_press k q)) refusal.NumberReused (show (answer.Reported k.number k.outcome k.status))
@@ -310,7 +310,7 @@ module _ (c : Callsign) (p : Press) (at : ℕ) (r : Room) (es : List Event) (ord
       (report_later c q later after_report reported.row (ap (λ (n : ℕ). (c, n)) number ∙ reported.key) report_stays ∙ refused_if (same_press reported.row q) refusal.NumberReused _ (λ same. other (one_press reported.row p q reported.content same number))) refl refl
 
 -- ---- a call that was accepted
-record WasTaken (p : ℕ) (f : CallForm) (at : ℕ) (r : Room) (x : Decided) : Type 0 where
+record WasTaken (p : ℕ) (f : CallForm) (at : ℕ) (r : Room) (x : Verdict) : Type 0 where
   row : Call
   key : (p, f.serial) ≡ call_key row
   content : same_call row (new_call p f at) ≡ true
@@ -318,7 +318,7 @@ record WasTaken (p : ℕ) (f : CallForm) (at : ℕ) (r : Room) (x : Decided) : T
   there : CallThere row (apply r (changes_of x))
 
 module _ (p : ℕ) (f : CallForm) (at : ℕ) (r : Room) (order : IsInOrder r) where
-  abbrev IfTaken : Decided → Type 0
+  abbrev IfTaken : Verdict → Type 0
   IfTaken x = is_ok x ≡ true → WasTaken p f at r x
 
   call_content : (d n : ℕ) (linked : Bool) → same_call (call_row d n linked (new_call p f at)) (new_call p f at) ≡ true

@@ -32,7 +32,7 @@ use Rattle.room_model.proofs.OwnDesk.{report_in_own}
 use Rattle.room_model.proofs.Tests.{among_filter, first_among, left_true, right_true}
 use Rattle.room_model.specs.Alone.{share_by, told_by}
 use Rattle.room_model.specs.Crossing.{Arrive, Crossing, ReportIn, arrival, cross_crew, cross_report, is_held_by, is_loan_ended}
-use Rattle.room_model.specs.Decisions.{Decided, changes_of, tell}
+use Rattle.room_model.specs.Decisions.{Verdict, changes_of, tell}
 use Rattle.room_model.specs.Queries.{assignment_at, borrowed, held, kept_report, loan_at, open_turn, vehicle_at}
 use Rattle.room_model.specs.Reports.{back_changes, drop_changes, ends_turn, is_due, is_home, order_of, outcome_of, report_acts, report_held, report_in, report_kept, report_row, report_somewhere, status_after, take_report, turn_after, turn_changes, vehicle_after, with_report}
 use Rattle.room_model.specs.Room.{IsInOrder, Room, apply, apply_one}
@@ -119,7 +119,7 @@ module _ (d h : ℕ) (r : Room) (w : IsWellFormed r) (apart : h == d ≡ false) 
 
   module _ (v : Vehicle) (is : IsHeld h c r v) where
     -- the share after it, by the room after it
-    abbrev HandsOver : Decided → Type 0
+    abbrev HandsOver : Verdict → Type 0
     HandsOver x = own d (apply r (changes_of x)) ≡ share_by d (own d r) (arrival d c r (apply r (changes_of x)))
 
     report_foreign : (o : Outcome) (s : Status) → IsForeign d (own d r) (PutReport (report_row v p at o s))

@@ -11,7 +11,7 @@ use Rattle.room_types.specs.declared.tables.Division.{Division}
 use Rattle.room_types.specs.declared.tables.Incident.{Incident}
 use Rattle.room_types.specs.Needs.{larger, same_needs}
 use Rattle.room_types.specs.Texts.{same_note}
-use Rattle.room_model.specs.Decisions.{Decided, refuse_if, show, tell}
+use Rattle.room_model.specs.Decisions.{Verdict, refuse_if, show, tell}
 use Rattle.room_model.specs.Moments.{number_limit}
 use Rattle.room_model.specs.Queries.{kept_call, last_number, link_target}
 use Rattle.room_model.specs.Room.{Room}
@@ -66,7 +66,7 @@ new_incident d n new = record {
 }
 
 -- a call that makes an incident
-abbrev pub call_new : ℕ → NewCall → Option Division → Decided
+abbrev pub call_new : ℕ → NewCall → Option Division → Verdict
 call_new d new None = Err refusal.NumbersUsedUp
 call_new d new (Some v) = refuse_if (nat_le number_limit v.last_incident) refusal.NumbersUsedUp
     (tell (answer.Called d (v.last_incident + 1) false)
@@ -75,13 +75,13 @@ call_new d new (Some v) = refuse_if (nat_le number_limit v.last_incident) refusa
     ∷ PutCall (call_row d (v.last_incident + 1) false new) ∷ []))
 
 -- a call that is linked, where there is an incident for it
-abbrev pub call_taken : ℕ → NewCall → Option Incident → Option Division → Decided
+abbrev pub call_taken : ℕ → NewCall → Option Incident → Option Division → Verdict
 call_taken d new (Some i) v = tell (answer.Called d i.number true)
     (PutIncident (with_call new i) ∷ PutCall (call_row d i.number true new) ∷ [])
 call_taken d new None v = call_new d new v
 
 -- a call that is not kept, in its division
-unfoldable pub call_in : ℕ → NewCall → Room → Decided
+unfoldable pub call_in : ℕ → NewCall → Room → Verdict
 call_in d new r = call_taken d new (link_target d new.place new.at r) (last_number d r)
 
 abbrev pub same_call : Call → NewCall → Bool
@@ -89,15 +89,15 @@ same_call c new =
     same_place c.place new.place
     && (c.class == new.class && (same_needs c.needs new.needs && same_note c.note new.note))
 
-abbrev pub call_somewhere : Option ℕ → NewCall → Room → Decided
+abbrev pub call_somewhere : Option ℕ → NewCall → Room → Verdict
 call_somewhere None new r = Err refusal.OutsideArea
 call_somewhere (Some d) new r = call_in d new r
 
 -- a kept serial gets its kept reply before anything else
-abbrev pub call_kept : Option Call → NewCall → Room → Decided
+abbrev pub call_kept : Option Call → NewCall → Room → Verdict
 call_kept (Some k) new r = refuse_if (not (same_call k new)) refusal.SerialReused
     (show (answer.Called k.division k.given k.linked))
 call_kept None new r = call_somewhere (division_of r.plan new.place) new r
 
-abbrev pub take_call : NewCall → Room → Decided
+abbrev pub take_call : NewCall → Room → Verdict
 take_call new r = call_kept (kept_call new.position new.serial r) new r

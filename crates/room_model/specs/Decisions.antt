@@ -15,21 +15,21 @@ pub record Decision : Type 0 where
   pub changes : List Change
   pub answer : Answer
 
-abbrev pub Decided : Type 0
-Decided = Result Decision Refusal
+abbrev pub Verdict : Type 0
+Verdict = Result Decision Refusal
 
-abbrev pub tell : Answer → List Change → Decided
+abbrev pub tell : Answer → List Change → Verdict
 tell a cs = Ok (record { changes = cs; answer = a })
 
 -- an answer that changes nothing
-abbrev pub show : Answer → Decided
+abbrev pub show : Answer → Verdict
 show a = tell a []
 
-abbrev pub done : List Change → Decided
+abbrev pub done : List Change → Verdict
 done cs = tell answer.Done cs
 
 -- a refusal, where its condition holds
-unfoldable pub refuse_if : Bool → Refusal → Decided → Decided
+unfoldable pub refuse_if : Bool → Refusal → Verdict → Verdict
 refuse_if b e x = cond b (Err e) x
 
 -- why a vehicle that the desk does not hold is refused
@@ -38,19 +38,19 @@ not_held None = refusal.NoSuchVehicle
 not_held (Some l) = refusal.VehicleLent
 
 -- what is decided of a vehicle that the desk holds
-abbrev pub where_held : Option Vehicle → Option Loan → (Vehicle → Decided) → Decided
+abbrev pub where_held : Option Vehicle → Option Loan → (Vehicle → Verdict) → Verdict
 where_held None l f = Err (not_held l)
 where_held (Some v) l f = f v
 
 -- what is decided of an active incident
-abbrev pub where_active : Option Incident → (Incident → Decided) → Decided
+abbrev pub where_active : Option Incident → (Incident → Verdict) → Verdict
 where_active None f = Err refusal.NoSuchIncident
 where_active (Some i) f = refuse_if (not (is_active i.state)) refusal.IncidentNotOpen (f i)
 
-abbrev pub changes_of : Decided → List Change
+abbrev pub changes_of : Verdict → List Change
 changes_of (Ok x) = x.changes
 changes_of (Err e) = []
 
-abbrev pub answer_of : Decided → Result Answer Refusal
+abbrev pub answer_of : Verdict → Result Answer Refusal
 answer_of (Ok x) = Ok x.answer
 answer_of (Err e) = Err e

@@ -11,7 +11,7 @@ use Rattle.room_types.specs.declared.tables.Call.{Call}
 use Rattle.room_types.specs.declared.tables.Incident.{Incident}
 use Rattle.room_types.specs.Codes.{is_active}
 use Rattle.room_types.specs.Needs.{larger, need_of, needs_by}
-use Rattle.room_model.specs.Decisions.{Decided, done, refuse_if, show, where_active}
+use Rattle.room_model.specs.Decisions.{Verdict, done, refuse_if, show, where_active}
 use Rattle.room_model.specs.Moments.{earlier}
 use Rattle.room_model.specs.Queries.{active_incidents, calls_of, incident_of, is_attended, served}
 use Rattle.room_model.specs.Room.{Room}
@@ -34,7 +34,7 @@ incident_line d r i = record {
   calls = length (calls_of d i.number r);
 }
 
-unfoldable pub show_incidents : ℕ → Room → Decided
+unfoldable pub show_incidents : ℕ → Room → Verdict
 show_incidents d r = show (answer.Incidents (map (incident_line d r) (active_incidents d r)))
 
 -- ---- needs
@@ -43,11 +43,11 @@ is_below n got =
     nat_lt n.ambulances (got Ambulance)
     || (nat_lt n.cars (got Car) || nat_lt n.support (got Support))
 
-abbrev pub needs_changed : Counts → (Kind → ℕ) → Incident → Decided
+abbrev pub needs_changed : Counts → (Kind → ℕ) → Incident → Verdict
 needs_changed n got i = refuse_if (is_below n got) refusal.BelowServed
     (done (PutIncident (record i { needs = n }) ∷ []))
 
-unfoldable pub change_needs : ℕ → ℕ → Counts → Room → Decided
+unfoldable pub change_needs : ℕ → ℕ → Counts → Room → Verdict
 change_needs d n needs r =
     where_active (incident_of d n r) (needs_changed needs (λ k. served d n k r))
 
@@ -64,7 +64,7 @@ joined n m = record m {
 abbrev pub moved_call : ℕ → Call → Change
 moved_call m c = PutCall (record c { incident = m })
 
-abbrev pub merge_both : Incident → Incident → Bool → List Call → Decided
+abbrev pub merge_both : Incident → Incident → Bool → List Call → Verdict
 merge_both n m attended calls =
     refuse_if (n.number == m.number) refusal.SameIncident
     (refuse_if (not (is_active n.state)) refusal.IncidentNotOpen
@@ -74,19 +74,19 @@ merge_both n m attended calls =
     ∷ PutIncident (record n { state = Merged m.number })
     ∷ map (moved_call m.number) calls)))))
 
-abbrev pub merge_of : Option Incident → Option Incident → Bool → List Call → Decided
+abbrev pub merge_of : Option Incident → Option Incident → Bool → List Call → Verdict
 merge_of None m attended calls = Err refusal.NoSuchIncident
 merge_of (Some n) None attended calls = Err refusal.NoSuchIncident
 merge_of (Some n) (Some m) attended calls = merge_both n m attended calls
 
-unfoldable pub merge : ℕ → ℕ → ℕ → Room → Decided
+unfoldable pub merge : ℕ → ℕ → ℕ → Room → Verdict
 merge d n m r =
     merge_of (incident_of d n r) (incident_of d m r) (is_attended d n r) (calls_of d n r)
 
 -- ---- close
-abbrev pub close_active : Bool → Incident → Decided
+abbrev pub close_active : Bool → Incident → Verdict
 close_active attended i = refuse_if attended refusal.StillAssigned
     (done (PutIncident (record i { state = Closed }) ∷ []))
 
-unfoldable pub close : ℕ → ℕ → Room → Decided
+unfoldable pub close : ℕ → ℕ → Room → Verdict
 close d n r = where_active (incident_of d n r) (close_active (is_attended d n r))

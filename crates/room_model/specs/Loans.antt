@@ -9,7 +9,7 @@ use Rattle.room_types.specs.declared.tables.Offer.{Offer}
 use Rattle.room_types.specs.declared.tables.Vehicle.{Vehicle}
 use Rattle.room_types.specs.Texts.{Callsign}
 use Rattle.room_types.specs.Codes.{is_busy, is_free}
-use Rattle.room_model.specs.Decisions.{Decided, done, refuse_if, show, where_held}
+use Rattle.room_model.specs.Decisions.{Verdict, done, refuse_if, show, where_held}
 use Rattle.room_model.specs.Queries.{borrowed, held, lent, loans_of, offered_by, offered_to, offers_of}
 use Rattle.room_model.specs.Room.{Room}
 use Rattle.room_types.specs.declared.answers.Answer.TheVariants as answer
@@ -25,7 +25,7 @@ offer_row v d to until at = record {
   until = until;
 }
 
-abbrev pub offered : List Area → ℕ → ℕ → ℕ → ℕ → Vehicle → Decided
+abbrev pub offered : List Area → ℕ → ℕ → ℕ → ℕ → Vehicle → Verdict
 offered plan d to until at v =
     refuse_if (to == d || not (has_division plan to)) refusal.NoSuchDivision
     (refuse_if (not (v.home == d)) refusal.NotHome
@@ -35,24 +35,24 @@ offered plan d to until at v =
     (done (PutVehicle (record v { status = Offered; post = None })
     ∷ PutOffer (offer_row v d to until at) ∷ []))))))
 
-unfoldable pub lend : ℕ → Callsign → ℕ → ℕ → ℕ → Room → Decided
+unfoldable pub lend : ℕ → Callsign → ℕ → ℕ → ℕ → Room → Verdict
 lend d c to until at r = where_held (held d c r) (lent d c r) (offered r.plan d to until at)
 
 -- ---- withdraw
-abbrev pub withdrawn : Option Offer → Vehicle → Decided
+abbrev pub withdrawn : Option Offer → Vehicle → Verdict
 withdrawn None v = Err refusal.NoSuchOffer
 withdrawn (Some o) v =
     done (PutVehicle (record v { status = Available }) ∷ DropOffer v.callsign ∷ [])
 
-unfoldable pub withdraw : ℕ → Callsign → Room → Decided
+unfoldable pub withdraw : ℕ → Callsign → Room → Verdict
 withdraw d c r = where_held (held d c r) (lent d c r) (withdrawn (offered_by d c r))
 
 -- ---- decline and accept, by the offer alone
-abbrev pub declined : Option Offer → Decided
+abbrev pub declined : Option Offer → Verdict
 declined None = Err refusal.NoSuchOffer
 declined (Some o) = done (Settle o.callsign o.lender ∷ DropOffer o.callsign ∷ [])
 
-unfoldable pub decline : ℕ → Callsign → Room → Decided
+unfoldable pub decline : ℕ → Callsign → Room → Verdict
 decline d c r = declined (offered_to d c r)
 
 abbrev pub loan_row : Offer → ℕ → Loan
@@ -65,21 +65,21 @@ loan_row o at = record {
   recalled = false;
 }
 
-abbrev pub accepted : Option Offer → ℕ → Decided
+abbrev pub accepted : Option Offer → ℕ → Verdict
 accepted None at = Err refusal.NoSuchOffer
 accepted (Some o) at =
     done (Settle o.callsign o.borrower ∷ DropOffer o.callsign ∷ PutLoan (loan_row o at) ∷ [])
 
-unfoldable pub accept : ℕ → Callsign → ℕ → Room → Decided
+unfoldable pub accept : ℕ → Callsign → ℕ → Room → Verdict
 accept d c at r = accepted (offered_to d c r) at
 
 -- ---- recall
-abbrev pub recall_lent : Option Loan → Option Vehicle → Decided
+abbrev pub recall_lent : Option Loan → Option Vehicle → Verdict
 recall_lent (Some l) v = done (PutLoan (record l { recalled = true }) ∷ [])
 recall_lent None (Some v) = Err refusal.NoSuchLoan
 recall_lent None None = Err refusal.NoSuchVehicle
 
-unfoldable pub recall : ℕ → Callsign → Room → Decided
+unfoldable pub recall : ℕ → Callsign → Room → Verdict
 recall d c r = recall_lent (lent d c r) (held d c r)
 
 -- ---- give back
@@ -88,19 +88,19 @@ abbrev pub lender_of : Vehicle → Option Loan → ℕ
 lender_of v None = v.home
 lender_of v (Some l) = l.lender
 
-abbrev pub given_back : ℕ → Option Loan → Vehicle → Decided
+abbrev pub given_back : ℕ → Option Loan → Vehicle → Verdict
 given_back d l v =
     refuse_if (v.home == d) refusal.NoSuchLoan
     (refuse_if (is_busy v.status) refusal.StillAssigned
     (done (PutVehicle (record v { holder = lender_of v l; post = None })
     ∷ DropLoan v.callsign ∷ [])))
 
-unfoldable pub give_back : ℕ → Callsign → Room → Decided
+unfoldable pub give_back : ℕ → Callsign → Room → Verdict
 give_back d c r = where_held (held d c r) (lent d c r) (given_back d (borrowed d c r))
 
 -- ---- loans and offers
-unfoldable pub show_loans : ℕ → Room → Decided
+unfoldable pub show_loans : ℕ → Room → Verdict
 show_loans d r = show (answer.Loans (loans_of d r))
 
-unfoldable pub show_offers : ℕ → Room → Decided
+unfoldable pub show_offers : ℕ → Room → Verdict
 show_offers d r = show (answer.Offers (offers_of d r))

@@ -11,7 +11,7 @@ use Rattle.room_types.specs.declared.codes.Kind.TheVariants.{Ambulance, Car, Sup
 use Rattle.room_types.specs.declared.tables.Incident.{Incident}
 use Rattle.room_types.specs.declared.tables.Vehicle.{Vehicle}
 use Rattle.room_types.specs.Codes.{same_kind}
-use Rattle.room_model.specs.Decisions.{Decided, show, where_active}
+use Rattle.room_model.specs.Decisions.{Verdict, show, where_active}
 use Rattle.room_model.specs.Incidents.{lacking}
 use Rattle.room_model.specs.Points.{breaks_cover}
 use Rattle.room_model.specs.Queries.{incident_of, is_eligible}
@@ -56,6 +56,6 @@ all_proposed d i at r =
     proposed d i at r Ambulance
     ++ (proposed d i at r Car ++ proposed d i at r Support)
 
-unfoldable pub propose : ℕ → ℕ → ℕ → Room → Decided
+unfoldable pub propose : ℕ → ℕ → ℕ → Room → Verdict
 propose d n at r =
     where_active (incident_of d n r) (λ i. show (answer.Proposals (all_proposed d i at r)))

@@ -15,7 +15,7 @@ use Rattle.room_types.specs.declared.tables.Turn.{Turn}
 use Rattle.room_types.specs.declared.tables.Vehicle.{Vehicle}
 use Rattle.room_types.specs.Texts.{Callsign}
 use Rattle.room_types.specs.Codes.{is_active, is_mobilised, is_normal, is_off}
-use Rattle.room_model.specs.Decisions.{Decided, done, refuse_if, show}
+use Rattle.room_model.specs.Decisions.{Verdict, done, refuse_if, show}
 use Rattle.room_model.specs.Moments.{age, scene_limit}
 use Rattle.room_model.specs.Queries.{holders, incident_of, open_turn, report_of, served}
 use Rattle.room_model.specs.Room.{Room}
@@ -148,14 +148,14 @@ pub record IsQueueOf (all q : List Entry) : Type 0 where
   pub there : (e : Entry) → Among e all → Among e q
   pub only : (e : Entry) → Among e q → Among e all
 
-unfoldable pub show_queue : ℕ → ℕ → Room → Decided
+unfoldable pub show_queue : ℕ → ℕ → Room → Verdict
 show_queue d at r = show (answer.Queue (ordered_from [] (entries d at r)))
 
 -- ---- clear
-abbrev pub clear_found : Option Report → Decided
+abbrev pub clear_found : Option Report → Verdict
 clear_found None = Err refusal.NoSuchException
 clear_found (Some x) = refuse_if (x.cleared || is_normal x.outcome) refusal.NoSuchException
     (done (PutReport (record x { cleared = true }) ∷ []))
 
-unfoldable pub clear : ℕ → Callsign → ℕ → Room → Decided
+unfoldable pub clear : ℕ → Callsign → ℕ → Room → Verdict
 clear d c n r = clear_found (report_of d c n r)

@@ -17,7 +17,7 @@ use Rattle.room_types.specs.declared.tables.Turn.{Turn}
 use Rattle.room_types.specs.declared.tables.Vehicle.{Vehicle}
 use Rattle.room_types.specs.Texts.{Callsign}
 use Rattle.room_types.specs.Codes.{acts, same_button}
-use Rattle.room_model.specs.Decisions.{Decided, refuse_if, show, tell}
+use Rattle.room_model.specs.Decisions.{Verdict, refuse_if, show, tell}
 use Rattle.room_model.specs.Loans.{lender_of}
 use Rattle.room_model.specs.Moments.{first_of}
 use Rattle.room_model.specs.Queries.{assignment_at, borrowed, held, kept_report, open_turn, vehicle_at}
@@ -170,7 +170,7 @@ report_acts v t l p at o back =
     ++ PutVehicle (vehicle_after v l p back) ∷ []))
 
 -- a report that does not act is kept, and changes no more
-abbrev pub report_made : Vehicle → Option Turn → Option Loan → Press → ℕ → Outcome → Decided
+abbrev pub report_made : Vehicle → Option Turn → Option Loan → Press → ℕ → Outcome → Verdict
 report_made v t l p at o = cond (acts o)
     (tell (answer.Reported p.number o (status_after v.status p.button))
     (report_acts v t l p at o (is_home p.button && is_due at l)))
@@ -179,34 +179,34 @@ report_made v t l p at o = cond (acts o)
     ∷ PutVehicle (with_report v p) ∷ []))
 
 -- ---- whose report it is
-abbrev pub report_held : Option Vehicle → Option Turn → Option Loan → Press → ℕ → Decided
+abbrev pub report_held : Option Vehicle → Option Turn → Option Loan → Press → ℕ → Verdict
 report_held None t l p at = Err refusal.NoSuchVehicle
 report_held (Some v) t l p at = report_made v t l p at (outcome_of v t p)
 
 -- a report that is not kept, of a vehicle that division d holds
-unfoldable pub report_in : ℕ → Callsign → Press → ℕ → Room → Decided
+unfoldable pub report_in : ℕ → Callsign → Press → ℕ → Room → Verdict
 report_in d c p at r = report_held (held d c r) (open_turn d c r) (borrowed d c r) p at
 
 abbrev pub same_press : Report → Press → Bool
 same_press k p = same_button k.button p.button && (k.order == p.order && same_place k.place p.place)
 
-abbrev pub report_somewhere : Option Vehicle → Callsign → Press → ℕ → Room → Decided
+abbrev pub report_somewhere : Option Vehicle → Callsign → Press → ℕ → Room → Verdict
 report_somewhere None c p at r = Err refusal.NoSuchVehicle
 report_somewhere (Some v) c p at r = report_in v.holder c p at r
 
 -- a kept number gets its kept reply before anything else
-abbrev pub report_kept : Option Report → Callsign → Press → ℕ → Room → Decided
+abbrev pub report_kept : Option Report → Callsign → Press → ℕ → Room → Verdict
 report_kept (Some k) c p at r = refuse_if (not (same_press k p)) refusal.NumberReused
     (show (answer.Reported k.number k.outcome k.status))
 report_kept None c p at r = report_somewhere (vehicle_at c r) c p at r
 
-abbrev pub take_report : Callsign → Press → ℕ → Room → Decided
+abbrev pub take_report : Callsign → Press → ℕ → Room → Verdict
 take_report c p at r = report_kept (kept_report c p.number r) c p at r
 
 -- ---- the order
-abbrev pub order_of : Option Vehicle → Option Assignment → Decided
+abbrev pub order_of : Option Vehicle → Option Assignment → Verdict
 order_of None a = Err refusal.NoSuchVehicle
 order_of (Some v) a = show (answer.Order a v.post v.status)
 
-abbrev pub show_order : Callsign → Room → Decided
+abbrev pub show_order : Callsign → Room → Verdict
 show_order c r = order_of (vehicle_at c r) (assignment_at c r)

@@ -10,7 +10,7 @@ use Rattle.room_types.specs.declared.refusals.Refusal.{Refusal}
 use Rattle.room_types.specs.Texts.{Callsign}
 use Rattle.room_model.specs.Calls.{new_call, take_call}
 use Rattle.room_model.specs.DayTimes.{show_times}
-use Rattle.room_model.specs.Decisions.{Decided, answer_of, changes_of}
+use Rattle.room_model.specs.Decisions.{Verdict, answer_of, changes_of}
 use Rattle.room_model.specs.Incidents.{change_needs, close, merge, show_incidents}
 use Rattle.room_model.specs.Loans.{accept, decline, give_back, lend, recall, show_loans, show_offers, withdraw}
 use Rattle.room_model.specs.Points.{set_point, show_points}
@@ -23,7 +23,7 @@ use Rattle.room_model.specs.Vehicles.{duty, mobilise, off, show_vehicles, stand_
 use Rattle.room_types.specs.declared.asks.Ask.TheVariants as ask
 use Rattle.room_types.specs.declared.refusals.Refusal.TheVariants as refusal
 
-abbrev pub desk_asks : ℕ → Ask → ℕ → Room → Decided
+abbrev pub desk_asks : ℕ → Ask → ℕ → Room → Verdict
 desk_asks d (ask.Call f) at r = Err refusal.WrongRole
 desk_asks d ask.Incidents at r = show_incidents d r
 desk_asks d (ask.Propose n) at r = propose d n at r
@@ -52,21 +52,21 @@ desk_asks d (ask.Times from to) at r = show_times d from to r
 desk_asks d ask.Order at r = Err refusal.WrongRole
 desk_asks d (ask.Report p) at r = Err refusal.WrongRole
 
-abbrev pub position_asks : ℕ → Ask → ℕ → Room → Decided
+abbrev pub position_asks : ℕ → Ask → ℕ → Room → Verdict
 position_asks p (ask.Call f) at r = take_call (new_call p f at) r
 position_asks p a at r = Err refusal.WrongRole
 
-abbrev pub crew_asks : Callsign → Ask → ℕ → Room → Decided
+abbrev pub crew_asks : Callsign → Ask → ℕ → Room → Verdict
 crew_asks c ask.Order at r = show_order c r
 crew_asks c (ask.Report p) at r = take_report c p at r
 crew_asks c a at r = Err refusal.WrongRole
 
-abbrev pub who_asks : Who → Ask → ℕ → Room → Decided
+abbrev pub who_asks : Who → Ask → ℕ → Room → Verdict
 who_asks (Desk d) a at r = desk_asks d a at r
 who_asks (Position p) a at r = position_asks p a at r
 who_asks (Crew c) a at r = crew_asks c a at r
 
-abbrev pub decided : Event → Room → Decided
+abbrev pub decided : Event → Room → Verdict
 decided e r = who_asks e.who e.ask e.at r
 
 abbrev pub room_after : Event → Room → Room

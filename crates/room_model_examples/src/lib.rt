@@ -1,6 +1,7 @@
-//! The machine in examples that the check computes. Each function does nothing; what it ensures is that the
-//! machine answers as the rules say, in rooms small enough to be followed by hand. Steps that an independent
-//! program sampled from random runs stand in `proofs/`, and are computed by the same check.
+//! The machine in examples that the check computes. Each function does nothing; what it ensures is
+//! that the machine answers as the rules say, in rooms small enough to be followed by hand. Steps
+//! that an independent program sampled from random runs stand in `proofs/`, and are computed by the
+//! same check.
 #![tactic(auto)]
 
 ghost use Rattle.room_model_examples.specs.Calls.{CallExamples};

@@ -31,8 +31,10 @@ pub fn cell_of(place: Place) -> Cell
 /// than the ring's floor.
 pub fn ring_of(one: Cell, other: Cell) -> u32
     ensures value { result ≡ ring_between one other }
-    ensures within { (a b : Place) → IsInSquares a → IsInSquares b → one ≡ cell_at a → other ≡ cell_at b → result ≤ 199 }
-    ensures floor { (a b : Place) → IsInSquares a → IsInSquares b → one ≡ cell_at a → other ≡ cell_at b → floor_of result ≤ distance a b }
+    ensures within { (a b : Place) → IsInSquares a → IsInSquares b → one ≡ cell_at a
+        → other ≡ cell_at b → result ≤ 199 }
+    ensures floor { (a b : Place) → IsInSquares a → IsInSquares b → one ≡ cell_at a
+        → other ≡ cell_at b → floor_of result ≤ distance a b }
 {
     u32::from(one.x.abs_diff(other.x).max(one.y.abs_diff(other.y)))
 }

@@ -1,6 +1,7 @@
 //! Places, the division areas that they lie in, and one-kilometre cells of them.
 #![tactic(auto)]
 
+pub mod bounded;
 pub mod cells;
 mod distances;
 mod lowest;
@@ -8,4 +9,3 @@ pub mod places;
 mod plan_faults;
 pub mod plans;
 mod references;
-pub mod whole;

@@ -2,16 +2,16 @@
 ghost use Rattle.std.specs.Prelude.{◌≡◌};
 ghost use Rattle.room_place.specs.Squares.{is_in_squares as in_squares};
 
+use crate::bounded::Bounded;
 pub use crate::distances::distance;
 use crate::references;
-use crate::whole::Whole;
 use std::fmt;
 
 /// Metres of easting from the National Grid's false origin, within the squares.
-pub type Easting = Whole<400000, 599999>;
+pub type Easting = Bounded<400000, 599999>;
 
 /// Metres of northing from the National Grid's false origin, within the squares.
-pub type Northing = Whole<100000, 299999>;
+pub type Northing = Bounded<100000, 299999>;
 
 /// A point of the squares TQ, TL, SU and SP of the Ordnance Survey National Grid.
 #[derive(Clone, Copy, PartialEq, Eq)]
@@ -42,7 +42,8 @@ impl Place {
 
     /// The place of these metres of easting and northing: none outside the squares.
     pub fn new(east: u32, north: u32) -> Option<Place>
-        ensures { SomeIff result (is_in_squares east north ≡ true) (record { east = east; north = north }) }
+        ensures { SomeIff result (is_in_squares east north ≡ true)
+            (record { east = east; north = north }) }
     {
         match (Easting::new(east), Northing::new(north)) {
             (Some(east), Some(north)) => Some(Place { east, north }),

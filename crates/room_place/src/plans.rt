@@ -2,16 +2,16 @@
 ghost use Rattle.std.specs.Prelude.{◌≡◌, true, string_bytes};
 ghost use Rattle.room_place.specs.Plans.{is_plan};
 
+use crate::bounded::Bounded;
 use crate::lowest::lowest_division;
 use crate::places::{Place, is_in_squares};
 use crate::plan_faults::first_fault;
-use crate::whole::Whole;
 use std::alloc::Global;
 use std::fmt;
 use std::marker::Model;
 
 /// A division of the service: 1 to 9.
-pub type DivisionNumber = Whole<1, 9>;
+pub type DivisionNumber = Bounded<1, 9>;
 
 /// A rectangle with inclusive corners, in metres of easting and northing.
 #[derive(Clone, Copy, PartialEq, Eq)]
@@ -62,7 +62,11 @@ impl Model for Plan {
 
     ghost Value = { Layout };
 
-    ghost view = { λ p. record { areas = p.areas.items; zone = string_bytes p.zone; sound = p.sound } };
+    ghost view = { λ p. record {
+      areas = p.areas.items;
+      zone = string_bytes p.zone;
+      sound = p.sound;
+    } };
 }
 
 impl Rect {
@@ -91,7 +95,8 @@ impl Plan {
     ghost use Rattle.std.specs.Prelude.{◌≡◌, ◌↔◌, ◌≤◌, None, IsTrue, IfOk, IfErr, IfNone, IfSome, OnOk, All, Any};
     ghost use Rattle.room_place.specs.Plans.{Explains, plan_fault, has_place, has_division, division_of as lowest_division};
 
-    /// A plan of these areas and this zone, or its first fault; `Memory` only where it has no other.
+    /// A plan of these areas and this zone, or its first fault; `Memory` only where it has no
+    /// other.
     pub fn new(alloc: Global, areas: Vec<Area>, zone: &str) -> Result<Plan, PlanFault>
         ensures plan { IfOk result (λ plan. (plan.areas ≡ areas.items) × (plan.zone ≡ zone.now)) }
         ensures sound { OnOk result (plan_fault areas.items zone.now ≡ None) }
@@ -111,12 +116,16 @@ impl Plan {
         self.areas.as_slice()
     }
 
-    /// The division of a place: the lowest number among the areas that have it, none where none has.
+    /// The division of a place: the lowest number among the areas that have it, none where none
+    /// has.
     pub fn division_of(&self, place: Place) -> Option<DivisionNumber>
         ensures value { result ≡ lowest_division self.now.areas place }
-        ensures outside { IfNone result (All (λ area. ¬ IsTrue (has_place place area.rect)) self.now.areas) }
-        ensures inside { IfSome result (λ d. Any (λ area. (area.division ≡ d) × IsTrue (has_place place area.rect)) self.now.areas) }
-        ensures lowest { IfSome result (λ d. All (λ area. IsTrue (has_place place area.rect) → d ≤ area.division) self.now.areas) }
+        ensures outside { IfNone result (All (λ area.
+            ¬ IsTrue (has_place place area.rect)) self.now.areas) }
+        ensures inside { IfSome result (λ d. Any (λ area. (area.division ≡ d)
+            × IsTrue (has_place place area.rect)) self.now.areas) }
+        ensures lowest { IfSome result (λ d. All (λ area. IsTrue (has_place place area.rect)
+            → d ≤ area.division) self.now.areas) }
     {
         match lowest_division(self.areas(), &place) {
             Some(division) => Some(DivisionNumber::of(division)),

@@ -108,7 +108,8 @@ fn are_all_digits(bytes: &[u8]) -> bool
     bytes.iter().all(|byte| byte.is_ascii_digit())
 }
 
-// How far along its axis of a square some digits lie: three count in 100 m, four in 10 m, five in metres.
+// How far along its axis of a square some digits lie: three count in 100 m, four in 10 m, five in
+// metres.
 fn metres_of(half: usize, digits: &[u8]) -> u32
     requires least { 3 ≤ half }
     requires most { half ≤ 5 }

@@ -45,7 +45,8 @@ pub fn unserved(
 
 /// 2: a mobilised vehicle whose crew has not read its order.
 pub fn unread(slice: &Slice, vehicle: &Vehicle, at: Moment) -> Option<Entry>
-    ensures { result ≡ unread_turn at vehicle.now (turn_ahead slice.now.division slice.now.rows vehicle.now) }
+    ensures { result ≡ unread_turn at vehicle.now
+        (turn_ahead slice.now.division slice.now.rows vehicle.now) }
 {
     let turn = turn_ahead(slice, vehicle)?;
     let needs_eye = turn.acknowledged.is_none() && age(at, turn.ordered) > UNREAD_AFTER;
@@ -61,7 +62,8 @@ pub fn unread(slice: &Slice, vehicle: &Vehicle, at: Moment) -> Option<Entry>
 /// now, and the age of the incident, whenever the vehicle was sent.
 #[tactic(auto, unfolding(room_model::specs::Queries::incident_of))]
 pub fn slow(slice: &Slice, vehicle: &Vehicle, at: Moment) -> Option<Entry>
-    ensures { result ≡ slow_turn slice.now.division at (room slice.now.rows) vehicle.now (turn_ahead slice.now.division slice.now.rows vehicle.now) }
+    ensures { result ≡ slow_turn slice.now.division at (room slice.now.rows) vehicle.now
+        (turn_ahead slice.now.division slice.now.rows vehicle.now) }
 {
     let turn = turn_ahead(slice, vehicle)?;
     let incident = slice.rows.incidents.get(&(slice.division, turn.incident))?;

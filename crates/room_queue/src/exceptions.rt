@@ -19,7 +19,8 @@ use room_types::tables::Report;
 pub fn clear(report: Option<&Report>) -> Result<Report, Refusal>
     ensures decided { as_decided result ≡ clear_found (option_copied report.entry) }
     // In each room where the division has this report under the callsign and number, or none.
-    ensures room { (d : ℕ) (c : Callsign) (n : ℕ) (r : Room) → report_of d c n r ≡ option_copied report.entry → as_decided result ≡ clear d c n r }
+    ensures room { (d : ℕ) (c : Callsign) (n : ℕ) (r : Room)
+        → report_of d c n r ≡ option_copied report.entry → as_decided result ≡ clear d c n r }
 {
     match report {
         Some(report) if is_exception(report) => Ok(Report {

@@ -22,9 +22,11 @@ use std::alloc::{AllocError, Global};
 /// What needs an eye in the division: all of it, by rank, since, number and callsign, each once.
 /// The one refusal is `Memory`.
 pub fn queue(alloc: Global, slice: &Slice, at: Moment) -> Result<Listed<Entry>, Refusal>
-    ensures answer { IfOk result (λ queue. (plan : List Area) → show_queue slice.now.division at (room_of plan slice.now.rows) ≡ show (Queue queue)) }
+    ensures answer { IfOk result (λ queue. (plan : List Area)
+        → show_queue slice.now.division at (room_of plan slice.now.rows) ≡ show (Queue queue)) }
     // Strictly in order, and exactly the entries that hold.
-    ensures entries { IfOk result (λ queue. (plan : List Area) → IsQueueOf (entries slice.now.division at (room_of plan slice.now.rows)) queue) }
+    ensures entries { IfOk result (λ queue. (plan : List Area)
+        → IsQueueOf (entries slice.now.division at (room_of plan slice.now.rows)) queue) }
     ensures memory { IfErr result (λ refusal. refusal ≡ Memory) }
 {
     let served = gather(alloc, &slice.rows.turns, slice.division)?;
@@ -41,7 +43,8 @@ fn seen(
     at: Moment,
 ) -> Result<Vec<Entry>, AllocError>
     requires { AreServed slice.now.division slice.now.rows.turns served.now }
-    ensures { IfOk result (λ seen. (plan : List Area) → seen.items ≡ entries slice.now.division at (room_of plan slice.now.rows)) }
+    ensures { IfOk result (λ seen. (plan : List Area)
+        → seen.items ≡ entries slice.now.division at (room_of plan slice.now.rows)) }
 {
     // In key order, so that a vehicle's open turn is that of its last order.
     let _turns = slice.rows.turns.as_slice();
@@ -60,7 +63,9 @@ fn note_sent(
     served: &Rows<Served>,
     at: Moment,
 ) -> Result<(), AllocError>
-    ensures { OnOk result (seen.new.items ≡ with_sent slice.now.division at served.now slice.now.rows seen.old.items) }
+    ensures { OnOk result
+        (seen.new.items ≡ with_sent slice.now.division at served.now slice.now.rows
+        seen.old.items) }
 {
     let vehicles = slice.rows.vehicles.as_slice();
     for incident in slice.rows.incidents.as_slice() {
@@ -80,7 +85,8 @@ fn note_sent(
 
 // Ranks 5 to 8: of loans, shifts, points and offers.
 fn note_held(seen: &mut Vec<Entry>, slice: &Slice, at: Moment) -> Result<(), AllocError>
-    ensures { OnOk result (seen.new.items ≡ with_held slice.now.division at slice.now.rows seen.old.items) }
+    ensures { OnOk result
+        (seen.new.items ≡ with_held slice.now.division at slice.now.rows seen.old.items) }
 {
     for loan in slice.rows.loans.as_slice() {
         note(seen, entries::overdue(slice, loan, at))?;

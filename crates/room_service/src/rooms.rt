@@ -35,14 +35,16 @@ pub trait Room {
         requires { is_ready self.old }
         ensures ready { is_ready self.new }
         ensures trusted { is_trusted self.new → is_trusted self.old }
-        ensures known { is_trusted self.new → IfOk result (λ who. (terminals : List Terminal) (room : Held)
+        ensures known { is_trusted self.new
+            → IfOk result (λ who. (terminals : List Terminal) (room : Held)
             → stands self.old terminals room → who ≡ who_at terminals token.now) }
         ensures same { is_trusted self.new → (terminals : List Terminal) (room : Held)
             → stands self.old terminals room → stands self.new terminals room }
         ensures wants { IfErr result IsWant };
 
     /// Acts on an event of a known terminal. Gives what `render` makes of the answer, and `render`
-    /// is called before anything is kept. A refusal is want of memory or of storage; it changes nothing.
+    /// is called before anything is kept. A refusal is want of memory or of storage; it changes
+    /// nothing.
     fn act<F: FnOnce(&Result<Answer, Refusal>) -> Result<Vec<u8>, Refusal>>(
         &mut self,
         alloc: Global,
@@ -51,18 +53,22 @@ pub trait Room {
     ) -> Result<Vec<u8>, Refusal>
         requires ready { is_ready self.old }
         requires callable { F.IsAlwaysCallable render }
-        requires memory { (answer : Result Told Why) (r : _) → FnOnceReturnsAt F.FnOnce render answer r → IfErr r (λ e. e ≡ Memory) }
+        requires memory { (answer : Result Told Why) (r : _)
+            → FnOnceReturnsAt F.FnOnce render answer r → IfErr r (λ e. e ≡ Memory) }
         ensures ready { is_ready self.new }
         ensures trusted { is_trusted self.new → is_trusted self.old }
-        ensures bytes { is_trusted self.new → IfOk result (λ bytes. (terminals : List Terminal) (room : Held)
+        ensures bytes { is_trusted self.new
+            → IfOk result (λ bytes. (terminals : List Terminal) (room : Held)
             → stands self.old terminals room → IsAddressed event.now room
             → FnOnceReturnsAt F.FnOnce render (step event.now room).1 (Ok bytes)) }
         ensures after { is_trusted self.new → OnOk result ((terminals : List Terminal) (room : Held)
-            → stands self.old terminals room → IsAddressed event.now room → stands self.new terminals (step event.now room).0) }
+            → stands self.old terminals room → IsAddressed event.now room
+            → stands self.new terminals (step event.now room).0) }
         ensures same { is_trusted self.new → OnErr result ((terminals : List Terminal) (room : Held)
             → stands self.old terminals room → stands self.new terminals room) }
         ensures wants { IfErr result IsWant };
 
     // The terminals fit the room that it stands for.
-    ghost fits: { (held : Self) (terminals : List Terminal) (room : Held) → stands held terminals room → AreTerminals room terminals };
+    ghost fits: { (held : Self) (terminals : List Terminal) (room : Held)
+        → stands held terminals room → AreTerminals room terminals };
 }

@@ -9,8 +9,9 @@ use Rattle.room_model.specs.Decisions.{changes_of}
 use Rattle.room_model.specs.Room.{Room, apply}
 use Rattle.room_model.specs.Step.{decided, room_after}
 use Rattle.room_tables.specs.Stands.{House, Stands}
-use Rattle.room_store.proofs.RoomReads.{kept}
-use Rattle.room_store.specs.Acting.{Commits, IsFor}
+use Rattle.room_tables.proofs.RoomReads.{kept}
+use Rattle.room_store_writes.specs.Writing.{Commits}
+use Rattle.room_store.specs.Acting.{IsFor}
 
 -- before the reads, after them, after the write
 module _ (old mid new : State) (layout : Layout) (event : Event) (changes : List Change)

@@ -23,9 +23,10 @@ use Rattle.room_types.proofs.KeyedLaws.{keyed_put}
 use Rattle.room_model.specs.Enrol.{AreTerminals, terminal_at, terminal_key, token_cmp}
 use Rattle.room_model.specs.WellFormed.{IsWellFormed}
 use Rattle.room_model.proofs.Tests.{both_true, left_true, right_true}
-use Rattle.room_store.specs.Creating.{AreNewTerminals, division_numbers, in_order, may_use, new_division, new_divisions, new_room, put_all}
-use Rattle.room_store.proofs.CreationSteps.{divisions_more, divisions_to}
-use Rattle.room_store.proofs.RoomReads.{turned_number}
+use Rattle.room_store.specs.Creating.{AreNewTerminals, may_use}
+use Rattle.room_store_writes.specs.Filling.{division_numbers, in_order, new_division, new_divisions, new_room, put_all}
+use Rattle.room_store_writes.proofs.CreationSteps.{divisions_more, divisions_to}
+use Rattle.room_store_reads.proofs.RoomReads.{turned_number}
 
 keyed_if : (b : Bool) (xs : List Division) (x : Division) → IsKeyed nat_cmp division_key xs → IsKeyed nat_cmp division_key (cond b (put_row nat_cmp division_key xs x) xs)
 keyed_if true xs x h = keyed_put nat_cmp division_key nat_cmp_total xs x h

@@ -15,9 +15,11 @@ use Rattle.room_model.proofs.EnrolLaws.{enrolled_kept, terminals_kept}
 use Rattle.room_model.specs.Enrol.{fate_of, room_by, room_enrolled, terminals_enrolled}
 use Rattle.room_model.specs.Room.{Room}
 use Rattle.room_tables.specs.Stands.{House, Stands}
-use Rattle.room_store.proofs.RoomReads.{kept}
-use Rattle.room_store.specs.Enrolling.{Enrols, MayBeEnrolled, StandsAfter, StandsInPlan, enrolled, fate_in, fates_of, room_after_rows, terminals_after_rows}
-use Rattle.room_store.specs.Keeping.{IsRoom, house_of}
+use Rattle.room_tables.proofs.RoomReads.{kept}
+use Rattle.room_store_writes.specs.Enrolling.{Enrols, StandsAfter}
+use Rattle.room_store.specs.Enrolling.{MayBeEnrolled, StandsInPlan, enrolled, fate_in, fates_of, room_after_rows, terminals_after_rows}
+use Rattle.room_store.specs.Keeping.{IsRoom}
+use Rattle.room_store_writes.specs.Houses.{house_of}
 use Rattle.room_store.specs.declared.store.Store.{Store}
 
 -- before the reads, after them, after the write

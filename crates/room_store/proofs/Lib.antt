@@ -1,16 +1,5 @@
-pub mod KeyedUnions
-pub mod RoomReads
-pub mod ReadLaws
-pub mod ReportTests
-pub mod ReadNumbers
-pub mod CrewReads
 pub mod CallReads
-pub mod CommitLaws
 pub mod ActLaws
 pub mod StoreLaws
-pub mod RunLaws
 pub mod EnrolledLaws
-pub mod PromiseLaws
-pub mod CreationSteps
 pub mod CreationLaws
-pub mod FileLaws

@@ -11,8 +11,10 @@ use Rattle.room_model.specs.Events.{IsNumbered}
 use Rattle.room_model.specs.Room.{Room}
 use Rattle.room_model.specs.Step.{IsAddressed, room_after}
 use Rattle.room_tables.specs.Stands.{Stands}
-use Rattle.room_store.specs.Acting.{Commits, IsFor, Leaves}
-use Rattle.room_store.specs.Keeping.{IsRoom, house_of}
+use Rattle.room_store_writes.specs.Writing.{Commits, Leaves}
+use Rattle.room_store.specs.Acting.{IsFor}
+use Rattle.room_store.specs.Keeping.{IsRoom}
+use Rattle.room_store_writes.specs.Houses.{house_of}
 use Rattle.room_store.specs.declared.store.Store.{Store}
 
 -- tables that were left stand for the room that they stood for

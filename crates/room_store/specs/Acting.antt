@@ -1,14 +1,11 @@
 -- What acting on an event makes of the tables.
-use Rattle.std.specs.Prelude.{IsTrue, List, ◌≡◌}
-use Rattle.sqlite.specs.State.{State}
+use Rattle.std.specs.Prelude.{◌≡◌}
 use Rattle.sqlite_trees.specs.Tree.{Trees}
 use Rattle.room_place.specs.Plans.{Layout}
 use Rattle.room_types.specs.declared.asks.Event.{Event}
-use Rattle.room_types.specs.declared.changes.Change.{Change}
-use Rattle.room_model.specs.Room.{Room, apply}
+use Rattle.room_model.specs.Room.{Room}
 use Rattle.room_model.specs.Step.{IsAddressed}
 use Rattle.room_model.specs.WellFormed.{IsWellFormed}
-use Rattle.room_tables_schema.specs.Schema.{room_schema}
 use Rattle.room_tables.specs.Stands.{House, Stands}
 
 -- The tables stand for this well-formed room of the plan, and the event is addressed in it.
@@ -17,27 +14,3 @@ pub record IsFor (trees : Trees) (layout : Layout) (event : Event) (house : Hous
   pub formed : IsWellFormed room
   pub plan : room.plan ≡ layout.areas
   pub addressed : IsAddressed event room
-
--- In a transaction, which goes on, all these changes are made.
-pub record MakesAll (old new : State) (changes : List Change) : Type 0 where
-  pub inside : IsTrue new.in_transaction
-  pub schema : new.now.schema ≡ room_schema
-  pub stands : (house : House) (room : Room) → Stands old.now.trees house room → Stands new.now.trees house (apply room changes)
-
--- The tables of a connection that is open and in no transaction are as they were committed.
-pub record IsSettled (at : State) : Type 0 where
-  pub is_open : IsTrue at.is_open
-  pub committed : at.committed ≡ at.now
-
--- From the tables of certain rooms came those of the rooms after, and this is committed.
-pub record Commits (old new : State) (IsOld : House → Room → Type 0) (room_after : Room → Room) : Type 0 where
-  pub was_open : IsTrue old.is_open
-  pub settled : IsSettled new
-  pub schema : new.now.schema ≡ room_schema
-  pub stands : (house : House) (room : Room) → IsOld house room → Stands new.now.trees house (room_after room)
-
--- All is as it was, unless the connection is shut.
-pub record Leaves (old new : State) : Type 0 where
-  pub was_open : IsTrue new.is_open → IsTrue old.is_open
-  pub now_is : IsTrue new.is_open → new.now ≡ old.now
-  pub committed_is : IsTrue new.is_open → new.committed ≡ old.committed

@@ -1,19 +1,17 @@
 -- What the enrolment of fleet rows makes of the tables, and of a store.
 use Rattle.std.specs.Prelude.{IsTrue, List, [], length, take, ℕ, ◌++◌, ◌∷◌, ◌≡◌, ◌≤◌}
 use Rattle.sqlite.specs.Held.{state}
-use Rattle.sqlite.specs.State.{State}
 use Rattle.sqlite_trees.specs.Tree.{Trees}
 use Rattle.sqlite_trees.specs.declared.store.Store.{Ghosts}
 use Rattle.room_place.specs.Plans.{Layout}
 use Rattle.room_types.specs.declared.fleet.FleetRow.{FleetRow}
 use Rattle.room_types.specs.declared.fleet.RowFate.{RowFate}
 use Rattle.room_types.specs.declared.fleet.Terminal.{Terminal}
-use Rattle.room_model.specs.Enrol.{fate_of, room_by, room_enrolled, terminals_by, terminals_enrolled}
+use Rattle.room_model.specs.Enrol.{fate_of, room_enrolled, terminals_enrolled}
 use Rattle.room_model.specs.Room.{Room}
-use Rattle.room_tables_schema.specs.Schema.{room_schema}
 use Rattle.room_tables.specs.Stands.{House, Stands}
-use Rattle.room_store.specs.Acting.{IsSettled}
-use Rattle.room_store.specs.Keeping.{IsRoom, house_of}
+use Rattle.room_store.specs.Keeping.{IsRoom}
+use Rattle.room_store_writes.specs.Houses.{house_of}
 use Rattle.room_store.specs.declared.store.Store.{Store}
 
 -- The tables stand for this house and for this room, which is of the plan.
@@ -24,21 +22,6 @@ pub record StandsInPlan (trees : Trees) (layout : Layout) (house : House) (room 
 -- what becomes of a row in this house and room
 abbrev pub fate_in : FleetRow → House → Room → RowFate
 fate_in row house room = fate_of room house.terminals row
-
--- the house after a row of this fate
-abbrev pub house_by : RowFate → FleetRow → House → House
-house_by fate row house = record house { terminals = terminals_by fate row house.terminals }
-
--- The tables stand for the house and the room as they are after a row of this fate.
-abbrev pub StandsAfter : RowFate → FleetRow → House → Room → Trees → Type 0
-StandsAfter fate row house room trees = Stands trees (house_by fate row house) (room_by fate row room)
-
--- From the tables of certain houses and rooms came those after the row's fate there, and this is committed.
-pub record Enrols (old new : State) (row : FleetRow) (IsOld : House → Room → Type 0) (fate_at : House → Room → RowFate) : Type 0 where
-  pub was_open : IsTrue old.is_open
-  pub settled : IsSettled new
-  pub schema : new.now.schema ≡ room_schema
-  pub stands : (house : House) (room : Room) → IsOld house room → StandsAfter (fate_at house room) row house room new.now.trees
 
 -- the room and its terminals after these rows, enrolled in order
 abbrev pub enrolled : List FleetRow → Room → List Terminal → Room × List Terminal

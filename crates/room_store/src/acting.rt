@@ -1,8 +1,9 @@
 //! One event acted on: decided, answered, kept.
-ghost use Rattle.std.specs.Prelude.{◌≡◌, false, ◌++◌, ◌∷◌, [], Ok, Result, IfOk, IfErr, OnOk, OnErr};
+ghost use Rattle.std.specs.Prelude.{◌≡◌, false, Ok, Result, IfOk, IfErr, OnOk, OnErr};
 ghost use Rattle.std.specs.Fn.{FnOnceReturnsAt};
 ghost use Rattle.sqlite.specs.Held.{state};
 ghost use Rattle.sqlite.specs.State.{HasCleanDisk, Survives};
+ghost use Rattle.room_tables_schema.specs.Connections.{HasRoomSchema};
 ghost use Rattle.room_types.specs.declared.answers.Answer.{Answer as Told};
 ghost use Rattle.room_types.specs.declared.refusals.Refusal.{Refusal as Why};
 ghost use Rattle.room_types.specs.declared.refusals.Refusal.TheVariants.{Memory};
@@ -10,16 +11,15 @@ ghost use Rattle.room_model.specs.Decisions.{answer_of, changes_of};
 ghost use Rattle.room_model.specs.Events.{IsNumbered};
 ghost use Rattle.room_model.specs.Room.{Room};
 ghost use Rattle.room_model.specs.Step.{answer_to, decided, room_after};
-ghost use Rattle.room_tables_schema.specs.Schema.{room_schema};
 ghost use Rattle.room_service.specs.Rooms.{IsWant};
 ghost use Rattle.room_tables.specs.Stands.{House, Stands};
-ghost use Rattle.room_store.specs.Acting.{Commits, IsFor, IsSettled, Leaves};
+ghost use Rattle.room_store_writes.specs.Writing.{Commits, Leaves};
+ghost use Rattle.room_store.specs.Acting.{IsFor};
 
 use crate::deciding::decide;
-use crate::writing::write;
 use room_core::decisions::Decision;
 use room_place::plans::Plan;
-use room_tables_schema::faults::Fault;
+use room_store_writes::writing::write;
 use room_types::answers::{Answer, Listed};
 use room_types::asks::{Ask, Event};
 use room_types::changes::Change;
@@ -27,8 +27,8 @@ use room_types::refusals::Refusal;
 use sqlite::{Alter, Connection};
 use std::alloc::Global;
 
-/// Acts on an event: gives what `render` makes of the machine's answer, which it is asked for before
-/// anything is written. A refusal is of memory or of storage, and changes nothing.
+/// Acts on an event: gives what `render` makes of the machine's answer, which it is asked for
+/// before anything is written. A refusal is of memory or of storage, and changes nothing.
 pub(crate) fn act_on<S: Alter, F: FnOnce(&Result<Answer, Refusal>) -> Result<Vec<u8>, Refusal>>(
     alloc: Global,
     conn: &mut Connection<S>,
@@ -36,16 +36,26 @@ pub(crate) fn act_on<S: Alter, F: FnOnce(&Result<Answer, Refusal>) -> Result<Vec
     event: &Event,
     render: F,
 ) -> Result<Vec<u8>, Refusal>
-    requires schema { HasCleanDisk (state S.Store conn.old) → (state S.Store conn.old).now.schema ≡ room_schema }
+    requires room { HasRoomSchema S.Store conn.old }
     requires outside { conn.old.in_transaction ≡ false }
     requires callable { F.IsAlwaysCallable render }
-    requires memory { (answer : Result Told Why) (r : _) → FnOnceReturnsAt F.FnOnce render answer r → IfErr r (λ e. e ≡ Memory) }
-    ensures bytes { HasCleanDisk (state S.Store conn.new) → IfOk result (λ bytes. (house : House) (room : Room) → IsFor (state S.Store conn.old).now.trees plan.now event.now house room → FnOnceReturnsAt F.FnOnce render (answer_to event.now room) (Ok bytes)) }
-    ensures ok { HasCleanDisk (state S.Store conn.new) → OnOk result (Commits (state S.Store conn.old) (state S.Store conn.new) (IsFor (state S.Store conn.old).now.trees plan.now event.now) (room_after event.now)) }
-    ensures err { HasCleanDisk (state S.Store conn.new) → OnErr result (Leaves (state S.Store conn.old) (state S.Store conn.new)) }
+    requires memory { (answer : Result Told Why) (r : _)
+        → FnOnceReturnsAt F.FnOnce render answer r → IfErr r (λ e. e ≡ Memory) }
+    ensures bytes { HasCleanDisk (state S.Store conn.new)
+        → IfOk result (λ bytes. (house : House) (room : Room)
+        → IsFor (state S.Store conn.old).now.trees plan.now event.now house room
+        → FnOnceReturnsAt F.FnOnce render (answer_to event.now room) (Ok bytes)) }
+    ensures ok { HasCleanDisk (state S.Store conn.new)
+        → OnOk result (Commits (state S.Store conn.old) (state S.Store conn.new)
+        (IsFor (state S.Store conn.old).now.trees plan.now event.now) (room_after event.now)) }
+    ensures err { HasCleanDisk (state S.Store conn.new)
+        → OnErr result (Leaves (state S.Store conn.old) (state S.Store conn.new)) }
     ensures wants { IfErr result IsWant }
     ensures ended { conn.new.in_transaction ≡ false }
-    ensures survives { Survives (state S.Store conn.old) (state S.Store conn.new) (λ db. (house : House) (room : Room) → IsFor (state S.Store conn.old).now.trees plan.now event.now house room → Stands db house (room_after event.now room)) }
+    ensures survives { Survives (state S.Store conn.old) (state S.Store conn.new) (λ db.
+        (house : House) (room : Room)
+        → IsFor (state S.Store conn.old).now.trees plan.now event.now house room
+        → Stands db house (room_after event.now room)) }
 {
     // Outside a transaction the tables are as they were committed.
     let _ = conn.is_autocommit();
@@ -65,38 +75,6 @@ pub(crate) fn act_on<S: Alter, F: FnOnce(&Result<Answer, Refusal>) -> Result<Vec
     match written {
         Ok(()) => Ok(bytes),
         Err(fault) => Err(Refusal::from(fault)),
-    }
-}
-
-/// Acts on an event, and adds the machine's answer to `out`. A fault changes neither.
-pub(crate) fn add_answer<S: Alter>(
-    alloc: Global,
-    conn: &mut Connection<S>,
-    plan: &Plan,
-    event: &Event,
-    out: &mut Vec<Result<Answer, Refusal>>,
-) -> Result<(), Fault>
-    requires schema { HasCleanDisk (state S.Store conn.old) → (state S.Store conn.old).now.schema ≡ room_schema }
-    requires outside { conn.old.in_transaction ≡ false }
-    ensures answer { HasCleanDisk (state S.Store conn.new) → OnOk result ((house : House) (room : Room) → IsFor (state S.Store conn.old).now.trees plan.now event.now house room → out.new.items ≡ out.old.items ++ answer_to event.now room ∷ []) }
-    ensures ok { HasCleanDisk (state S.Store conn.new) → OnOk result (Commits (state S.Store conn.old) (state S.Store conn.new) (IsFor (state S.Store conn.old).now.trees plan.now event.now) (room_after event.now)) }
-    ensures err { HasCleanDisk (state S.Store conn.new) → OnErr result (Leaves (state S.Store conn.old) (state S.Store conn.new)) }
-    ensures kept { OnErr result (out.new.items ≡ out.old.items) }
-    ensures ended { conn.new.in_transaction ≡ false }
-    ensures survives { Survives (state S.Store conn.old) (state S.Store conn.new) (λ db. (house : House) (room : Room) → IsFor (state S.Store conn.old).now.trees plan.now event.now house room → Stands db house (room_after event.now room)) }
-{
-    let _ = conn.is_autocommit();
-    let decision = decide(alloc, conn, plan, event)?;
-    let (changes, answer) = parts(alloc, decision);
-    out.push(answer)?;
-    let written = write(conn, changes.as_slice());
-    drop(changes);
-    match written {
-        Ok(()) => Ok(()),
-        Err(fault) => {
-            let _ = out.pop();
-            Err(fault)
-        }
     }
 }
 

@@ -2,27 +2,28 @@
 ghost use Rattle.std.specs.Prelude.{◌≡◌, ◌⊎◌, false, None, Some, IfOk, OnOk, OnErr};
 ghost use Rattle.sqlite.specs.Held.{state};
 ghost use Rattle.sqlite.specs.State.{HasCleanDisk, IsUnchanged, Survives};
-ghost use Rattle.room_tables_sql.specs.Outcomes.{Keeps};
+ghost use Rattle.room_tables_schema.specs.Connections.{HasRoomSchema};
+ghost use Rattle.room_tables_sql.specs.Outcomes.{Keeps, ReadsOnly};
 ghost use Rattle.room_core.specs.Deciding.{Decides};
 ghost use Rattle.room_place.specs.Plans.{division_of};
 ghost use Rattle.room_model.specs.Calls.{new_call, take_call};
-ghost use Rattle.room_model.specs.Decisions.{Decided};
+ghost use Rattle.room_model.specs.Decisions.{Verdict};
 ghost use Rattle.room_model.specs.Queries.{kept_call};
 ghost use Rattle.room_model.specs.Room.{Room};
 ghost use Rattle.room_model.specs.Step.{IsAddressed, decided};
 ghost use Rattle.room_model.specs.WellFormed.{IsWellFormed};
-ghost use Rattle.room_tables_schema.specs.Schema.{room_schema};
 ghost use Rattle.room_tables.specs.Stands.{House, Stands};
+ghost use Rattle.room_tables.specs.Finding.{Finds};
 ghost use Rattle.room_model.specs.Events.{by_crew, by_desk, by_position};
 ghost use Rattle.room_store.specs.Acting.{IsFor};
 
-use crate::crews::load_crew;
-use crate::working::load_working;
 use room_core::calls::{decide_again, decide_call};
 use room_core::crews::{decide_crew, number_in_hand};
 use room_core::decisions::Decision;
 use room_core::desks::decide_desk;
 use room_place::plans::{DivisionNumber, Plan};
+use room_store_reads::crews::load_crew;
+use room_store_reads::working::load_working;
 use room_tables::loading::row_at;
 use room_tables_schema::faults::Fault;
 use room_types::asks::{Ask, CallForm, Event, NewCall, Who};
@@ -36,17 +37,24 @@ use sqlite::{Alter, Connection};
 use std::alloc::Global;
 
 /// What the machine decides of an event in the room that the tables stand for. A fault is of memory
-/// or of storage; rows that don't agree are one of storage, and so is an event that is not addressed.
+/// or of storage; rows that don't agree are one of storage, and so is an event that is not
+/// addressed.
 pub(crate) fn decide<S: Alter>(
     alloc: Global,
     conn: &mut Connection<S>,
     plan: &Plan,
     event: &Event,
 ) -> Result<Result<Decision, Refusal>, Fault>
-    requires schema { HasCleanDisk (state S.Store conn.old) → (state S.Store conn.old).now.schema ≡ room_schema }
-    ensures decided { HasCleanDisk (state S.Store conn.new) → IfOk result (λ x. (house : House) (room : Room) → IsFor (state S.Store conn.old).now.trees plan.now event.now house room → x ≡ decided event.now room) }
-    ensures ok { HasCleanDisk (state S.Store conn.new) → OnOk result (IsUnchanged (state S.Store conn.old) (state S.Store conn.new)) }
-    ensures err { HasCleanDisk (state S.Store conn.new) → OnErr result (Keeps (state S.Store conn.old) (state S.Store conn.new) ⊎ (conn.new ≡ conn.old)) }
+    requires room { HasRoomSchema S.Store conn.old }
+    ensures decided { HasCleanDisk (state S.Store conn.new)
+        → IfOk result (λ x. (house : House) (room : Room)
+        → IsFor (state S.Store conn.old).now.trees plan.now event.now house room
+        → x ≡ decided event.now room) }
+    ensures ok { HasCleanDisk (state S.Store conn.new)
+        → OnOk result (IsUnchanged (state S.Store conn.old) (state S.Store conn.new)) }
+    ensures err { HasCleanDisk (state S.Store conn.new)
+        → OnErr result (Keeps (state S.Store conn.old) (state S.Store conn.new)
+        ⊎ (conn.new ≡ conn.old)) }
     ensures mode { conn.old.in_transaction ≡ false → conn.new.in_transaction ≡ false }
     ensures survives { Survives (state S.Store conn.old) (state S.Store conn.new) (λ _. ⊥) }
 {
@@ -68,12 +76,11 @@ fn for_desk<S: Alter>(
     ask: &Ask,
     at: Moment,
 ) -> Result<Result<Decision, Refusal>, Fault>
-    requires schema { HasCleanDisk (state S.Store conn.old) → (state S.Store conn.old).now.schema ≡ room_schema }
-    ensures decided { HasCleanDisk (state S.Store conn.new) → IfOk result (λ x. (house : House) (room : Room) → Stands (state S.Store conn.old).now.trees house room → IsWellFormed room → room.plan ≡ plan.now.areas → IsAddressed (by_desk division ask.now at) room → x ≡ decided (by_desk division ask.now at) room) }
-    ensures ok { HasCleanDisk (state S.Store conn.new) → OnOk result (IsUnchanged (state S.Store conn.old) (state S.Store conn.new)) }
-    ensures err { HasCleanDisk (state S.Store conn.new) → OnErr result (Keeps (state S.Store conn.old) (state S.Store conn.new)) }
-    ensures mode { conn.old.in_transaction ≡ false → conn.new.in_transaction ≡ false }
-    ensures survives { Survives (state S.Store conn.old) (state S.Store conn.new) (λ _. ⊥) }
+    requires room { HasRoomSchema S.Store conn.old }
+    ensures decided { Finds S.Store conn.old conn.new result (λ room x. IsWellFormed room
+        → room.plan ≡ plan.now.areas → IsAddressed (by_desk division ask.now at) room
+        → x ≡ decided (by_desk division ask.now at) room) }
+    ensures reads { ReadsOnly S.Store conn.old conn.new result }
 {
     let rows = load_working(alloc, conn, division, ask)?;
     match Slice::build(division, rows) {
@@ -95,12 +102,11 @@ fn for_crew<S: Alter>(
     ask: &Ask,
     at: Moment,
 ) -> Result<Result<Decision, Refusal>, Fault>
-    requires schema { HasCleanDisk (state S.Store conn.old) → (state S.Store conn.old).now.schema ≡ room_schema }
-    ensures decided { HasCleanDisk (state S.Store conn.new) → IfOk result (λ x. (house : House) (room : Room) → Stands (state S.Store conn.old).now.trees house room → IsWellFormed room → room.plan ≡ plan.now.areas → IsAddressed (by_crew callsign.now ask.now at) room → x ≡ decided (by_crew callsign.now ask.now at) room) }
-    ensures ok { HasCleanDisk (state S.Store conn.new) → OnOk result (IsUnchanged (state S.Store conn.old) (state S.Store conn.new)) }
-    ensures err { HasCleanDisk (state S.Store conn.new) → OnErr result (Keeps (state S.Store conn.old) (state S.Store conn.new)) }
-    ensures mode { conn.old.in_transaction ≡ false → conn.new.in_transaction ≡ false }
-    ensures survives { Survives (state S.Store conn.old) (state S.Store conn.new) (λ _. ⊥) }
+    requires room { HasRoomSchema S.Store conn.old }
+    ensures decided { Finds S.Store conn.old conn.new result (λ room x. IsWellFormed room
+        → room.plan ≡ plan.now.areas → IsAddressed (by_crew callsign.now ask.now at) room
+        → x ≡ decided (by_crew callsign.now ask.now at) room) }
+    ensures reads { ReadsOnly S.Store conn.old conn.new result }
 {
     let found = load_crew(conn, callsign, number_in_hand(ask))?;
     match found {
@@ -121,10 +127,15 @@ fn for_position<S: Alter>(
     ask: &Ask,
     at: Moment,
 ) -> Result<Result<Decision, Refusal>, Fault>
-    requires schema { HasCleanDisk (state S.Store conn.old) → (state S.Store conn.old).now.schema ≡ room_schema }
-    ensures decided { HasCleanDisk (state S.Store conn.new) → IfOk result (λ x. (house : House) (room : Room) → Stands (state S.Store conn.old).now.trees house room → IsWellFormed room → room.plan ≡ plan.now.areas → IsAddressed (by_position position ask.now at) room → x ≡ decided (by_position position ask.now at) room) }
-    ensures ok { HasCleanDisk (state S.Store conn.new) → OnOk result (IsUnchanged (state S.Store conn.old) (state S.Store conn.new)) }
-    ensures err { HasCleanDisk (state S.Store conn.new) → OnErr result (Keeps (state S.Store conn.old) (state S.Store conn.new) ⊎ (conn.new ≡ conn.old)) }
+    requires room { HasRoomSchema S.Store conn.old }
+    ensures decided { Finds S.Store conn.old conn.new result (λ room x. IsWellFormed room
+        → room.plan ≡ plan.now.areas → IsAddressed (by_position position ask.now at) room
+        → x ≡ decided (by_position position ask.now at) room) }
+    ensures ok { HasCleanDisk (state S.Store conn.new)
+        → OnOk result (IsUnchanged (state S.Store conn.old) (state S.Store conn.new)) }
+    ensures err { HasCleanDisk (state S.Store conn.new)
+        → OnErr result (Keeps (state S.Store conn.old) (state S.Store conn.new)
+        ⊎ (conn.new ≡ conn.old)) }
     ensures mode { conn.old.in_transaction ≡ false → conn.new.in_transaction ≡ false }
     ensures survives { Survives (state S.Store conn.old) (state S.Store conn.new) (λ _. ⊥) }
 {
@@ -143,12 +154,10 @@ fn for_call<S: Alter>(
     form: &CallForm,
     at: Moment,
 ) -> Result<Result<Decision, Refusal>, Fault>
-    requires schema { HasCleanDisk (state S.Store conn.old) → (state S.Store conn.old).now.schema ≡ room_schema }
-    ensures decided { HasCleanDisk (state S.Store conn.new) → IfOk result (λ x. (house : House) (room : Room) → Stands (state S.Store conn.old).now.trees house room → IsWellFormed room → room.plan ≡ plan.now.areas → x ≡ take_call (new_call position form.now at) room) }
-    ensures ok { HasCleanDisk (state S.Store conn.new) → OnOk result (IsUnchanged (state S.Store conn.old) (state S.Store conn.new)) }
-    ensures err { HasCleanDisk (state S.Store conn.new) → OnErr result (Keeps (state S.Store conn.old) (state S.Store conn.new)) }
-    ensures mode { conn.old.in_transaction ≡ false → conn.new.in_transaction ≡ false }
-    ensures survives { Survives (state S.Store conn.old) (state S.Store conn.new) (λ _. ⊥) }
+    requires room { HasRoomSchema S.Store conn.old }
+    ensures decided { Finds S.Store conn.old conn.new result (λ room x. IsWellFormed room
+        → room.plan ≡ plan.now.areas → x ≡ take_call (new_call position form.now at) room) }
+    ensures reads { ReadsOnly S.Store conn.old conn.new result }
 {
     let new = new_call(position, form, at);
     let found = row_at::<Call, S>(conn, &(position, form.serial))?;
@@ -169,13 +178,14 @@ fn for_new_call<S: Alter>(
     form: &CallForm,
     new: &NewCall,
 ) -> Result<Result<Decision, Refusal>, Fault>
-    requires schema { HasCleanDisk (state S.Store conn.old) → (state S.Store conn.old).now.schema ≡ room_schema }
-    ensures decided { HasCleanDisk (state S.Store conn.new) → IfOk result (λ x. (house : House) (room : Room) → Stands (state S.Store conn.old).now.trees house room → IsWellFormed room → new.now ≡ new_call new.now.position form.now new.now.at
-        → kept_call new.now.position form.now.serial room ≡ None → division_of room.plan form.now.place ≡ Some division → x ≡ take_call new.now room) }
-    ensures ok { HasCleanDisk (state S.Store conn.new) → OnOk result (IsUnchanged (state S.Store conn.old) (state S.Store conn.new)) }
-    ensures err { HasCleanDisk (state S.Store conn.new) → OnErr result (Keeps (state S.Store conn.old) (state S.Store conn.new)) }
-    ensures mode { conn.old.in_transaction ≡ false → conn.new.in_transaction ≡ false }
-    ensures survives { Survives (state S.Store conn.old) (state S.Store conn.new) (λ _. ⊥) }
+    requires room { HasRoomSchema S.Store conn.old }
+    ensures decided { HasCleanDisk (state S.Store conn.new)
+        → IfOk result (λ x. (house : House) (room : Room)
+        → Stands (state S.Store conn.old).now.trees house room → IsWellFormed room
+        → new.now ≡ new_call new.now.position form.now new.now.at
+        → kept_call new.now.position form.now.serial room ≡ None
+        → division_of room.plan form.now.place ≡ Some division → x ≡ take_call new.now room) }
+    ensures reads { ReadsOnly S.Store conn.old conn.new result }
 {
     let rows = load_working(alloc, conn, division, &Ask::Call(*form))?;
     match Slice::build(division, rows) {
@@ -204,7 +214,7 @@ fn new_call(position: PositionNumber, form: &CallForm, at: Moment) -> NewCall
 
 // Want of memory is no decision of the machine.
 fn machines(decision: Result<Decision, Refusal>) -> Result<Result<Decision, Refusal>, Fault>
-    ensures { IfOk result (λ x. (wanted : Decided) → Decides wanted decision → x ≡ wanted) }
+    ensures { IfOk result (λ x. (wanted : Verdict) → Decides wanted decision → x ≡ wanted) }
 {
     match decision {
         Err(Refusal::Memory) => Err(Fault::Memory),

@@ -1,51 +1,53 @@
 //! Rows of a fleet, enrolled: vehicles and their crews' terminals.
 ghost use Rattle.std.specs.Prelude.{◌≡◌, ◌++◌, ◌∷◌, [], List, false, IsTrue, IfOk, IfErr, OnOk, OnErr, length};
 ghost use Rattle.sqlite.specs.Held.{state};
-ghost use Rattle.sqlite.specs.State.{HasCleanDisk, IsUnchanged, KeepsCommit, Survives};
-ghost use Rattle.room_tables_sql.specs.Outcomes.{Keeps};
+ghost use Rattle.sqlite.specs.State.{HasCleanDisk, Survives};
+ghost use Rattle.room_tables_schema.specs.Connections.{HasRoomSchema};
+ghost use Rattle.room_tables_sql.specs.Outcomes.{ReadsOnly};
 ghost use Rattle.room_types.specs.declared.fleet.RowFate.TheVariants as told;
 ghost use Rattle.room_types.specs.declared.fleet.Terminal.{Terminal as Known};
-ghost use Rattle.room_model.specs.Enrol.{fate_by, fate_of, is_crews_terminal, is_same_vehicle, new_terminal, new_vehicle, room_by, room_enrolled, terminals_enrolled};
+ghost use Rattle.room_model.specs.Enrol.{fate_by, fate_of, is_crews_terminal, is_same_vehicle, room_enrolled, terminals_enrolled};
 ghost use Rattle.room_model.specs.Room.{Room};
-ghost use Rattle.room_tables_schema.specs.Schema.{room_schema};
 ghost use Rattle.room_service.specs.Rooms.{IsWant};
 ghost use Rattle.room_tables.specs.Stands.{House, Stands};
-ghost use Rattle.room_tables.specs.Writes.{Changes};
-ghost use Rattle.room_store.specs.Acting.{IsSettled, Leaves};
-ghost use Rattle.room_store.specs.Enrolling.{Enrols, HasEnrolled, MayBeEnrolled, StandsAfter, StandsInPlan, fate_in, house_by};
-ghost use Rattle.room_store.specs.Keeping.{IsReady, IsRoom, house_of};
+ghost use Rattle.room_store_writes.specs.Writing.{IsSettled, Leaves};
+ghost use Rattle.room_store_writes.specs.Enrolling.{Enrols, StandsAfter};
+ghost use Rattle.room_store.specs.Enrolling.{HasEnrolled, MayBeEnrolled, StandsInPlan, fate_in};
+ghost use Rattle.room_store.specs.Keeping.{IsReady, IsRoom};
+ghost use Rattle.room_store_writes.specs.Houses.{house_of};
 
 use crate::store::Store;
-use crate::writing::end;
 use room_place::plans::Plan;
-use room_tables::changing::put;
+use room_store_writes::enrolling::write;
 use room_tables::loading::row_at;
-use room_tables::terminals::{put_terminal, terminal_at};
+use room_tables::terminals::terminal_at;
 use room_tables_schema::faults::Fault;
 use room_types::asks::Who;
 use room_types::callsign::Callsign;
-use room_types::codes::Status;
 use room_types::fleet::{FleetRow, RowFate, Terminal};
-use room_types::numbers::{LastNumber, Moment};
 use room_types::refusals::Refusal;
 use room_types::tables::Vehicle;
-use sqlite::{Alter, Connection, Transaction};
+use sqlite::{Alter, Connection};
 
 impl<S: Alter> Store<S> {
-    /// Enrols the rows of a fleet in order, each in a transaction of its own, and adds what became of each
-    /// to `out`: `Added`, `Same`, or `Refused` as `NoSuchDivision`, `CallsignTaken` or `TokenTaken`. A row
-    /// that is refused changes nothing, and those after it are enrolled all the same.
+    /// Enrols the rows of a fleet in order, each in a transaction of its own, and adds what became
+    /// of each to `out`: `Added`, `Same`, or `Refused` as `NoSuchDivision`, `CallsignTaken` or
+    /// `TokenTaken`. A row that is refused changes nothing, and those after it are enrolled all the
+    /// same.
     ///
-    /// It ends at the first row for which memory or storage fails. That one changes nothing; `out` then holds
-    /// the fates of those before it.
+    /// It ends at the first row for which memory or storage fails. That one changes nothing; `out`
+    /// then holds the fates of those before it.
     pub fn import(&mut self, rows: &[FleetRow], out: &mut Vec<RowFate>) -> Result<(), Refusal>
         requires ready { IsReady S.Store self.old }
         ensures ready { IsReady S.Store self.new }
         ensures plan { self.new.plan ≡ self.old.plan }
-        ensures enrolled { HasCleanDisk (state S.Store self.new.conn) → (terminals : List Known) (room : Room) → IsRoom S.Store self.old terminals room
-            → (done : HasEnrolled S.Store self.new rows.now out.old.items out.new.items terminals room) × OnOk result (done.count ≡ length rows.now) }
+        ensures enrolled { HasCleanDisk (state S.Store self.new.conn)
+            → (terminals : List Known) (room : Room) → IsRoom S.Store self.old terminals room
+            → (done : HasEnrolled S.Store self.new rows.now out.old.items out.new.items terminals
+            room) × OnOk result (done.count ≡ length rows.now) }
         ensures wants { IfErr result IsWant }
-        ensures survives { Survives (state S.Store self.old.conn) (state S.Store self.new.conn) (MayBeEnrolled S.Store self.old rows.now) }
+        ensures survives { Survives (state S.Store self.old.conn) (state S.Store self.new.conn)
+            (MayBeEnrolled S.Store self.old rows.now) }
     {
         for row in rows {
             match self.enrol(row, out) {
@@ -60,13 +62,26 @@ impl<S: Alter> Store<S> {
         requires ready { IsReady S.Store self.old }
         ensures ready { IsReady S.Store self.new }
         ensures plan { self.new.plan ≡ self.old.plan }
-        ensures fate { HasCleanDisk (state S.Store self.new.conn) → OnOk result ((terminals : List Known) (room : Room) → IsRoom S.Store self.old terminals room → out.new.items ≡ out.old.items ++ fate_of room terminals row.now ∷ []) }
-        ensures ok { HasCleanDisk (state S.Store self.new.conn) → OnOk result ((terminals : List Known) (room : Room) → IsRoom S.Store self.old terminals room → IsRoom S.Store self.new (terminals_enrolled room terminals row.now) (room_enrolled room terminals row.now)) }
-        ensures settled { HasCleanDisk (state S.Store self.new.conn) → OnOk result (IsSettled (state S.Store self.new.conn)) }
-        ensures err { HasCleanDisk (state S.Store self.new.conn) → OnErr result (Leaves (state S.Store self.old.conn) (state S.Store self.new.conn)) }
+        ensures fate { HasCleanDisk (state S.Store self.new.conn)
+            → OnOk result ((terminals : List Known) (room : Room)
+            → IsRoom S.Store self.old terminals room
+            → out.new.items ≡ out.old.items ++ fate_of room terminals row.now ∷ []) }
+        ensures ok { HasCleanDisk (state S.Store self.new.conn)
+            → OnOk result ((terminals : List Known) (room : Room)
+            → IsRoom S.Store self.old terminals room
+            → IsRoom S.Store self.new (terminals_enrolled room terminals row.now)
+            (room_enrolled room terminals row.now)) }
+        ensures settled { HasCleanDisk (state S.Store self.new.conn)
+            → OnOk result (IsSettled (state S.Store self.new.conn)) }
+        ensures err { HasCleanDisk (state S.Store self.new.conn)
+            → OnErr result (Leaves (state S.Store self.old.conn) (state S.Store self.new.conn)) }
         ensures kept { OnErr result (out.new.items ≡ out.old.items) }
         ensures wants { IfErr result IsWant }
-        ensures survives { Survives (state S.Store self.old.conn) (state S.Store self.new.conn) (λ db. IsTrue (state S.Store self.old.conn).is_open → (terminals : List Known) (room : Room) → IsRoom S.Store self.old terminals room → Stands db (house_of self.old.plan (terminals_enrolled room terminals row.now)) (room_enrolled room terminals row.now)) }
+        ensures survives { Survives (state S.Store self.old.conn) (state S.Store self.new.conn)
+            (λ db. IsTrue (state S.Store self.old.conn).is_open
+            → (terminals : List Known) (room : Room) → IsRoom S.Store self.old terminals room
+            → Stands db (house_of self.old.plan (terminals_enrolled room terminals row.now))
+            (room_enrolled room terminals row.now)) }
     {
         if !self.is_sound {
             return Err(Refusal::Storage);
@@ -88,14 +103,23 @@ fn add_fate<S: Alter>(
     row: &FleetRow,
     out: &mut Vec<RowFate>,
 ) -> Result<(), Fault>
-    requires schema { HasCleanDisk (state S.Store conn.old) → (state S.Store conn.old).now.schema ≡ room_schema }
+    requires room { HasRoomSchema S.Store conn.old }
     requires outside { conn.old.in_transaction ≡ false }
-    ensures fate { HasCleanDisk (state S.Store conn.new) → OnOk result ((house : House) (room : Room) → StandsInPlan (state S.Store conn.old).now.trees plan.now house room → out.new.items ≡ out.old.items ++ fate_in row.now house room ∷ []) }
-    ensures ok { HasCleanDisk (state S.Store conn.new) → OnOk result (Enrols (state S.Store conn.old) (state S.Store conn.new) row.now (StandsInPlan (state S.Store conn.old).now.trees plan.now) (fate_in row.now)) }
-    ensures err { HasCleanDisk (state S.Store conn.new) → OnErr result (Leaves (state S.Store conn.old) (state S.Store conn.new)) }
+    ensures fate { HasCleanDisk (state S.Store conn.new)
+        → OnOk result ((house : House) (room : Room)
+        → StandsInPlan (state S.Store conn.old).now.trees plan.now house room
+        → out.new.items ≡ out.old.items ++ fate_in row.now house room ∷ []) }
+    ensures ok { HasCleanDisk (state S.Store conn.new)
+        → OnOk result (Enrols (state S.Store conn.old) (state S.Store conn.new) row.now
+        (StandsInPlan (state S.Store conn.old).now.trees plan.now) (fate_in row.now)) }
+    ensures err { HasCleanDisk (state S.Store conn.new)
+        → OnErr result (Leaves (state S.Store conn.old) (state S.Store conn.new)) }
     ensures kept { OnErr result (out.new.items ≡ out.old.items) }
     ensures ended { conn.new.in_transaction ≡ false }
-    ensures survives { Survives (state S.Store conn.old) (state S.Store conn.new) (λ db. (house : House) (room : Room) → StandsInPlan (state S.Store conn.old).now.trees plan.now house room → StandsAfter (fate_in row.now house room) row.now house room db) }
+    ensures survives { Survives (state S.Store conn.old) (state S.Store conn.new) (λ db.
+        (house : House) (room : Room)
+        → StandsInPlan (state S.Store conn.old).now.trees plan.now house room
+        → StandsAfter (fate_in row.now house room) row.now house room db) }
 {
     // Outside a transaction the tables are as they were committed.
     let _ = conn.is_autocommit();
@@ -116,12 +140,12 @@ fn find_fate<S: Alter>(
     plan: &Plan,
     row: &FleetRow,
 ) -> Result<RowFate, Fault>
-    requires schema { HasCleanDisk (state S.Store conn.old) → (state S.Store conn.old).now.schema ≡ room_schema }
-    ensures fate { HasCleanDisk (state S.Store conn.new) → IfOk result (λ fate. (house : House) (room : Room) → StandsInPlan (state S.Store conn.old).now.trees plan.now house room → fate ≡ fate_in row.now house room) }
-    ensures ok { HasCleanDisk (state S.Store conn.new) → OnOk result (IsUnchanged (state S.Store conn.old) (state S.Store conn.new)) }
-    ensures err { HasCleanDisk (state S.Store conn.new) → OnErr result (Keeps (state S.Store conn.old) (state S.Store conn.new)) }
-    ensures mode { conn.old.in_transaction ≡ false → conn.new.in_transaction ≡ false }
-    ensures survives { Survives (state S.Store conn.old) (state S.Store conn.new) (λ _. ⊥) }
+    requires room { HasRoomSchema S.Store conn.old }
+    ensures fate { HasCleanDisk (state S.Store conn.new)
+        → IfOk result (λ fate. (house : House) (room : Room)
+        → StandsInPlan (state S.Store conn.old).now.trees plan.now house room
+        → fate ≡ fate_in row.now house room) }
+    ensures reads { ReadsOnly S.Store conn.old conn.new result }
 {
     let vehicle = row_at::<Vehicle, S>(conn, &row.callsign)?;
     let terminal = terminal_at(conn, &row.token)?;
@@ -159,77 +183,5 @@ fn is_crews_terminal(callsign: Callsign, terminal: Option<Terminal>) -> bool
     match terminal {
         Some(terminal) => terminal.who == Who::Crew(callsign),
         None => false,
-    }
-}
-
-// Writes what a row of this fate adds. What a stop may leave is what it could before, or the room and
-// the terminals after the row.
-fn write<S: Alter>(conn: &mut Connection<S>, row: &FleetRow, fate: RowFate) -> Result<(), Fault>
-    requires schema { HasCleanDisk (state S.Store conn.old) → (state S.Store conn.old).now.schema ≡ room_schema }
-    requires outside { conn.old.in_transaction ≡ false }
-    requires settled { HasCleanDisk (state S.Store conn.old) → IsSettled (state S.Store conn.old) }
-    ensures ok { HasCleanDisk (state S.Store conn.new) → OnOk result (Enrols (state S.Store conn.old) (state S.Store conn.new) row.now (Stands (state S.Store conn.old).now.trees) (λ _ _. fate)) }
-    ensures err { HasCleanDisk (state S.Store conn.new) → OnErr result (Leaves (state S.Store conn.old) (state S.Store conn.new)) }
-    ensures ended { conn.new.in_transaction ≡ false }
-    ensures survives { Survives (state S.Store conn.old) (state S.Store conn.new) (λ db. (house : House) (room : Room) → Stands (state S.Store conn.old).now.trees house room → StandsAfter fate row.now house room db) }
-{
-    match fate {
-        RowFate::Added => write_row(conn, row),
-        RowFate::Same | RowFate::Refused(_) => Ok(()),
-    }
-}
-
-fn write_row<S: Alter>(conn: &mut Connection<S>, row: &FleetRow) -> Result<(), Fault>
-    requires schema { HasCleanDisk (state S.Store conn.old) → (state S.Store conn.old).now.schema ≡ room_schema }
-    requires outside { conn.old.in_transaction ≡ false }
-    requires settled { HasCleanDisk (state S.Store conn.old) → IsSettled (state S.Store conn.old) }
-    ensures ok { HasCleanDisk (state S.Store conn.new) → OnOk result (Enrols (state S.Store conn.old) (state S.Store conn.new) row.now (Stands (state S.Store conn.old).now.trees) (λ _ _. told.Added)) }
-    ensures err { HasCleanDisk (state S.Store conn.new) → OnErr result (Leaves (state S.Store conn.old) (state S.Store conn.new)) }
-    ensures ended { conn.new.in_transaction ≡ false }
-    ensures survives { Survives (state S.Store conn.old) (state S.Store conn.new) (λ db. (house : House) (room : Room) → Stands (state S.Store conn.old).now.trees house room → StandsAfter told.Added row.now house room db) }
-{
-    let mut tx = conn.transaction();
-    let done = put_row(&mut tx, row);
-    end(tx, done)
-}
-
-// Puts a row's vehicle and its crew's terminal.
-fn put_row<S: Alter>(tx: &mut Transaction<'_, S>, row: &FleetRow) -> Result<(), Fault>
-    requires schema { HasCleanDisk (state S.Store tx.old.conn.now) → (state S.Store tx.old.conn.now).now.schema ≡ room_schema }
-    requires inside { HasCleanDisk (state S.Store tx.old.conn.now) → IsTrue (state S.Store tx.old.conn.now).in_transaction }
-    ensures same_reference { tx.new.conn.ghost_name ≡ tx.old.conn.ghost_name }
-    ensures ok { HasCleanDisk (state S.Store tx.new.conn.now) → OnOk result (Changes (state S.Store tx.old.conn.now) (state S.Store tx.new.conn.now) (house_by told.Added row.now) (room_by told.Added row.now)) }
-    ensures kept { HasCleanDisk (state S.Store tx.new.conn.now) → KeepsCommit (state S.Store tx.old.conn.now) (state S.Store tx.new.conn.now) }
-    ensures survives { Survives (state S.Store tx.old.conn.now) (state S.Store tx.new.conn.now) (λ _. ⊥) }
-{
-    put(tx, &new_vehicle(row))?;
-    put_terminal(tx, &new_terminal(row))?;
-    Ok(())
-}
-
-// A vehicle that is new is off duty at home, its shift is over, and it has used no numbers.
-fn new_vehicle(row: &FleetRow) -> Vehicle
-    ensures { result ≡ new_vehicle row.now }
-{
-    Vehicle {
-        callsign: row.callsign,
-        home: row.division,
-        holder: row.division,
-        kind: row.kind,
-        place: row.place,
-        status: Status::OffDuty,
-        shift_end: Moment::of(0),
-        post: None,
-        last_order: LastNumber::of(0),
-        last_report: LastNumber::of(0),
-    }
-}
-
-fn new_terminal(row: &FleetRow) -> Terminal
-    ensures { result ≡ new_terminal row.now }
-{
-    Terminal {
-        token: row.token,
-        who: Who::Crew(row.callsign),
     }
 }

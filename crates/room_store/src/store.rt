@@ -13,8 +13,9 @@ ghost use Rattle.room_model.specs.Step.{IsAddressed, answer_to, room_after};
 ghost use Rattle.room_tables_schema.specs.Schema.{room_schema};
 ghost use Rattle.room_service.specs.Rooms.{IsWant, who_at};
 ghost use Rattle.room_tables.specs.Stands.{Stands};
-ghost use Rattle.room_store.specs.Acting.{IsSettled, Leaves};
-ghost use Rattle.room_store.specs.Keeping.{IsReady, IsRoom, house_of};
+ghost use Rattle.room_store_writes.specs.Writing.{IsSettled, Leaves};
+ghost use Rattle.room_store.specs.Keeping.{IsReady, IsRoom};
+ghost use Rattle.room_store_writes.specs.Houses.{house_of};
 
 use crate::acting::{act_on, know_number};
 use room_place::plans::Plan;
@@ -30,9 +31,9 @@ use std::alloc::Global;
 
 /// A room in the tables of a connection.
 ///
-/// A failed call may have shut the connection, which then tells nothing of the tables any more. So after
-/// each failed call the store tests whether it still sees a room, and where it doesn't, every later
-/// call is refused as `Storage`.
+/// A failed call may have shut the connection, which then tells nothing of the tables any more. So
+/// after each failed call the store tests whether it still sees a room, and where it doesn't, every
+/// later call is refused as `Storage`.
 pub struct Store<S: Alter> {
     pub(crate) conn: Connection<S>,
     pub(crate) plan: Plan,
@@ -45,6 +46,14 @@ impl<S: Alter> Store<S> {
         ensures { result.now ≡ self.now.plan }
     {
         &self.plan
+    }
+
+    /// Whether a later call may succeed. A failed call may have shut the connection for good; then
+    /// every later call is refused as `Storage`, and the file has to be opened again.
+    pub fn is_sound(&self) -> bool
+        ensures { result ≡ self.now.is_sound }
+    {
+        self.is_sound
     }
 
     /// Gives the connection back, outside a transaction.
@@ -64,10 +73,14 @@ impl<S: Alter> Store<S> {
         requires ready { IsReady S.Store self.old }
         ensures ready { IsReady S.Store self.new }
         ensures plan { self.new.plan ≡ self.old.plan }
-        ensures known { HasCleanDisk (state S.Store self.new.conn) → IfOk result (λ who. (terminals : List Known) (room : Room) → IsRoom S.Store self.old terminals room → who ≡ who_at terminals token.now) }
-        ensures leaves { HasCleanDisk (state S.Store self.new.conn) → Leaves (state S.Store self.old.conn) (state S.Store self.new.conn) }
+        ensures known { HasCleanDisk (state S.Store self.new.conn)
+            → IfOk result (λ who. (terminals : List Known) (room : Room)
+            → IsRoom S.Store self.old terminals room → who ≡ who_at terminals token.now) }
+        ensures leaves { HasCleanDisk (state S.Store self.new.conn)
+            → Leaves (state S.Store self.old.conn) (state S.Store self.new.conn) }
         ensures wants { IfErr result IsWant }
-        ensures survives { Survives (state S.Store self.old.conn) (state S.Store self.new.conn) (λ _. ⊥) }
+        ensures survives { Survives (state S.Store self.old.conn) (state S.Store self.new.conn)
+            (λ _. ⊥) }
     {
         if !self.is_sound {
             return Err(Refusal::Storage);
@@ -82,9 +95,9 @@ impl<S: Alter> Store<S> {
         }
     }
 
-    /// Acts on an addressed event: gives what `render` makes of the machine's answer, and the tables
-    /// stand for the room after the event. `render` is asked for the bytes before anything is written. A
-    /// refusal is of memory or of storage, and changes nothing.
+    /// Acts on an addressed event: gives what `render` makes of the machine's answer, and the
+    /// tables stand for the room after the event. `render` is asked for the bytes before anything
+    /// is written. A refusal is of memory or of storage, and changes nothing.
     pub fn act<F: FnOnce(&Result<Answer, Refusal>) -> Result<Vec<u8>, Refusal>>(
         &mut self,
         alloc: Global,
@@ -93,17 +106,33 @@ impl<S: Alter> Store<S> {
     ) -> Result<Vec<u8>, Refusal>
         requires ready { IsReady S.Store self.old }
         requires callable { F.IsAlwaysCallable render }
-        requires memory { (answer : Result Told Why) (r : _) → FnOnceReturnsAt F.FnOnce render answer r → IfErr r (λ e. e ≡ Memory) }
+        requires memory { (answer : Result Told Why) (r : _)
+            → FnOnceReturnsAt F.FnOnce render answer r → IfErr r (λ e. e ≡ Memory) }
         ensures ready { IsReady S.Store self.new }
         ensures plan { self.new.plan ≡ self.old.plan }
-        ensures bytes { HasCleanDisk (state S.Store self.new.conn) → IfOk result (λ bytes. (terminals : List Known) (room : Room) → IsRoom S.Store self.old terminals room → IsAddressed event.now room → FnOnceReturnsAt F.FnOnce render (answer_to event.now room) (Ok bytes)) }
-        ensures ok { HasCleanDisk (state S.Store self.new.conn) → OnOk result ((terminals : List Known) (room : Room) → IsRoom S.Store self.old terminals room → IsAddressed event.now room → IsRoom S.Store self.new terminals (room_after event.now room)) }
-        ensures settled { HasCleanDisk (state S.Store self.new.conn) → OnOk result (IsSettled (state S.Store self.new.conn)) }
-        ensures err { HasCleanDisk (state S.Store self.new.conn) → OnErr result (Leaves (state S.Store self.old.conn) (state S.Store self.new.conn)) }
+        ensures bytes { HasCleanDisk (state S.Store self.new.conn)
+            → IfOk result (λ bytes. (terminals : List Known) (room : Room)
+            → IsRoom S.Store self.old terminals room → IsAddressed event.now room
+            → FnOnceReturnsAt F.FnOnce render (answer_to event.now room) (Ok bytes)) }
+        ensures ok { HasCleanDisk (state S.Store self.new.conn)
+            → OnOk result ((terminals : List Known) (room : Room)
+            → IsRoom S.Store self.old terminals room → IsAddressed event.now room
+            → IsRoom S.Store self.new terminals (room_after event.now room)) }
+        ensures settled { HasCleanDisk (state S.Store self.new.conn)
+            → OnOk result (IsSettled (state S.Store self.new.conn)) }
+        ensures err { HasCleanDisk (state S.Store self.new.conn)
+            → OnErr result (Leaves (state S.Store self.old.conn) (state S.Store self.new.conn)) }
         ensures wants { IfErr result IsWant }
-        // What a stop leaves is what it left before, or the room after the event; after an Ok the room as it is now alone.
-        ensures survives { Survives (state S.Store self.old.conn) (state S.Store self.new.conn) (λ db. IsTrue (state S.Store self.old.conn).is_open → (terminals : List Known) (room : Room) → IsRoom S.Store self.old terminals room → IsAddressed event.now room → Stands db (house_of self.old.plan terminals) (room_after event.now room)) }
-        ensures alone { HasCleanDisk (state S.Store self.new.conn) → OnOk result ((db : Trees) → (state S.Store self.new.conn).may_leave db → db ≡ (state S.Store self.new.conn).now.trees) }
+        // What a stop leaves is what it left before, or the room after the event; after an Ok the
+        // room as it is now alone.
+        ensures survives { Survives (state S.Store self.old.conn) (state S.Store self.new.conn)
+            (λ db. IsTrue (state S.Store self.old.conn).is_open
+            → (terminals : List Known) (room : Room) → IsRoom S.Store self.old terminals room
+            → IsAddressed event.now room
+            → Stands db (house_of self.old.plan terminals) (room_after event.now room)) }
+        ensures alone { HasCleanDisk (state S.Store self.new.conn)
+            → OnOk result ((db : Trees) → (state S.Store self.new.conn).may_leave db
+            → db ≡ (state S.Store self.new.conn).now.trees) }
     {
         if !self.is_sound {
             return Err(Refusal::Storage);
@@ -120,7 +149,8 @@ impl<S: Alter> Store<S> {
 
     // After a fault the connection may be shut, and then it shows another schema or none.
     pub(crate) fn test_file(&mut self)
-        ensures sound { IsTrue self.new.is_sound → (state S.Store self.new.conn).now.schema ≡ room_schema }
+        ensures sound { IsTrue self.new.is_sound
+            → (state S.Store self.new.conn).now.schema ≡ room_schema }
         ensures conn { self.new.conn ≡ self.old.conn }
         ensures plan { self.new.plan ≡ self.old.plan }
     {

@@ -21,7 +21,8 @@ type Told = (DivisionNumber, Number, Moment);
 
 // Whether each incident that is not merged was opened by a call. The one refusal is `Memory`.
 pub(crate) fn are_opened(alloc: Global, rows: &RoomRows) -> Result<bool, Refusal>
-    ensures opened { IfOk result (λ opened. opened ≡ list_all (is_opened rows.now) rows.now.incidents) }
+    ensures opened { IfOk result (λ opened.
+        opened ≡ list_all (is_opened rows.now) rows.now.incidents) }
     ensures memory { IfErr result (λ refusal. refusal ≡ Memory) }
 {
     let told = told_by(alloc, &rows.calls)?;
@@ -29,7 +30,9 @@ pub(crate) fn are_opened(alloc: Global, rows: &RoomRows) -> Result<bool, Refusal
 }
 
 fn all_opened(told: &BTreeSet<Told>, incidents: &Rows<Incident>) -> bool
-    ensures { result ≡ list_all (λ i. is_merged i.state || contains told_cmp told.now (i.division, i.number, i.opened)) incidents.now }
+    ensures { result ≡ list_all (λ i.
+        is_merged i.state || contains told_cmp told.now
+        (i.division, i.number, i.opened)) incidents.now }
 {
     incidents
         .as_slice()
@@ -38,7 +41,8 @@ fn all_opened(told: &BTreeSet<Told>, incidents: &Rows<Incident>) -> bool
 }
 
 fn is_opened(told: &BTreeSet<Told>, incident: &Incident) -> bool
-    ensures { let i = incident.now in result ≡ (is_merged i.state || contains told_cmp told.now (i.division, i.number, i.opened)) }
+    ensures { let i = incident.now in result ≡
+        (is_merged i.state || contains told_cmp told.now (i.division, i.number, i.opened)) }
 {
     is_merged(incident.state)
         || told.contains(&(incident.division, incident.number, incident.opened))

@@ -19,11 +19,12 @@ use std::alloc::Global;
 /// All the rows of a room: a list of each type.
 pub type RoomRows = DivisionRows;
 
-/// Whether these rows make a well-formed room in a plan: whether they agree, at every key, in all that
-/// each room of the machine agrees in. Each row looks up the rows that it names, and what calls tell
-/// is put in order once. The one refusal is `Memory`.
+/// Whether these rows make a well-formed room in a plan: whether they agree, at every key, in all
+/// that each room of the machine agrees in. Each row looks up the rows that it names, and what
+/// calls tell is put in order once. The one refusal is `Memory`.
 pub fn is_well_formed(alloc: Global, plan: &Plan, rows: &RoomRows) -> Result<bool, Refusal>
-    ensures test { IfOk result (λ fits. IsTrue fits ↔ IsWellFormed (room_of plan.now.areas rows.now)) }
+    ensures test { IfOk result (λ fits. IsTrue fits
+        ↔ IsWellFormed (room_of plan.now.areas rows.now)) }
     ensures memory { IfErr result (λ refusal. refusal ≡ Memory) }
 {
     are_in_order(plan, rows);

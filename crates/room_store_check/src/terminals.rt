@@ -1,4 +1,5 @@
-//! Whether terminals fit a room: each vehicle has one crew's terminal, and no terminal is another's.
+//! Whether terminals fit a room: each vehicle has one crew's terminal, and no terminal is
+//! another's.
 ghost use Rattle.std.specs.Prelude.{◌≡◌, ◌↔◌, IfErr, IfOk, IsTrue, length};
 ghost use Rattle.std.specs.BTreeSet.{IsFromIterResult, contains};
 ghost use Rattle.std.specs.List.{list_all};
@@ -30,7 +31,8 @@ pub fn do_terminals_fit(
     rows: &RoomRows,
     terminals: &[Terminal],
 ) -> Result<bool, Refusal>
-    ensures test { IfOk result (λ fit. IsTrue fit ↔ AreTerminals (room_of plan.now.areas rows.now) terminals.now) }
+    ensures test { IfOk result (λ fit. IsTrue fit
+        ↔ AreTerminals (room_of plan.now.areas rows.now) terminals.now) }
     ensures memory { IfErr result (λ refusal. refusal ≡ Memory) }
 {
     let _in_order = rows.vehicles.as_slice();

@@ -5,8 +5,8 @@ ghost use Rattle.room_store.specs.Keeping.{IsReady};
 
 use crate::scripts::Script;
 use room_store::creating::CreateFault;
-use room_store::opening::OpenFault;
 use room_store::store::Store;
+use room_store_opening::opening::OpenFault;
 use room_tables_schema::testing::is_empty;
 use room_types::answers::Answer;
 use room_types::asks::Event;
@@ -22,8 +22,8 @@ const STORAGE: u8 = 42;
 /// The number of the refusal that a want of memory is told as.
 const MEMORY: u8 = 41;
 
-/// Plays a script: what its steps were answered with, each as the number of its refusal, 0 for none; and the connection
-/// again.
+/// Plays a script: what its steps were answered with, each as the number of its refusal, 0 for
+/// none; and the connection again.
 pub(crate) fn play<S: Alter>(
     rt: &(impl AllocGlobal + Abort),
     conn: Connection<S>,
@@ -48,7 +48,12 @@ fn start<S: Alter>(
 {
     assert!(rt; conn.is_autocommit());
     if is_empty(conn.schema()) {
-        match Store::create(rt.alloc(), conn, &script.house.plan, &script.house.desks) {
+        match Store::create(
+            rt.alloc(),
+            conn,
+            &script.house.plan,
+            &script.house.terminals,
+        ) {
             Ok(store) => Ok(store),
             Err((fault, conn)) => {
                 assert_eq!(rt; fault, CreateFault::Storage);
@@ -105,7 +110,7 @@ fn enrol<S: Alter>(
     Ok(true)
 }
 
-// Acts on the first event by itself, at first without memory to tell its answer, and on the others in one call.
+// Acts on the events, on the first of them at first without memory to tell its answer.
 fn ask<S: Alter>(
     alloc: Global,
     store: &mut Store<S>,
@@ -127,13 +132,12 @@ fn ask<S: Alter>(
     if heard == STORAGE {
         return Ok(());
     }
-    let mut answers = Vec::new(alloc);
-    let ran = store.run(alloc, others, &mut answers);
-    for answer in &answers {
-        told.push(number(answer))?;
-    }
-    if let Err(refusal) = ran {
-        told.push(refusal.number())?;
+    for event in others {
+        let heard = act(alloc, store, event, true);
+        told.push(heard)?;
+        if heard == STORAGE {
+            return Ok(());
+        }
     }
     Ok(())
 }

@@ -1,4 +1,5 @@
-//! Rooms in memory: created, filled, opened and used; and a row that another program has put into one.
+//! Rooms in memory: created, filled, opened and used; and a row that another program has put into
+//! one.
 use crate::playing::play;
 use crate::scripts::{
     FATES, House, OF_A_LOAN, OF_AN_ORDER, Script, a_loan, an_order, fleet, new_house,
@@ -22,8 +23,8 @@ const PUT_INCIDENTS: &str = "INSERT INTO incidents VALUES \
 /// What the steps of two scripts were answered with.
 type Told = (Vec<u8>, Vec<u8>);
 
-// Fills a new room, and then opens it and acts on events: what the steps of both were answered with. Gives the connection
-// again.
+// Fills a new room, and then opens it and acts on events: what the steps of both were answered
+// with. Gives the connection again.
 fn fill_and_act<S: Alter>(
     rt: &(impl AllocGlobal + Abort),
     conn: Connection<S>,
@@ -93,7 +94,8 @@ fn active<S: Alter>(
     }
 }
 
-// Another program puts incidents into a new room: how many are read then of both divisions. Gives the connection again.
+// Another program puts incidents into a new room: how many are read then of both divisions. Gives
+// the connection again.
 fn active_in_both<S: Alter>(
     rt: &(impl AllocGlobal + Abort),
     conn: Connection<S>,

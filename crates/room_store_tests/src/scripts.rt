@@ -1,8 +1,9 @@
-//! A small room, and what is done in it: rows of a fleet, and events.
+//! What is done in the example room: rows of a fleet, and events.
 ghost use Rattle.std.specs.Prelude.{◌≤◌};
 
+use dispatch_room_example::example;
 use room_place::places::Place;
-use room_place::plans::{Area, DivisionNumber, Plan, Rect};
+use room_place::plans::{DivisionNumber, Plan};
 use room_types::asks::{Ask, CallForm, Event, Press, Who};
 use room_types::callsign::Callsign;
 use room_types::codes::{Button, Kind};
@@ -16,14 +17,8 @@ use room_types::token::Token;
 use std::alloc::Global;
 use std::test::Fail;
 
-/// A plan, and the desks of its divisions.
-#[derive(Drop)]
-pub(crate) struct House {
-    pub(crate) plan: Plan,
-    pub(crate) desks: [Terminal; 2],
-}
-
-/// What one program does: it creates a room in an empty database, or else opens it, enrols rows, and acts on events.
+/// What one program does: it creates a room in an empty database, or else opens it, enrols rows,
+/// and acts on events.
 #[derive(Clone, Copy)]
 pub(crate) struct Script<'a> {
     pub(crate) house: &'a House,
@@ -31,41 +26,21 @@ pub(crate) struct Script<'a> {
     pub(crate) events: &'a [Event],
 }
 
-/// Division 1 in the west, and division 2 in the east.
+/// The plan and the terminals of the example room.
+#[derive(Drop)]
+pub(crate) struct House {
+    pub(crate) plan: Plan,
+    pub(crate) terminals: [Terminal; 3],
+}
+
 pub(crate) fn new_house(alloc: Global) -> Result<House, Fail> {
-    let one = desk("deskone1", DivisionNumber::of(1)).ok_or("a desk")?;
-    let two = desk("desktwo2", DivisionNumber::of(2)).ok_or("a desk")?;
-    let areas = Vec::from_slice(
-        alloc,
-        &[area(1, 500_000, 549_999), area(2, 550_000, 599_999)],
-    )?;
-    match Plan::new(alloc, areas, "GMT0") {
-        Ok(plan) => Ok(House {
-            plan,
-            desks: [one, two],
-        }),
-        Err(_) => Err("a plan".into()),
-    }
+    let plan = example::plan(alloc)?;
+    let terminals = example::terminals();
+    Ok(House { plan, terminals })
 }
 
-fn area(division: u32, west: u32, east: u32) -> Area {
-    let (south, north) = (100_000, 199_999);
-    let rect = Rect {
-        west,
-        south,
-        east,
-        north,
-    };
-    Area { division, rect }
-}
-
-fn desk(token: &str, division: DivisionNumber) -> Option<Terminal> {
-    let token = Token::parse(token)?;
-    let who = Who::Desk(division);
-    Some(Terminal { token, who })
-}
-
-/// Two ambulances of division 1, and between them rows that are the first again, and rows that are refused.
+/// Two ambulances of division 1, and between them rows that are the first again, and rows that are
+/// refused.
 pub(crate) fn fleet() -> Option<[FleetRow; 6]> {
     Some([
         row("A1", 1, Kind::Ambulance, "crewofa1")?,
@@ -94,8 +69,9 @@ fn row(callsign: &str, division: u32, kind: Kind, token: &str) -> Option<FleetRo
     })
 }
 
-/// An incident of division 1 is called in, and A1 and A2 come on duty. A1 is sent, with what is refused beside it, and
-/// reports, skipping one report that comes late. Another incident is merged into it, and all is looked at and closed.
+/// An incident of division 1 is called in, and A1 and A2 come on duty. A1 is sent, with what is
+/// refused beside it, and reports, skipping one report that comes late. Another incident is merged
+/// into it, and all is looked at and closed.
 pub(crate) fn an_order() -> Option<[Event; 26]> {
     let (a1, a2) = (Callsign::parse("A1")?, Callsign::parse("A2")?);
     let place = Place::new(530_300, 180_400)?;
@@ -139,9 +115,9 @@ pub(crate) const OF_AN_ORDER: [u8; 27] = [
     0, 0, 0, 0, 0, 5, 7, 8, 9, 0, 0, 0, 0, 0, 15, 0, 0, 0, 0, 0, 0, 0, 0, 0, 0, 0, 0,
 ];
 
-/// An incident of division 2 is called in, and A1 comes on duty in division 1. It is offered to division 2, which
-/// declines; offered and withdrawn; offered, accepted and recalled twice, sent by division 2, and home again. What is
-/// refused stands between.
+/// An incident of division 2 is called in, and A1 comes on duty in division 1. It is offered to
+/// division 2, which declines; offered and withdrawn; offered, accepted and recalled twice, sent by
+/// division 2, and home again. What is refused stands between.
 pub(crate) fn a_loan() -> Option<[Event; 22]> {
     let (a1, place) = (Callsign::parse("A1")?, Place::new(530_300, 180_400)?);
     let call = called(1, 560_000)?;

@@ -1,4 +1,6 @@
 -- What calls on the tables make of the room.
+-- what a read leaves
+pub mod RoomReads
 -- a vehicle that gets another holder
 pub mod Settles
 -- calls in a loop that change nothing

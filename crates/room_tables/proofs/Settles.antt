@@ -12,22 +12,19 @@ use Rattle.room_model.specs.Room.{Room, settled}
 use Rattle.room_tables_schema.specs.Schema.{room_schema}
 use Rattle.room_tables_rows.specs.Stands.{House, Stands}
 use Rattle.room_tables_rows.specs.Writes.{Makes}
+use Rattle.room_tables.proofs.RoomReads.{kept}
 
 -- this is the row of the callsign, of whatever room the tables stand for
 abbrev pub IsFound : Trees → Callsign → Option Vehicle → Type 0
 IsFound trees callsign found = (house : House) (room : Room) → Stands trees house room → found ≡ row_at callsign_cmp vehicle_key room.vehicles callsign
 
 module _ (old mid : State) (callsign : Callsign) (division : ℕ) (same : IsUnchanged old mid) where
-  -- what stands before the read stands after it
-  kept : (house : House) (room : Room) → Stands old.now.trees house room → Stands mid.now.trees house room
-  kept house room = subst (λ db. Stands db.trees house room) (sym same.0.now_is)
-
   pub settles_found : (vehicle : Vehicle) (new : State) → IsFound old.now.trees callsign (Some vehicle) → Makes mid new (PutVehicle (record vehicle { holder = division; status = Available })) → Makes old new (Settle callsign division)
   settles_found vehicle new found put = record {
     inside = record { was_open = same.0.was_open; is_open = put.inside.is_open; now_is = put.inside.now_is; committed_is = put.inside.committed_is ∙ same.0.committed_is; mode = put.inside.mode };
     schema = put.schema;
     stands = λ house room h.
-        subst (λ at. Stands new.now.trees house (record room { vehicles = settled at division room.vehicles })) (found house room h) (put.stands house room (kept house room h));
+        subst (λ at. Stands new.now.trees house (record room { vehicles = settled at division room.vehicles })) (found house room h) (put.stands house room (kept old mid same house room h));
   }
 
   pub settles_none : old.in_transaction ≡ true → old.now.schema ≡ room_schema → IsFound old.now.trees callsign None → Makes old mid (Settle callsign division)
@@ -35,5 +32,5 @@ module _ (old mid : State) (callsign : Callsign) (division : ℕ) (same : IsUnch
     inside = record { was_open = same.0.was_open; is_open = same.0.is_open; now_is = λ i. mid.now; committed_is = same.0.committed_is; mode = same.0.mode ∙ inside };
     schema = subst (λ db. db.schema ≡ room_schema) (sym same.0.now_is) has;
     stands = λ house room h.
-        subst (λ at. Stands mid.now.trees house (record room { vehicles = settled at division room.vehicles })) (none house room h) (kept house room h);
+        subst (λ at. Stands mid.now.trees house (record room { vehicles = settled at division room.vehicles })) (none house room h) (kept old mid same house room h);
   }

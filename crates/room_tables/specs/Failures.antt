@@ -1,8 +1,10 @@
 -- What a fault tells. Memory may run out at any time; storage is told for a cause.
-use Rattle.std.specs.Prelude.{◌≡◌, ◌≤◌, ◌++◌, ◌⊎◌, ⊤, ℕ, suc, List, ◌∷◌, map, length, Bool, false, Err}
+use Rattle.std.specs.Prelude.{IfErr, Result, ◌≡◌, ◌≤◌, ◌++◌, ◌⊎◌, ⊤, ℕ, suc, List, ◌∷◌, map, length, Bool, false, Err}
 use Rattle.std.specs.declared.cmp.Ordering.{Ordering}
 use Rattle.sqlite_value.specs.Order.{Row}
-use Rattle.sqlite.specs.State.{ExecutesInside, FailsToQuery, Shown, State}
+use Rattle.sqlite.specs.Held.{Held, state}
+use Rattle.sqlite_trees.specs.declared.store.Store.{Ghosts}
+use Rattle.sqlite.specs.State.{HasCleanDisk, ExecutesInside, FailsToQuery, Shown, State}
 use Rattle.sqlite.specs.declared.error.Error.{Error}
 use Rattle.room_place.specs.declared.plans.Area.{Area}
 use Rattle.room_types.specs.Keyed.{IsKeyed}
@@ -24,6 +26,16 @@ module _ (text : List ℕ) (params : Row) (old new : State) where
   -- The statement failed, and not for want of memory.
   abbrev pub FailsToWrite : Type 0
   FailsToWrite = (e : Error) × ExecutesInside 0 text params old new (Err e) × (fault_of e ≡ Storage)
+
+-- why a read failed: storage is told for one of these causes
+abbrev pub TellsWhy : {S T : Type 0} → Ghosts S → Held S → Held S → Result T Fault → List ℕ → Row → (List Row → Type 0) → Type 0
+TellsWhy g old new result text params AreNone =
+    HasCleanDisk (state g new) → IfErr result (IfStorage (FailsToRead text params (state g old) (state g new) AreNone))
+
+-- why a write failed: storage is told for this cause
+abbrev pub TellsWhyUnwritten : {S T : Type 0} → Ghosts S → Held S → Held S → Result T Fault → List ℕ → Row → Type 0
+TellsWhyUnwritten g old new result text params =
+    HasCleanDisk (state g new) → IfErr result (IfStorage (FailsToWrite text params (state g old) (state g new)))
 
 -- one of them is none of the table's rows
 abbrev pub HasStranger : (Row → Bool) → List Row → Type 0

@@ -1,17 +1,18 @@
 //! The areas of the plan in their table.
 
-ghost use Rattle.std.specs.Prelude.{◌≡◌, false, map, IsTrue, IfOk, OnOk, OnErr, IfErr, []};
+ghost use Rattle.std.specs.Prelude.{◌≡◌, map, IfOk, OnOk, IfErr, []};
 ghost use Rattle.sqlite.specs.Held.{state};
-ghost use Rattle.sqlite.specs.State.{HasCleanDisk, IsUnchanged, Survives};
-ghost use Rattle.room_tables_sql.specs.Outcomes.{Keeps};
+ghost use Rattle.sqlite.specs.State.{HasCleanDisk};
 ghost use Rattle.room_tables_sql.specs.Tables.{AreNumbered};
-ghost use Rattle.room_model.specs.Room.{Room};
+ghost use Rattle.room_tables_sql.specs.Outcomes.{ReadsOnly, WritesInside};
 ghost use Rattle.room_tables_rows.specs.Areas.{area_row};
-ghost use Rattle.room_tables_schema.specs.Schema.{room_schema, areas_table};
-ghost use Rattle.room_tables_rows.specs.Stands.{House, Stands, StandsFor, numbered};
+ghost use Rattle.room_tables_schema.specs.Schema.{areas_table};
+ghost use Rattle.room_tables_schema.specs.Connections.{HasRoomSchema, MayWrite};
+ghost use Rattle.room_tables_rows.specs.Stands.{StandsFor, numbered};
 ghost use Rattle.room_tables_rows.specs.Writes.{AppendsArea};
 ghost use Rattle.room_tables_rows.specs.declared.areas.TheConstants.{ALL_AREAS, PUT_AREA};
-ghost use Rattle.room_tables.specs.Failures.{AreNoPlan, FailsToRead, FailsToWrite, IfStorage};
+ghost use Rattle.room_tables.specs.Failures.{AreNoPlan, IfStorage, TellsWhy, TellsWhyUnwritten};
+ghost use Rattle.room_tables.specs.Finding.{Finds};
 
 use room_place::plans::Area;
 use room_tables_rows::areas::{ALL_AREAS, PUT_AREA, area_columns};
@@ -24,14 +25,14 @@ use std::alloc::Global;
 
 /// The areas of the plan, in its order. Rows that are not numbered from 1 on are `Storage`.
 pub fn all_areas<S: Alter>(alloc: Global, conn: &mut Connection<S>) -> Result<Vec<Area>, Fault>
-    requires { HasCleanDisk (state S.Store conn.old) → (state S.Store conn.old).now.schema ≡ room_schema }
-    ensures areas { HasCleanDisk (state S.Store conn.new) → IfOk result (λ areas. (house : House) (room : Room) → Stands (state S.Store conn.old).now.trees house room → areas.items ≡ room.plan) }
-    ensures found { HasCleanDisk (state S.Store conn.new) → IfOk result (λ areas. AreNumbered ((state S.Store conn.old).now.trees areas_table.tree) → StandsFor (state S.Store conn.old).now.trees areas_table area_row (numbered 1 areas.items)) }
-    ensures ok { HasCleanDisk (state S.Store conn.new) → OnOk result (IsUnchanged (state S.Store conn.old) (state S.Store conn.new)) }
-    ensures err { HasCleanDisk (state S.Store conn.new) → OnErr result (Keeps (state S.Store conn.old) (state S.Store conn.new)) }
-    ensures why { HasCleanDisk (state S.Store conn.new) → IfErr result (IfStorage (FailsToRead ALL_AREAS.now [] (state S.Store conn.old) (state S.Store conn.new) (AreNoPlan))) }
-    ensures mode { conn.old.in_transaction ≡ false → conn.new.in_transaction ≡ false }
-    ensures survives { Survives (state S.Store conn.old) (state S.Store conn.new) (λ _. ⊥) }
+    requires room { HasRoomSchema S.Store conn.old }
+    ensures areas { Finds S.Store conn.old conn.new result (λ room areas. areas.items ≡ room.plan) }
+    ensures found { HasCleanDisk (state S.Store conn.new)
+        → IfOk result (λ areas. AreNumbered ((state S.Store conn.old).now.trees areas_table.tree)
+        → StandsFor (state S.Store conn.old).now.trees areas_table area_row
+        (numbered 1 areas.items)) }
+    ensures reads { ReadsOnly S.Store conn.old conn.new result }
+    ensures why { TellsWhy S.Store conn.old conn.new result ALL_AREAS.now [] (AreNoPlan) }
 {
     let shown = select(conn, ALL_AREAS, &[])?;
     areas_in(alloc, shown.as_slice())
@@ -57,12 +58,13 @@ fn areas_in(alloc: Global, shown: &[Row]) -> Result<Vec<Area>, Fault>
 
 /// Puts an area after those of the plan, of which it is the next.
 pub fn put_area<S: Alter>(tx: &mut Transaction<'_, S>, at: u32, area: &Area) -> Result<(), Fault>
-    requires schema { HasCleanDisk (state S.Store tx.old.conn.now) → (state S.Store tx.old.conn.now).now.schema ≡ room_schema }
-    requires inside { HasCleanDisk (state S.Store tx.old.conn.now) → IsTrue (state S.Store tx.old.conn.now).in_transaction }
-    ensures ok { HasCleanDisk (state S.Store tx.new.conn.now) → OnOk result (AppendsArea (state S.Store tx.old.conn.now) (state S.Store tx.new.conn.now) at area.now) }
-    ensures err { HasCleanDisk (state S.Store tx.new.conn.now) → OnErr result (Keeps (state S.Store tx.old.conn.now) (state S.Store tx.new.conn.now)) }
-    ensures why { HasCleanDisk (state S.Store tx.new.conn.now) → IfErr result (IfStorage (FailsToWrite PUT_AREA.now (area_row (at, area.now)) (state S.Store tx.old.conn.now) (state S.Store tx.new.conn.now))) }
-    ensures survives { Survives (state S.Store tx.old.conn.now) (state S.Store tx.new.conn.now) (λ _. ⊥) }
+    requires inside { MayWrite S.Store tx.old.conn.now }
+    ensures ok { HasCleanDisk (state S.Store tx.new.conn.now)
+        → OnOk result (AppendsArea (state S.Store tx.old.conn.now)
+        (state S.Store tx.new.conn.now) at area.now) }
+    ensures writes { WritesInside S.Store tx.old.conn.now tx.new.conn.now result }
+    ensures why { TellsWhyUnwritten S.Store tx.old.conn.now tx.new.conn.now result PUT_AREA.now
+        (area_row (at, area.now)) }
     ensures same_reference { tx.new.conn.ghost_name ≡ tx.old.conn.ghost_name }
 {
     write(tx, PUT_AREA, &area_columns(at, area))?;

@@ -18,7 +18,11 @@ impl Table for Assignment {
 
     ghost put = { change.PutAssignment };
 
-    ghost texts = { record { all = ALL_ASSIGNMENTS.now; at = ASSIGNMENT_AT.now; put = PUT_ASSIGNMENT.now } };
+    ghost texts = { record {
+      all = ALL_ASSIGNMENTS.now;
+      at = ASSIGNMENT_AT.now;
+      put = PUT_ASSIGNMENT.now;
+    } };
 
     ghost is_table = { assignments_are };
 

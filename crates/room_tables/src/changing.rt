@@ -1,13 +1,13 @@
 //! Changes of the room's rows, each inside a transaction.
 
-ghost use Rattle.std.specs.Prelude.{◌≡◌, IsTrue, OnOk, OnErr, IfErr};
+ghost use Rattle.std.specs.Prelude.{◌≡◌, OnOk};
 ghost use Rattle.sqlite.specs.Held.{state};
-ghost use Rattle.sqlite.specs.State.{HasCleanDisk, Survives};
-ghost use Rattle.room_tables_sql.specs.Outcomes.{Keeps};
+ghost use Rattle.sqlite.specs.State.{HasCleanDisk};
+ghost use Rattle.room_tables.specs.Failures.{TellsWhyUnwritten};
+ghost use Rattle.room_tables_schema.specs.Connections.{MayWrite};
+ghost use Rattle.room_tables_sql.specs.Outcomes.{WritesInside};
 ghost use Rattle.room_types.specs.declared.changes.Change.TheVariants.{Settle};
-ghost use Rattle.room_tables_schema.specs.Schema.{room_schema};
 ghost use Rattle.room_tables_rows.specs.Writes.{Makes};
-ghost use Rattle.room_tables.specs.Failures.{FailsToWrite, IfStorage};
 
 use crate::loading::row_at_inside;
 use crate::tables::{Dropped, Table};
@@ -22,12 +22,13 @@ use sqlite::{Alter, Transaction};
 
 /// Puts a row in its key's place.
 pub fn put<X: Table, S: Alter>(tx: &mut Transaction<'_, S>, row: &X) -> Result<(), Fault>
-    requires schema { HasCleanDisk (state S.Store tx.old.conn.now) → (state S.Store tx.old.conn.now).now.schema ≡ room_schema }
-    requires inside { HasCleanDisk (state S.Store tx.old.conn.now) → IsTrue (state S.Store tx.old.conn.now).in_transaction }
-    ensures ok { HasCleanDisk (state S.Store tx.new.conn.now) → OnOk result (Makes (state S.Store tx.old.conn.now) (state S.Store tx.new.conn.now) (X.put row.now)) }
-    ensures err { HasCleanDisk (state S.Store tx.new.conn.now) → OnErr result (Keeps (state S.Store tx.old.conn.now) (state S.Store tx.new.conn.now)) }
-    ensures why { HasCleanDisk (state S.Store tx.new.conn.now) → IfErr result (IfStorage (FailsToWrite X.texts.put (X.cells row.now) (state S.Store tx.old.conn.now) (state S.Store tx.new.conn.now))) }
-    ensures survives { Survives (state S.Store tx.old.conn.now) (state S.Store tx.new.conn.now) (λ _. ⊥) }
+    requires inside { MayWrite S.Store tx.old.conn.now }
+    ensures ok { HasCleanDisk (state S.Store tx.new.conn.now)
+        → OnOk result (Makes (state S.Store tx.old.conn.now) (state S.Store tx.new.conn.now)
+        (X.put row.now)) }
+    ensures writes { WritesInside S.Store tx.old.conn.now tx.new.conn.now result }
+    ensures why { TellsWhyUnwritten S.Store tx.old.conn.now tx.new.conn.now result X.texts.put
+        (X.cells row.now) }
     ensures same_reference { tx.new.conn.ghost_name ≡ tx.old.conn.ghost_name }
 {
     write(tx, X::statements().put, row.columns().as_slice())?;
@@ -36,12 +37,13 @@ pub fn put<X: Table, S: Alter>(tx: &mut Transaction<'_, S>, row: &X) -> Result<(
 
 /// Drops the row of a key, if there is one.
 pub fn drop_at<X: Dropped, S: Alter>(tx: &mut Transaction<'_, S>, key: &X::Key) -> Result<(), Fault>
-    requires schema { HasCleanDisk (state S.Store tx.old.conn.now) → (state S.Store tx.old.conn.now).now.schema ≡ room_schema }
-    requires inside { HasCleanDisk (state S.Store tx.old.conn.now) → IsTrue (state S.Store tx.old.conn.now).in_transaction }
-    ensures ok { HasCleanDisk (state S.Store tx.new.conn.now) → OnOk result (Makes (state S.Store tx.old.conn.now) (state S.Store tx.new.conn.now) (X.drop key.now)) }
-    ensures err { HasCleanDisk (state S.Store tx.new.conn.now) → OnErr result (Keeps (state S.Store tx.old.conn.now) (state S.Store tx.new.conn.now)) }
-    ensures why { HasCleanDisk (state S.Store tx.new.conn.now) → IfErr result (IfStorage (FailsToWrite X.drop_text (X.key_cells key.now) (state S.Store tx.old.conn.now) (state S.Store tx.new.conn.now))) }
-    ensures survives { Survives (state S.Store tx.old.conn.now) (state S.Store tx.new.conn.now) (λ _. ⊥) }
+    requires inside { MayWrite S.Store tx.old.conn.now }
+    ensures ok { HasCleanDisk (state S.Store tx.new.conn.now)
+        → OnOk result (Makes (state S.Store tx.old.conn.now) (state S.Store tx.new.conn.now)
+        (X.drop key.now)) }
+    ensures writes { WritesInside S.Store tx.old.conn.now tx.new.conn.now result }
+    ensures why { TellsWhyUnwritten S.Store tx.old.conn.now tx.new.conn.now result X.drop_text
+        (X.key_cells key.now) }
     ensures same_reference { tx.new.conn.ghost_name ≡ tx.old.conn.ghost_name }
 {
     write(tx, X::drop_statement(), X::key_columns(key).as_slice())?;
@@ -54,11 +56,11 @@ pub fn settle<S: Alter>(
     callsign: &Callsign,
     division: DivisionNumber,
 ) -> Result<(), Fault>
-    requires schema { HasCleanDisk (state S.Store tx.old.conn.now) → (state S.Store tx.old.conn.now).now.schema ≡ room_schema }
-    requires inside { HasCleanDisk (state S.Store tx.old.conn.now) → IsTrue (state S.Store tx.old.conn.now).in_transaction }
-    ensures ok { HasCleanDisk (state S.Store tx.new.conn.now) → OnOk result (Makes (state S.Store tx.old.conn.now) (state S.Store tx.new.conn.now) (Settle callsign.now division)) }
-    ensures err { HasCleanDisk (state S.Store tx.new.conn.now) → OnErr result (Keeps (state S.Store tx.old.conn.now) (state S.Store tx.new.conn.now)) }
-    ensures survives { Survives (state S.Store tx.old.conn.now) (state S.Store tx.new.conn.now) (λ _. ⊥) }
+    requires inside { MayWrite S.Store tx.old.conn.now }
+    ensures ok { HasCleanDisk (state S.Store tx.new.conn.now)
+        → OnOk result (Makes (state S.Store tx.old.conn.now) (state S.Store tx.new.conn.now)
+        (Settle callsign.now division)) }
+    ensures writes { WritesInside S.Store tx.old.conn.now tx.new.conn.now result }
     ensures same_reference { tx.new.conn.ghost_name ≡ tx.old.conn.ghost_name }
 {
     match row_at_inside::<Vehicle, S>(tx, callsign)? {
@@ -76,11 +78,11 @@ pub fn settle<S: Alter>(
 
 /// Applies one change of the room's rows.
 pub fn apply<S: Alter>(tx: &mut Transaction<'_, S>, change: &Change) -> Result<(), Fault>
-    requires schema { HasCleanDisk (state S.Store tx.old.conn.now) → (state S.Store tx.old.conn.now).now.schema ≡ room_schema }
-    requires inside { HasCleanDisk (state S.Store tx.old.conn.now) → IsTrue (state S.Store tx.old.conn.now).in_transaction }
-    ensures ok { HasCleanDisk (state S.Store tx.new.conn.now) → OnOk result (Makes (state S.Store tx.old.conn.now) (state S.Store tx.new.conn.now) change.now) }
-    ensures err { HasCleanDisk (state S.Store tx.new.conn.now) → OnErr result (Keeps (state S.Store tx.old.conn.now) (state S.Store tx.new.conn.now)) }
-    ensures survives { Survives (state S.Store tx.old.conn.now) (state S.Store tx.new.conn.now) (λ _. ⊥) }
+    requires inside { MayWrite S.Store tx.old.conn.now }
+    ensures ok { HasCleanDisk (state S.Store tx.new.conn.now)
+        → OnOk result (Makes (state S.Store tx.old.conn.now)
+        (state S.Store tx.new.conn.now) change.now) }
+    ensures writes { WritesInside S.Store tx.old.conn.now tx.new.conn.now result }
     ensures same_reference { tx.new.conn.ghost_name ≡ tx.old.conn.ghost_name }
 {
     // One way out for all arms: what holds at a way out is proved there anew.

@@ -16,7 +16,11 @@ impl Table for Division {
 
     ghost put = { change.PutDivision };
 
-    ghost texts = { record { all = ALL_DIVISIONS.now; at = DIVISION_AT.now; put = PUT_DIVISION.now } };
+    ghost texts = { record {
+      all = ALL_DIVISIONS.now;
+      at = DIVISION_AT.now;
+      put = PUT_DIVISION.now;
+    } };
 
     ghost is_table = { divisions_are };
 

@@ -1,22 +1,21 @@
 //! Incidents in their table.
 
-ghost use Rattle.std.specs.Prelude.{◌≡◌, false, IfOk, OnOk, OnErr, ◌==◌, ◌&&◌, filter, pos, int_le, int_lt, IfErr, [], ◌∷◌};
+ghost use Rattle.std.specs.Prelude.{◌≡◌, ◌==◌, ◌&&◌, filter, pos, int_le, int_lt, [], ◌∷◌};
 ghost use Rattle.sqlite_value.specs.declared.value.Value.TheVariants.{Int};
 ghost use Rattle.sqlite.specs.Held.{state};
-ghost use Rattle.sqlite.specs.State.{HasCleanDisk, IsUnchanged, Survives};
-ghost use Rattle.room_tables_sql.specs.Outcomes.{Keeps};
 ghost use Rattle.room_tables_sql.specs.Typed.{number};
+ghost use Rattle.room_tables_sql.specs.Outcomes.{ReadsOnly};
 ghost use Rattle.room_types.specs.Codes.{is_active, state_number};
 ghost use Rattle.room_types.specs.declared.changes.Change.TheVariants as change;
 ghost use Rattle.room_types.specs.declared.codes.State.TheVariants.{Active};
 ghost use Rattle.room_types.specs.Keys.{pair_cmp, incident_key};
-ghost use Rattle.room_model.specs.Room.{Room};
 ghost use Rattle.room_tables_rows.specs.Incidents.{is_incident_row, incident_row};
-ghost use Rattle.room_tables_schema.specs.Schema.{room_schema, incidents_table};
-ghost use Rattle.room_tables_rows.specs.Stands.{House, Stands};
+ghost use Rattle.room_tables_schema.specs.Schema.{incidents_table};
+ghost use Rattle.room_tables_schema.specs.Connections.{HasRoomSchema};
 ghost use Rattle.room_tables_rows.specs.declared.incidents.TheConstants.{ACTIVE_INCIDENTS, ALL_INCIDENTS, INCIDENTS_OPENED, INCIDENT_AT, PUT_INCIDENT};
 ghost use Rattle.room_tables_rows.proofs.IncidentsTable.{incidents_are};
-ghost use Rattle.room_tables.specs.Failures.{AreNoRows, FailsToRead, IfStorage};
+ghost use Rattle.room_tables.specs.Failures.{AreNoRows, TellsWhy};
+ghost use Rattle.room_tables.specs.Finding.{Finds};
 
 use crate::reading::load;
 use crate::tables::{Statements, Table};
@@ -39,7 +38,11 @@ impl Table for Incident {
 
     ghost put = { change.PutIncident };
 
-    ghost texts = { record { all = ALL_INCIDENTS.now; at = INCIDENT_AT.now; put = PUT_INCIDENT.now } };
+    ghost texts = { record {
+      all = ALL_INCIDENTS.now;
+      at = INCIDENT_AT.now;
+      put = PUT_INCIDENT.now;
+    } };
 
     ghost is_table = { incidents_are };
 
@@ -58,13 +61,13 @@ pub fn active_incidents<S: Alter>(
     conn: &mut Connection<S>,
     division: DivisionNumber,
 ) -> Result<Rows<Incident>, Fault>
-    requires { HasCleanDisk (state S.Store conn.old) → (state S.Store conn.old).now.schema ≡ room_schema }
-    ensures rows { HasCleanDisk (state S.Store conn.new) → IfOk result (λ rows. (house : House) (room : Room) → Stands (state S.Store conn.old).now.trees house room → rows ≡ filter (λ i. is_active i.state && i.division == division) room.incidents) }
-    ensures ok { HasCleanDisk (state S.Store conn.new) → OnOk result (IsUnchanged (state S.Store conn.old) (state S.Store conn.new)) }
-    ensures err { HasCleanDisk (state S.Store conn.new) → OnErr result (Keeps (state S.Store conn.old) (state S.Store conn.new)) }
-    ensures why { HasCleanDisk (state S.Store conn.new) → IfErr result (IfStorage (FailsToRead ACTIVE_INCIDENTS.now (number (state_number Active) ∷ number division ∷ []) (state S.Store conn.old) (state S.Store conn.new) (AreNoRows is_incident_row pair_cmp incident_key incident_row))) }
-    ensures mode { conn.old.in_transaction ≡ false → conn.new.in_transaction ≡ false }
-    ensures survives { Survives (state S.Store conn.old) (state S.Store conn.new) (λ _. ⊥) }
+    requires room { HasRoomSchema S.Store conn.old }
+    ensures rows { Finds S.Store conn.old conn.new result (λ room rows.
+        rows ≡ filter (λ i. is_active i.state && i.division == division) room.incidents) }
+    ensures reads { ReadsOnly S.Store conn.old conn.new result }
+    ensures why { TellsWhy S.Store conn.old conn.new result ACTIVE_INCIDENTS.now
+        (number (state_number Active) ∷ number division
+        ∷ []) (AreNoRows is_incident_row pair_cmp incident_key incident_row) }
 {
     let active = State::Active.number();
     load(
@@ -75,7 +78,8 @@ pub fn active_incidents<S: Alter>(
     )
 }
 
-/// The incidents of a division that were opened from a second of UTC since 1970 on and before another.
+/// The incidents of a division that were opened from a second of UTC since 1970 on and before
+/// another.
 pub fn incidents_opened<S: Alter>(
     alloc: Global,
     conn: &mut Connection<S>,
@@ -83,13 +87,14 @@ pub fn incidents_opened<S: Alter>(
     to: i64,
     division: DivisionNumber,
 ) -> Result<Rows<Incident>, Fault>
-    requires { HasCleanDisk (state S.Store conn.old) → (state S.Store conn.old).now.schema ≡ room_schema }
-    ensures rows { HasCleanDisk (state S.Store conn.new) → IfOk result (λ rows. (house : House) (room : Room) → Stands (state S.Store conn.old).now.trees house room → rows ≡ filter (λ i. int_le from (pos i.opened) && (int_lt (pos i.opened) to && i.division == division)) room.incidents) }
-    ensures ok { HasCleanDisk (state S.Store conn.new) → OnOk result (IsUnchanged (state S.Store conn.old) (state S.Store conn.new)) }
-    ensures err { HasCleanDisk (state S.Store conn.new) → OnErr result (Keeps (state S.Store conn.old) (state S.Store conn.new)) }
-    ensures why { HasCleanDisk (state S.Store conn.new) → IfErr result (IfStorage (FailsToRead INCIDENTS_OPENED.now (Int from ∷ Int to ∷ number division ∷ []) (state S.Store conn.old) (state S.Store conn.new) (AreNoRows is_incident_row pair_cmp incident_key incident_row))) }
-    ensures mode { conn.old.in_transaction ≡ false → conn.new.in_transaction ≡ false }
-    ensures survives { Survives (state S.Store conn.old) (state S.Store conn.new) (λ _. ⊥) }
+    requires room { HasRoomSchema S.Store conn.old }
+    ensures rows { Finds S.Store conn.old conn.new result (λ room rows.
+        rows ≡ filter (λ i. int_le from (pos i.opened) &&
+        (int_lt (pos i.opened) to && i.division == division)) room.incidents) }
+    ensures reads { ReadsOnly S.Store conn.old conn.new result }
+    ensures why { TellsWhy S.Store conn.old conn.new result INCIDENTS_OPENED.now (Int from
+        ∷ Int to ∷ number division
+        ∷ []) (AreNoRows is_incident_row pair_cmp incident_key incident_row) }
 {
     load(
         alloc,

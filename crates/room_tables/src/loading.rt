@@ -1,16 +1,16 @@
 //! Rows of any table: all of them, that of a key, and those that a division owns.
 
-ghost use Rattle.std.specs.Prelude.{◌≡◌, false, filter, IfOk, OnOk, OnErr, IfErr, [], ◌∷◌};
+ghost use Rattle.std.specs.Prelude.{◌≡◌, filter, IfOk, [], ◌∷◌};
 ghost use Rattle.sqlite.specs.Held.{state};
-ghost use Rattle.sqlite.specs.State.{HasCleanDisk, IsUnchanged, Survives};
-ghost use Rattle.room_tables_sql.specs.Outcomes.{Keeps};
+ghost use Rattle.sqlite.specs.State.{HasCleanDisk};
+ghost use Rattle.room_tables_schema.specs.Connections.{HasRoomSchema};
 ghost use Rattle.room_tables_sql.specs.Tables.{AreNumbered};
 ghost use Rattle.room_tables_sql.specs.Typed.{number};
+ghost use Rattle.room_tables_sql.specs.Outcomes.{ReadsInside, ReadsOnly};
 ghost use Rattle.room_types.specs.Keyed.{row_at};
-ghost use Rattle.room_model.specs.Room.{Room};
-ghost use Rattle.room_tables_schema.specs.Schema.{room_schema};
-ghost use Rattle.room_tables_rows.specs.Stands.{House, Stands, StandsFor};
-ghost use Rattle.room_tables.specs.Failures.{AreNoRows, AreMoreThanOne, FailsToRead, IfStorage};
+ghost use Rattle.room_tables_rows.specs.Stands.{StandsFor};
+ghost use Rattle.room_tables.specs.Failures.{AreMoreThanOne, AreNoRows, TellsWhy};
+ghost use Rattle.room_tables.specs.Finding.{Finds};
 
 use crate::reading::{find, load, row_of};
 use crate::tables::{Owned, Table};
@@ -27,14 +27,14 @@ pub fn all_rows<X: Table, S: Alter>(
     alloc: Global,
     conn: &mut Connection<S>,
 ) -> Result<Rows<X>, Fault>
-    requires { HasCleanDisk (state S.Store conn.old) → (state S.Store conn.old).now.schema ≡ room_schema }
-    ensures rows { HasCleanDisk (state S.Store conn.new) → IfOk result (λ rows. (house : House) (room : Room) → Stands (state S.Store conn.old).now.trees house room → rows ≡ X.rows room) }
-    ensures found { HasCleanDisk (state S.Store conn.new) → IfOk result (λ rows. AreNumbered ((state S.Store conn.old).now.trees X.table.tree) → StandsFor (state S.Store conn.old).now.trees X.table X.cells rows) }
-    ensures ok { HasCleanDisk (state S.Store conn.new) → OnOk result (IsUnchanged (state S.Store conn.old) (state S.Store conn.new)) }
-    ensures err { HasCleanDisk (state S.Store conn.new) → OnErr result (Keeps (state S.Store conn.old) (state S.Store conn.new)) }
-    ensures why { HasCleanDisk (state S.Store conn.new) → IfErr result (IfStorage (FailsToRead X.texts.all [] (state S.Store conn.old) (state S.Store conn.new) (AreNoRows X.is_row X.Key.cmp X.key_of X.cells))) }
-    ensures mode { conn.old.in_transaction ≡ false → conn.new.in_transaction ≡ false }
-    ensures survives { Survives (state S.Store conn.old) (state S.Store conn.new) (λ _. ⊥) }
+    requires room { HasRoomSchema S.Store conn.old }
+    ensures rows { Finds S.Store conn.old conn.new result (λ room rows. rows ≡ X.rows room) }
+    ensures found { HasCleanDisk (state S.Store conn.new)
+        → IfOk result (λ rows. AreNumbered ((state S.Store conn.old).now.trees X.table.tree)
+        → StandsFor (state S.Store conn.old).now.trees X.table X.cells rows) }
+    ensures reads { ReadsOnly S.Store conn.old conn.new result }
+    ensures why { TellsWhy S.Store conn.old conn.new result X.texts.all []
+        (AreNoRows X.is_row X.Key.cmp X.key_of X.cells) }
 {
     load(alloc, conn, X::statements().all, &[])
 }
@@ -44,13 +44,12 @@ pub fn row_at<X: Table, S: Alter>(
     conn: &mut Connection<S>,
     key: &X::Key,
 ) -> Result<Option<X>, Fault>
-    requires { HasCleanDisk (state S.Store conn.old) → (state S.Store conn.old).now.schema ≡ room_schema }
-    ensures row { HasCleanDisk (state S.Store conn.new) → IfOk result (λ row. (house : House) (room : Room) → Stands (state S.Store conn.old).now.trees house room → row ≡ row_at X.Key.cmp X.key_of (X.rows room) key.now) }
-    ensures ok { HasCleanDisk (state S.Store conn.new) → OnOk result (IsUnchanged (state S.Store conn.old) (state S.Store conn.new)) }
-    ensures err { HasCleanDisk (state S.Store conn.new) → OnErr result (Keeps (state S.Store conn.old) (state S.Store conn.new)) }
-    ensures why { HasCleanDisk (state S.Store conn.new) → IfErr result (IfStorage (FailsToRead X.texts.at (X.key_cells key.now) (state S.Store conn.old) (state S.Store conn.new) (AreMoreThanOne X.is_row))) }
-    ensures mode { conn.old.in_transaction ≡ false → conn.new.in_transaction ≡ false }
-    ensures survives { Survives (state S.Store conn.old) (state S.Store conn.new) (λ _. ⊥) }
+    requires room { HasRoomSchema S.Store conn.old }
+    ensures row { Finds S.Store conn.old conn.new result (λ room row.
+        row ≡ row_at X.Key.cmp X.key_of (X.rows room) key.now) }
+    ensures reads { ReadsOnly S.Store conn.old conn.new result }
+    ensures why { TellsWhy S.Store conn.old conn.new result X.texts.at (X.key_cells key.now)
+        (AreMoreThanOne X.is_row) }
 {
     find(conn, X::statements().at, X::key_columns(key).as_slice())
 }
@@ -60,12 +59,12 @@ pub(crate) fn row_at_inside<X: Table, S: Alter>(
     tx: &mut Transaction<'_, S>,
     key: &X::Key,
 ) -> Result<Option<X>, Fault>
-    requires { HasCleanDisk (state S.Store tx.old.conn.now) → (state S.Store tx.old.conn.now).now.schema ≡ room_schema }
-    ensures row { HasCleanDisk (state S.Store tx.new.conn.now) → IfOk result (λ row. (house : House) (room : Room) → Stands (state S.Store tx.old.conn.now).now.trees house room → row ≡ row_at X.Key.cmp X.key_of (X.rows room) key.now) }
-    ensures ok { HasCleanDisk (state S.Store tx.new.conn.now) → OnOk result (IsUnchanged (state S.Store tx.old.conn.now) (state S.Store tx.new.conn.now)) }
-    ensures err { HasCleanDisk (state S.Store tx.new.conn.now) → OnErr result (Keeps (state S.Store tx.old.conn.now) (state S.Store tx.new.conn.now)) }
-    ensures why { HasCleanDisk (state S.Store tx.new.conn.now) → IfErr result (IfStorage (FailsToRead X.texts.at (X.key_cells key.now) (state S.Store tx.old.conn.now) (state S.Store tx.new.conn.now) (AreMoreThanOne X.is_row))) }
-    ensures survives { Survives (state S.Store tx.old.conn.now) (state S.Store tx.new.conn.now) (λ _. ⊥) }
+    requires room { HasRoomSchema S.Store tx.old.conn.now }
+    ensures row { Finds S.Store tx.old.conn.now tx.new.conn.now result (λ room row.
+        row ≡ row_at X.Key.cmp X.key_of (X.rows room) key.now) }
+    ensures reads { ReadsInside S.Store tx.old.conn.now tx.new.conn.now result }
+    ensures why { TellsWhy S.Store tx.old.conn.now tx.new.conn.now result X.texts.at
+        (X.key_cells key.now) (AreMoreThanOne X.is_row) }
     ensures same_reference { tx.new.conn.ghost_name ≡ tx.old.conn.ghost_name }
 {
     let shown = select_inside(tx, X::statements().at, X::key_columns(key).as_slice())?;
@@ -78,13 +77,12 @@ pub fn rows_owned_by<X: Owned, S: Alter>(
     conn: &mut Connection<S>,
     division: DivisionNumber,
 ) -> Result<Rows<X>, Fault>
-    requires { HasCleanDisk (state S.Store conn.old) → (state S.Store conn.old).now.schema ≡ room_schema }
-    ensures rows { HasCleanDisk (state S.Store conn.new) → IfOk result (λ rows. (house : House) (room : Room) → Stands (state S.Store conn.old).now.trees house room → rows ≡ filter (X.owned division) (X.rows room)) }
-    ensures ok { HasCleanDisk (state S.Store conn.new) → OnOk result (IsUnchanged (state S.Store conn.old) (state S.Store conn.new)) }
-    ensures err { HasCleanDisk (state S.Store conn.new) → OnErr result (Keeps (state S.Store conn.old) (state S.Store conn.new)) }
-    ensures why { HasCleanDisk (state S.Store conn.new) → IfErr result (IfStorage (FailsToRead X.owned_text (number division ∷ []) (state S.Store conn.old) (state S.Store conn.new) (AreNoRows X.is_row X.Key.cmp X.key_of X.cells))) }
-    ensures mode { conn.old.in_transaction ≡ false → conn.new.in_transaction ≡ false }
-    ensures survives { Survives (state S.Store conn.old) (state S.Store conn.new) (λ _. ⊥) }
+    requires room { HasRoomSchema S.Store conn.old }
+    ensures rows { Finds S.Store conn.old conn.new result (λ room rows.
+        rows ≡ filter (X.owned division) (X.rows room)) }
+    ensures reads { ReadsOnly S.Store conn.old conn.new result }
+    ensures why { TellsWhy S.Store conn.old conn.new result X.owned_text (number division
+        ∷ []) (AreNoRows X.is_row X.Key.cmp X.key_of X.cells) }
 {
     load(alloc, conn, X::select_owned(), &[division.store()])
 }

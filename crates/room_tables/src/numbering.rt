@@ -1,15 +1,16 @@
 //! Whether the tables of a file number their rows. Tables that this program made do; of a file from
 //! elsewhere no clause says so, and it is tested.
 
-ghost use Rattle.std.specs.Prelude.{◌≡◌, ◌↔◌, ℕ, false, map, IsTrue, IfOk, OnOk, OnErr, IfErr, []};
+ghost use Rattle.std.specs.Prelude.{◌≡◌, ◌↔◌, ℕ, false, map, IsTrue, IfOk, []};
 ghost use Rattle.sqlite_trees.specs.Tree.{rowid};
 ghost use Rattle.sqlite.specs.Held.{state};
-ghost use Rattle.sqlite.specs.State.{HasCleanDisk, IsUnchanged, Survives};
-ghost use Rattle.room_tables_sql.specs.Outcomes.{Keeps};
+ghost use Rattle.sqlite.specs.State.{HasCleanDisk};
 ghost use Rattle.room_tables_sql.specs.Tables.{AreNumbered, RowidsRise};
-ghost use Rattle.room_tables_schema.specs.Schema.{room_schema, room_tables};
-ghost use Rattle.room_tables.specs.Failures.{FailsToRead, IfStorage};
+ghost use Rattle.room_tables_sql.specs.Outcomes.{ReadsOnly};
+ghost use Rattle.room_tables_schema.specs.Schema.{room_tables};
+ghost use Rattle.room_tables_schema.specs.Connections.{HasRoomSchema};
 ghost use Rattle.room_tables.specs.Numbering.{SelectsRowids, SelectEach, AreAllNumbered, integer_in};
+ghost use Rattle.room_tables.specs.Failures.{TellsWhy};
 
 use room_tables_schema::faults::Fault;
 use room_tables_sql::reading::select;
@@ -35,25 +36,21 @@ const ROWIDS: [&str; 13] = [
 
 /// Whether every table of a room numbers its rows, each number once.
 pub fn are_numbered<S: Alter>(conn: &mut Connection<S>) -> Result<bool, Fault>
-    requires { HasCleanDisk (state S.Store conn.old) → (state S.Store conn.old).now.schema ≡ room_schema }
-    ensures numbered { HasCleanDisk (state S.Store conn.new) → IfOk result (λ yes. IsTrue yes ↔ AreAllNumbered (state S.Store conn.old).now.trees) }
-    ensures ok { HasCleanDisk (state S.Store conn.new) → OnOk result (IsUnchanged (state S.Store conn.old) (state S.Store conn.new)) }
-    ensures err { HasCleanDisk (state S.Store conn.new) → OnErr result (Keeps (state S.Store conn.old) (state S.Store conn.new)) }
-    ensures mode { conn.old.in_transaction ≡ false → conn.new.in_transaction ≡ false }
-    ensures survives { Survives (state S.Store conn.old) (state S.Store conn.new) (λ _. ⊥) }
+    requires room { HasRoomSchema S.Store conn.old }
+    ensures numbered { HasCleanDisk (state S.Store conn.new)
+        → IfOk result (λ yes. IsTrue yes ↔ AreAllNumbered (state S.Store conn.old).now.trees) }
+    ensures reads { ReadsOnly S.Store conn.old conn.new result }
 {
     are_all_numbered(conn, &ROWIDS)
 }
 
 // Whether every table numbers its rows, by the texts that select their rowids.
 fn are_all_numbered<S: Alter>(conn: &mut Connection<S>, texts: &[&str]) -> Result<bool, Fault>
-    requires schema { HasCleanDisk (state S.Store conn.old) → (state S.Store conn.old).now.schema ≡ room_schema }
+    requires room { HasRoomSchema S.Store conn.old }
     requires texts { SelectEach (map (λ text. text.now) texts.now) room_tables }
-    ensures numbered { HasCleanDisk (state S.Store conn.new) → IfOk result (λ yes. IsTrue yes ↔ AreAllNumbered (state S.Store conn.old).now.trees) }
-    ensures ok { HasCleanDisk (state S.Store conn.new) → OnOk result (IsUnchanged (state S.Store conn.old) (state S.Store conn.new)) }
-    ensures err { HasCleanDisk (state S.Store conn.new) → OnErr result (Keeps (state S.Store conn.old) (state S.Store conn.new)) }
-    ensures mode { conn.old.in_transaction ≡ false → conn.new.in_transaction ≡ false }
-    ensures survives { Survives (state S.Store conn.old) (state S.Store conn.new) (λ _. ⊥) }
+    ensures numbered { HasCleanDisk (state S.Store conn.new)
+        → IfOk result (λ yes. IsTrue yes ↔ AreAllNumbered (state S.Store conn.old).now.trees) }
+    ensures reads { ReadsOnly S.Store conn.old conn.new result }
 {
     for text in texts {
         if !is_numbered(conn, text)? {
@@ -65,14 +62,14 @@ fn are_all_numbered<S: Alter>(conn: &mut Connection<S>, texts: &[&str]) -> Resul
 
 // Whether a table numbers its rows, by the text that selects its rowids.
 fn is_numbered<S: Alter>(conn: &mut Connection<S>, text: &str) -> Result<bool, Fault>
-    requires schema { HasCleanDisk (state S.Store conn.old) → (state S.Store conn.old).now.schema ≡ room_schema }
-    requires selects { HasCleanDisk (state S.Store conn.old) → (tree : ℕ) × SelectsRowids text.now tree }
-    ensures numbered { HasCleanDisk (state S.Store conn.new) → IfOk result (λ yes. (tree : ℕ) → SelectsRowids text.now tree → (IsTrue yes ↔ AreNumbered ((state S.Store conn.old).now.trees tree))) }
-    ensures ok { HasCleanDisk (state S.Store conn.new) → OnOk result (IsUnchanged (state S.Store conn.old) (state S.Store conn.new)) }
-    ensures err { HasCleanDisk (state S.Store conn.new) → OnErr result (Keeps (state S.Store conn.old) (state S.Store conn.new)) }
-    ensures why { HasCleanDisk (state S.Store conn.new) → IfErr result (IfStorage (FailsToRead text.now [] (state S.Store conn.old) (state S.Store conn.new) (λ _. ⊥))) }
-    ensures mode { conn.old.in_transaction ≡ false → conn.new.in_transaction ≡ false }
-    ensures survives { Survives (state S.Store conn.old) (state S.Store conn.new) (λ _. ⊥) }
+    requires room { HasRoomSchema S.Store conn.old }
+    requires selects { HasCleanDisk (state S.Store conn.old) → (tree : ℕ)
+        × SelectsRowids text.now tree }
+    ensures numbered { HasCleanDisk (state S.Store conn.new)
+        → IfOk result (λ yes. (tree : ℕ) → SelectsRowids text.now tree
+        → (IsTrue yes ↔ AreNumbered ((state S.Store conn.old).now.trees tree))) }
+    ensures reads { ReadsOnly S.Store conn.old conn.new result }
+    ensures why { TellsWhy S.Store conn.old conn.new result text.now [] (λ _. ⊥) }
 {
     let shown = select(conn, text, &[])?;
     Ok(rise(shown.as_slice()))

@@ -1,15 +1,15 @@
 //! Selections, read as rows of the room.
 
-ghost use Rattle.std.specs.Prelude.{◌≡◌, ◌++◌, ◌⊎◌, [], ◌∷◌, false, map, IsTrue, IfOk, IfErr, OnOk, OnErr};
+ghost use Rattle.std.specs.Prelude.{◌≡◌, ◌++◌, ◌⊎◌, [], ◌∷◌, map, IsTrue, IfOk, IfErr};
 ghost use Rattle.sqlite.specs.Given.{IsPlain};
 ghost use Rattle.sqlite.specs.Held.{state};
 ghost use Rattle.sqlite.specs.Listing.{understood};
-ghost use Rattle.sqlite.specs.State.{HasCleanDisk, IsUnchanged, Shown, Survives};
+ghost use Rattle.sqlite.specs.State.{HasCleanDisk, Shown};
 ghost use Rattle.sqlite.specs.Values.{bound};
-ghost use Rattle.room_tables_sql.specs.Outcomes.{Keeps};
+ghost use Rattle.room_tables_sql.specs.Outcomes.{ReadsOnly};
 ghost use Rattle.room_types.specs.Keyed.{IsKeyed, put_row};
 ghost use Rattle.room_tables_rows.specs.Finds.{listed};
-ghost use Rattle.room_tables.specs.Failures.{AreNoRows, AreMoreThanOne, FailsToRead, HasStranger, IfStorage};
+ghost use Rattle.room_tables.specs.Failures.{AreMoreThanOne, AreNoRows, HasStranger, IfStorage, TellsWhy};
 
 use room_tables_rows::columns::Stored;
 use room_tables_schema::faults::Fault;
@@ -27,14 +27,15 @@ pub(crate) fn load<X: Stored + Row, S: Alter>(
     text: &str,
     params: &[ValueRef<'_>],
 ) -> Result<Rows<X>, Fault>
-    requires { HasCleanDisk (state S.Store conn.old) → IsPlain (understood (state S.Store conn.old).now.schema text.now) }
-    ensures shown { HasCleanDisk (state S.Store conn.new) → IfOk result (λ rows. Shown text.now (bound params.now) (state S.Store conn.old) (state S.Store conn.new) (map X.cells rows)) }
+    requires { HasCleanDisk (state S.Store conn.old)
+        → IsPlain (understood (state S.Store conn.old).now.schema text.now) }
+    ensures shown { HasCleanDisk (state S.Store conn.new)
+        → IfOk result (λ rows. Shown text.now (bound params.now) (state S.Store conn.old)
+        (state S.Store conn.new) (map X.cells rows)) }
     ensures keyed { IfOk result (IsKeyed X.Key.cmp X.key_of) }
-    ensures ok { HasCleanDisk (state S.Store conn.new) → OnOk result (IsUnchanged (state S.Store conn.old) (state S.Store conn.new)) }
-    ensures err { HasCleanDisk (state S.Store conn.new) → OnErr result (Keeps (state S.Store conn.old) (state S.Store conn.new)) }
-    ensures why { HasCleanDisk (state S.Store conn.new) → IfErr result (IfStorage (FailsToRead text.now (bound params.now) (state S.Store conn.old) (state S.Store conn.new) (AreNoRows X.is_row X.Key.cmp X.key_of X.cells))) }
-    ensures mode { conn.old.in_transaction ≡ false → conn.new.in_transaction ≡ false }
-    ensures survives { Survives (state S.Store conn.old) (state S.Store conn.new) (λ _. ⊥) }
+    ensures reads { ReadsOnly S.Store conn.old conn.new result }
+    ensures why { TellsWhy S.Store conn.old conn.new result text.now (bound params.now)
+        (AreNoRows X.is_row X.Key.cmp X.key_of X.cells) }
 {
     let shown = select(conn, text, params)?;
     rows_of(alloc, shown.as_slice())
@@ -47,13 +48,14 @@ pub(crate) fn list<X: Stored, S: Alter>(
     text: &str,
     params: &[ValueRef<'_>],
 ) -> Result<Vec<X>, Fault>
-    requires { HasCleanDisk (state S.Store conn.old) → IsPlain (understood (state S.Store conn.old).now.schema text.now) }
-    ensures shown { HasCleanDisk (state S.Store conn.new) → IfOk result (λ found. Shown text.now (bound params.now) (state S.Store conn.old) (state S.Store conn.new) (map X.cells found.items)) }
-    ensures ok { HasCleanDisk (state S.Store conn.new) → OnOk result (IsUnchanged (state S.Store conn.old) (state S.Store conn.new)) }
-    ensures err { HasCleanDisk (state S.Store conn.new) → OnErr result (Keeps (state S.Store conn.old) (state S.Store conn.new)) }
-    ensures why { HasCleanDisk (state S.Store conn.new) → IfErr result (IfStorage (FailsToRead text.now (bound params.now) (state S.Store conn.old) (state S.Store conn.new) (HasStranger X.is_row))) }
-    ensures mode { conn.old.in_transaction ≡ false → conn.new.in_transaction ≡ false }
-    ensures survives { Survives (state S.Store conn.old) (state S.Store conn.new) (λ _. ⊥) }
+    requires { HasCleanDisk (state S.Store conn.old)
+        → IsPlain (understood (state S.Store conn.old).now.schema text.now) }
+    ensures shown { HasCleanDisk (state S.Store conn.new)
+        → IfOk result (λ found. Shown text.now (bound params.now) (state S.Store conn.old)
+        (state S.Store conn.new) (map X.cells found.items)) }
+    ensures reads { ReadsOnly S.Store conn.old conn.new result }
+    ensures why { TellsWhy S.Store conn.old conn.new result text.now (bound params.now)
+        (HasStranger X.is_row) }
 {
     let shown = select(conn, text, params)?;
     list_of(alloc, shown.as_slice())
@@ -65,13 +67,14 @@ pub(crate) fn find<X: Stored, S: Alter>(
     text: &str,
     params: &[ValueRef<'_>],
 ) -> Result<Option<X>, Fault>
-    requires { HasCleanDisk (state S.Store conn.old) → IsPlain (understood (state S.Store conn.old).now.schema text.now) }
-    ensures shown { HasCleanDisk (state S.Store conn.new) → IfOk result (λ row. Shown text.now (bound params.now) (state S.Store conn.old) (state S.Store conn.new) (map X.cells (listed row))) }
-    ensures ok { HasCleanDisk (state S.Store conn.new) → OnOk result (IsUnchanged (state S.Store conn.old) (state S.Store conn.new)) }
-    ensures err { HasCleanDisk (state S.Store conn.new) → OnErr result (Keeps (state S.Store conn.old) (state S.Store conn.new)) }
-    ensures why { HasCleanDisk (state S.Store conn.new) → IfErr result (IfStorage (FailsToRead text.now (bound params.now) (state S.Store conn.old) (state S.Store conn.new) (AreMoreThanOne X.is_row))) }
-    ensures mode { conn.old.in_transaction ≡ false → conn.new.in_transaction ≡ false }
-    ensures survives { Survives (state S.Store conn.old) (state S.Store conn.new) (λ _. ⊥) }
+    requires { HasCleanDisk (state S.Store conn.old)
+        → IsPlain (understood (state S.Store conn.old).now.schema text.now) }
+    ensures shown { HasCleanDisk (state S.Store conn.new)
+        → IfOk result (λ row. Shown text.now (bound params.now) (state S.Store conn.old)
+        (state S.Store conn.new) (map X.cells (listed row))) }
+    ensures reads { ReadsOnly S.Store conn.old conn.new result }
+    ensures why { TellsWhy S.Store conn.old conn.new result text.now (bound params.now)
+        (AreMoreThanOne X.is_row) }
 {
     let shown = select(conn, text, params)?;
     row_of(shown.as_slice())
@@ -81,7 +84,8 @@ pub(crate) fn find<X: Stored, S: Alter>(
 fn rows_of<X: Stored + Row>(alloc: Global, shown: &[sqlite::Row]) -> Result<Rows<X>, Fault>
     ensures shown { IfOk result (λ rows. map X.cells rows ≡ shown.now) }
     ensures keyed { IfOk result (IsKeyed X.Key.cmp X.key_of) }
-    ensures why { IfErr result (IfStorage (AreNoRows X.is_row X.Key.cmp X.key_of X.cells shown.now)) }
+    ensures why { IfErr result (IfStorage
+        (AreNoRows X.is_row X.Key.cmp X.key_of X.cells shown.now)) }
 {
     let mut rows = Rows::new(alloc);
     for columns in shown {
@@ -115,7 +119,8 @@ fn list_of<X: Stored>(alloc: Global, shown: &[sqlite::Row]) -> Result<Vec<X>, Fa
 
 // Whether the key of a row is above those of these.
 fn is_next<X: Row>(rows: &Rows<X>, row: &X) -> bool
-    ensures next { IsTrue result → put_row X.Key.cmp X.key_of rows.now row.now ≡ rows.now ++ row.now ∷ [] }
+    ensures next { IsTrue result
+        → put_row X.Key.cmp X.key_of rows.now row.now ≡ rows.now ++ row.now ∷ [] }
     ensures not { IsTrue result ⊎ ¬ (IsKeyed X.Key.cmp X.key_of (rows.now ++ row.now ∷ [])) }
 {
     match rows.as_slice().last() {

@@ -22,8 +22,8 @@ pub struct Statements {
 
 /// A table of the room's rows.
 ///
-/// Its law: the schema has the table, the room's rows are what it holds, and its statements say what
-/// their names say.
+/// Its law: the schema has the table, the room's rows are what it holds, and its statements say
+/// what their names say.
 pub trait Table: StoredRow {
     /// The table as the schema has it.
     ghost table: { SchemaTable };
@@ -42,7 +42,8 @@ pub trait Table: StoredRow {
         ensures at { result.at.now ≡ texts.at }
         ensures put { result.put.now ≡ texts.put };
 
-    ghost is_table: { IsTable Self.Key.cmp Self.key_of Self.cells Self.key_cells table rows put texts };
+    ghost is_table: { IsTable Self.Key.cmp Self.key_of Self.cells Self.key_cells table rows put
+        texts };
 }
 
 /// A table whose rows are found by the division that owns them.
@@ -53,7 +54,8 @@ pub trait Owned: Table {
     fn select_owned() -> &'static str
         ensures { result.now ≡ owned_text };
 
-    ghost selects_owned: { (d : ℕ) → SelectsChosen Self.table Self.cells owned_text (number d ∷ []) (Self.owned d) };
+    ghost selects_owned: { (d : ℕ)
+        → SelectsChosen Self.table Self.cells owned_text (number d ∷ []) (Self.owned d) };
 }
 
 /// A table that rows are dropped from.
@@ -67,5 +69,6 @@ pub trait Dropped: Table {
     fn drop_statement() -> &'static str
         ensures { result.now ≡ drop_text };
 
-    ghost is_dropped: { IsDropped Self.Key.cmp Self.key_of Self.cells Self.key_cells Self.table Self.rows drop drop_text };
+    ghost is_dropped: { IsDropped Self.Key.cmp Self.key_of Self.cells Self.key_cells Self.table
+        Self.rows drop drop_text };
 }

@@ -1,20 +1,21 @@
 //! Terminals in their table.
 
-ghost use Rattle.std.specs.Prelude.{◌≡◌, false, IsTrue, IfOk, OnOk, OnErr, IfErr, [], ◌∷◌, ◌↔◌};
+ghost use Rattle.std.specs.Prelude.{◌≡◌, false, IsTrue, IfOk, OnOk, [], ◌∷◌, ◌↔◌};
 ghost use Rattle.sqlite_value.specs.declared.value.Value.TheVariants.{Text};
 ghost use Rattle.sqlite.specs.Held.{state};
-ghost use Rattle.sqlite.specs.State.{HasCleanDisk, IsUnchanged, Survives};
-ghost use Rattle.room_tables_sql.specs.Outcomes.{Keeps};
+ghost use Rattle.sqlite.specs.State.{HasCleanDisk};
 ghost use Rattle.room_tables_sql.specs.Tables.{AreNumbered};
+ghost use Rattle.room_tables_sql.specs.Outcomes.{ReadsOnly, WritesInside};
 ghost use Rattle.room_types.specs.Keyed.{IsKeyed, put_row};
 ghost use Rattle.room_model.specs.Enrol.{terminal_at as found_terminal, terminal_key, token_cmp};
-ghost use Rattle.room_model.specs.Room.{Room};
 ghost use Rattle.room_tables_rows.specs.Terminals.{terminal_row, is_terminal_row};
-ghost use Rattle.room_tables_schema.specs.Schema.{room_schema, terminals_table};
-ghost use Rattle.room_tables_rows.specs.Stands.{House, Stands, StandsFor};
+ghost use Rattle.room_tables_schema.specs.Schema.{terminals_table};
+ghost use Rattle.room_tables_schema.specs.Connections.{HasRoomSchema, MayWrite};
+ghost use Rattle.room_tables_rows.specs.Stands.{StandsFor};
 ghost use Rattle.room_tables_rows.specs.Writes.{Changes};
 ghost use Rattle.room_tables_rows.specs.declared.terminals.TheConstants.{ALL_TERMINALS, PUT_TERMINAL, TERMINAL_AT};
-ghost use Rattle.room_tables.specs.Failures.{AreNoRows, AreMoreThanOne, FailsToRead, FailsToWrite, IfStorage};
+ghost use Rattle.room_tables.specs.Failures.{AreMoreThanOne, AreNoRows, TellsWhy, TellsWhyUnwritten};
+ghost use Rattle.room_tables.specs.Finding.{FindsInHouse};
 
 use crate::reading::{find, list};
 use room_tables_rows::columns::Field;
@@ -31,15 +32,18 @@ pub fn all_terminals<S: Alter>(
     alloc: Global,
     conn: &mut Connection<S>,
 ) -> Result<Vec<Terminal>, Fault>
-    requires { HasCleanDisk (state S.Store conn.old) → (state S.Store conn.old).now.schema ≡ room_schema }
-    ensures terminals { HasCleanDisk (state S.Store conn.new) → IfOk result (λ terminals. (house : House) (room : Room) → Stands (state S.Store conn.old).now.trees house room → terminals.items ≡ house.terminals) }
-    ensures found { HasCleanDisk (state S.Store conn.new) → IfOk result (λ terminals. AreNumbered ((state S.Store conn.old).now.trees terminals_table.tree) → StandsFor (state S.Store conn.old).now.trees terminals_table terminal_row terminals.items) }
+    requires room { HasRoomSchema S.Store conn.old }
+    ensures terminals { FindsInHouse S.Store conn.old conn.new result (λ house terminals.
+        terminals.items ≡ house.terminals) }
+    ensures found { HasCleanDisk (state S.Store conn.new)
+        → IfOk result (λ terminals.
+        AreNumbered ((state S.Store conn.old).now.trees terminals_table.tree)
+        → StandsFor
+        (state S.Store conn.old).now.trees terminals_table terminal_row terminals.items) }
     ensures keyed { IfOk result (λ terminals. IsKeyed token_cmp terminal_key terminals.items) }
-    ensures ok { HasCleanDisk (state S.Store conn.new) → OnOk result (IsUnchanged (state S.Store conn.old) (state S.Store conn.new)) }
-    ensures err { HasCleanDisk (state S.Store conn.new) → OnErr result (Keeps (state S.Store conn.old) (state S.Store conn.new)) }
-    ensures why { HasCleanDisk (state S.Store conn.new) → IfErr result (IfStorage (FailsToRead ALL_TERMINALS.now [] (state S.Store conn.old) (state S.Store conn.new) (AreNoRows is_terminal_row token_cmp terminal_key terminal_row))) }
-    ensures mode { conn.old.in_transaction ≡ false → conn.new.in_transaction ≡ false }
-    ensures survives { Survives (state S.Store conn.old) (state S.Store conn.new) (λ _. ⊥) }
+    ensures reads { ReadsOnly S.Store conn.old conn.new result }
+    ensures why { TellsWhy S.Store conn.old conn.new result ALL_TERMINALS.now []
+        (AreNoRows is_terminal_row token_cmp terminal_key terminal_row) }
 {
     let terminals = list(alloc, conn, ALL_TERMINALS, &[])?;
     if are_in_order(terminals.as_slice()) {
@@ -66,26 +70,28 @@ pub fn terminal_at<S: Alter>(
     conn: &mut Connection<S>,
     token: &Token,
 ) -> Result<Option<Terminal>, Fault>
-    requires { HasCleanDisk (state S.Store conn.old) → (state S.Store conn.old).now.schema ≡ room_schema }
-    ensures row { HasCleanDisk (state S.Store conn.new) → IfOk result (λ row. (house : House) (room : Room) → Stands (state S.Store conn.old).now.trees house room → row ≡ found_terminal token.now house.terminals) }
-    ensures ok { HasCleanDisk (state S.Store conn.new) → OnOk result (IsUnchanged (state S.Store conn.old) (state S.Store conn.new)) }
-    ensures err { HasCleanDisk (state S.Store conn.new) → OnErr result (Keeps (state S.Store conn.old) (state S.Store conn.new)) }
-    ensures why { HasCleanDisk (state S.Store conn.new) → IfErr result (IfStorage (FailsToRead TERMINAL_AT.now (Text token.now ∷ []) (state S.Store conn.old) (state S.Store conn.new) (AreMoreThanOne is_terminal_row))) }
-    ensures mode { conn.old.in_transaction ≡ false → conn.new.in_transaction ≡ false }
-    ensures survives { Survives (state S.Store conn.old) (state S.Store conn.new) (λ _. ⊥) }
+    requires room { HasRoomSchema S.Store conn.old }
+    ensures row { FindsInHouse S.Store conn.old conn.new result (λ house row.
+        row ≡ found_terminal token.now house.terminals) }
+    ensures reads { ReadsOnly S.Store conn.old conn.new result }
+    ensures why { TellsWhy S.Store conn.old conn.new result TERMINAL_AT.now (Text token.now
+        ∷ []) (AreMoreThanOne is_terminal_row) }
 {
     find(conn, TERMINAL_AT, &[token.store()])
 }
 
 /// Puts a terminal in its token's place.
 pub fn put_terminal<S: Alter>(tx: &mut Transaction<'_, S>, terminal: &Terminal) -> Result<(), Fault>
-    requires schema { HasCleanDisk (state S.Store tx.old.conn.now) → (state S.Store tx.old.conn.now).now.schema ≡ room_schema }
-    requires inside { HasCleanDisk (state S.Store tx.old.conn.now) → IsTrue (state S.Store tx.old.conn.now).in_transaction }
-    ensures ok { HasCleanDisk (state S.Store tx.new.conn.now) → OnOk result (Changes (state S.Store tx.old.conn.now) (state S.Store tx.new.conn.now)
-        (λ house. record house { terminals = put_row token_cmp terminal_key house.terminals terminal.now }) (λ room. room)) }
-    ensures err { HasCleanDisk (state S.Store tx.new.conn.now) → OnErr result (Keeps (state S.Store tx.old.conn.now) (state S.Store tx.new.conn.now)) }
-    ensures why { HasCleanDisk (state S.Store tx.new.conn.now) → IfErr result (IfStorage (FailsToWrite PUT_TERMINAL.now (terminal_row terminal.now) (state S.Store tx.old.conn.now) (state S.Store tx.new.conn.now))) }
-    ensures survives { Survives (state S.Store tx.old.conn.now) (state S.Store tx.new.conn.now) (λ _. ⊥) }
+    requires inside { MayWrite S.Store tx.old.conn.now }
+    ensures ok { HasCleanDisk (state S.Store tx.new.conn.now)
+        → OnOk result (Changes (state S.Store tx.old.conn.now) (state S.Store tx.new.conn.now)
+        (λ house. record house {
+          terminals = put_row token_cmp terminal_key house.terminals
+              terminal.now;
+        }) (λ room. room)) }
+    ensures writes { WritesInside S.Store tx.old.conn.now tx.new.conn.now result }
+    ensures why { TellsWhyUnwritten S.Store tx.old.conn.now tx.new.conn.now result PUT_TERMINAL.now
+        (terminal_row terminal.now) }
     ensures same_reference { tx.new.conn.ghost_name ≡ tx.old.conn.ghost_name }
 {
     write(tx, PUT_TERMINAL, &terminal_columns(terminal))?;

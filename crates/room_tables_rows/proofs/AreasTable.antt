@@ -16,7 +16,7 @@ use Rattle.room_tables_sql.specs.Typed.{number}
 use Rattle.sqlite.specs.Listing.{understood}
 use Rattle.sqlite_tied.specs.Compute.{everything}
 use Rattle.sqlite_value.specs.Order.{column}
-use Rattle.std.proofs.Common.{List, [], pos, refl, ℕ, ◌∷◌}
+use Rattle.std.proofs.Common.{List, [], refl, ℕ, ◌∷◌}
 use Rattle.std.specs.Ordering.{nat_cmp}
 
 abbrev all_of : House → Room → List (ℕ × Area)
@@ -41,7 +41,7 @@ put_area_means = record { command = refl; plain = (refl, refl) }
 
 pub area_stores : (x : ℕ × Area) → Stores room_schema areas_table (0 ∷ 2 ∷ 3 ∷ 4 ∷ 5 ∷ 6 ∷ []) (0 ∷ []) 6 (rowid_values 6) (rowid_update 6) (area_row x)
 unfolding Rattle.sqlite_value.specs.Keys.first_key
-area_stores x = stores_rowid room_schema areas_table (0 ∷ 2 ∷ 3 ∷ 4 ∷ 5 ∷ 6 ∷ []) (0 ∷ []) 6 (pos x.0) (number x.1.division ∷ number x.1.rect.west ∷ number x.1.rect.south ∷ number x.1.rect.east ∷ number x.1.rect.north ∷ [])
+area_stores x = stores_rowid room_schema areas_table (0 ∷ 2 ∷ 3 ∷ 4 ∷ 5 ∷ 6 ∷ []) (0 ∷ []) 6 _ _
     (cast-Null, (cast-Int _, (cast-Int _, (cast-Int _, (cast-Int _, (cast-Int _, tt)))))) refl refl (λ r. conflict_of_one (column r 0) (number x.0) refl) (λ r. refl) (λ r. refl)
 
 pub area_puts : PutsRow areas_table area_row 1 PUT_AREA.now

@@ -21,7 +21,7 @@ use Rattle.sqlite_schema.specs.Rules.{equal}
 use Rattle.sqlite_tied.specs.Compute.{everything}
 use Rattle.sqlite_value.specs.Order.{column}
 use Rattle.sqlite_value.specs.declared.keys.Collation.TheVariants.{Binary}
-use Rattle.std.proofs.Common.{List, [], pos, refl, ℕ, ◌∷◌}
+use Rattle.std.proofs.Common.{List, [], refl, ℕ, ◌∷◌}
 use Rattle.std.specs.Ordering.{is_eq, nat_cmp}
 
 abbrev all_of : House → Room → List Division
@@ -50,7 +50,7 @@ put_division_means = record { command = refl; plain = (refl, refl) }
 
 pub division_stores : (x : Division) → Stores room_schema divisions_table (0 ∷ 2 ∷ []) (0 ∷ []) 2 (rowid_values 2) (rowid_update 2) (division_row x)
 unfolding Rattle.sqlite_value.specs.Keys.first_key
-division_stores x = stores_rowid room_schema divisions_table (0 ∷ 2 ∷ []) (0 ∷ []) 2 (pos x.number) (number x.last_incident ∷ [])
+division_stores x = stores_rowid room_schema divisions_table (0 ∷ 2 ∷ []) (0 ∷ []) 2 _ _
     (cast-Null, (cast-Int _, tt)) refl refl (λ r. conflict_of_one (column r 0) (number x.number) refl) (λ r. refl) (λ r. refl)
 
 pub division_puts : PutsRow divisions_table division_row 3 PUT_DIVISION.now

@@ -15,8 +15,7 @@ use Rattle.room_tables_sql.specs.Typed.{number}
 use Rattle.sqlite.specs.Listing.{understood}
 use Rattle.sqlite_tied.specs.Compute.{everything}
 use Rattle.sqlite_value.specs.Order.{column}
-use Rattle.sqlite_value.specs.declared.value.Value.TheVariants.{Text}
-use Rattle.std.proofs.Common.{List, [], pos, refl, ℕ, ◌∷◌}
+use Rattle.std.proofs.Common.{List, [], refl, ℕ, ◌∷◌}
 use Rattle.std.specs.Ordering.{nat_cmp}
 
 abbrev all_of : House → Room → List (List ℕ)
@@ -41,7 +40,7 @@ put_meta_means = record { command = refl; plain = (refl, refl) }
 
 pub meta_stores : (x : List ℕ) → Stores room_schema meta_table (0 ∷ 2 ∷ 3 ∷ []) (0 ∷ []) 3 (rowid_values 3) (rowid_update 3) (meta_row x)
 unfolding Rattle.sqlite_value.specs.Keys.first_key
-meta_stores x = stores_rowid room_schema meta_table (0 ∷ 2 ∷ 3 ∷ []) (0 ∷ []) 3 (pos 1) (number 2 ∷ Text x ∷ [])
+meta_stores x = stores_rowid room_schema meta_table (0 ∷ 2 ∷ 3 ∷ []) (0 ∷ []) 3 _ _
     (cast-Null, (cast-Int _, (refl, tt))) refl refl (λ r. conflict_of_one (column r 0) (number 1) refl) (λ r. refl) (λ r. refl)
 
 pub meta_puts : PutsRow meta_table meta_row 0 PUT_META.now

@@ -41,7 +41,7 @@ pub fn area_columns(at: u32, area: &Area) -> [ValueRef<'static>; 6]
     ]
 }
 
-pub const ALL_AREAS: &str = "SELECT n, division, west, south, east, north FROM areas ORDER BY n";
+pub const ALL_AREAS: &str = "SELECT * FROM areas ORDER BY n";
 
 pub const PUT_AREA: &str = "INSERT INTO areas VALUES (?1, ?2, ?3, ?4, ?5, ?6) ON CONFLICT (n) \
     DO UPDATE SET n = excluded.n, division = excluded.division, west = excluded.west, \

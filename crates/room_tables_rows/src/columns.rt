@@ -12,7 +12,7 @@ ghost use Rattle.room_types.specs.Texts.{is_callsign, is_token};
 ghost use Rattle.room_tables_rows.specs.Columns.{truth, kind_code, status_code, button_code, outcome_code};
 ghost use Rattle.room_tables_rows.specs.Readable.{is_number, is_or_null, is_text, is_note, is_word, is_truth, is_kind, is_status, is_button, is_outcome};
 
-use room_place::whole::Whole;
+use room_place::bounded::Bounded;
 use room_types::callsign::Callsign;
 use room_types::codes::{Button, Kind, Outcome, Status};
 use room_types::note::Note;
@@ -122,13 +122,13 @@ impl Field for u8 {
     }
 }
 
-impl<const LEAST: u32, const GREATEST: u32> Field for Whole<LEAST, GREATEST> {
+impl<const LEAST: u32, const GREATEST: u32> Field for Bounded<LEAST, GREATEST> {
     ghost stored = { number };
 
     ghost stands = { is_number LEAST GREATEST };
 
     fn read(column: ValueRef<'_>) -> Option<Self> {
-        Whole::new(small(column)?)
+        Bounded::new(small(column)?)
     }
 
     fn store(&self) -> ValueRef<'_> {

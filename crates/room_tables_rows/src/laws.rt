@@ -1,5 +1,5 @@
-//! Rows are written faithfully, and tables stand for one room. The contracts are the laws; the functions do
-//! nothing.
+//! Rows are written faithfully, and tables stand for one room. The contracts are the laws; the
+//! functions do nothing.
 
 ghost use Rattle.std.specs.Prelude.{[], ◌∷◌, ◌≡◌};
 ghost use Rattle.std.specs.Ordering.{nat_cmp};
@@ -42,6 +42,8 @@ pub fn rows_are_faithful()
 
 /// Tables stand for one house and one room alone.
 pub fn tables_stand_for_one_room()
-    ensures house { (trees : Trees) (house other : House) (room another : Room) → Stands trees house room → Stands trees other another → house ≡ other }
-    ensures room { (trees : Trees) (house other : House) (room another : Room) → Stands trees house room → Stands trees other another → room ≡ another }
+    ensures house { (trees : Trees) (house other : House) (room another : Room)
+        → Stands trees house room → Stands trees other another → house ≡ other }
+    ensures room { (trees : Trees) (house other : House) (room another : Room)
+        → Stands trees house room → Stands trees other another → room ≡ another }
 {}

@@ -1,4 +1,5 @@
-//! The rows of each table: their columns, how they are read, and the texts of the statements on them.
+//! The rows of each table: their columns, how they are read, and the texts of the statements on
+//! them.
 //!
 //! Nothing is run here. What a text means is computed in `proofs/`, one file a table, under the
 //! schema that room_tables_schema writes out.

@@ -59,18 +59,13 @@ impl StoredRow for Report {
     }
 }
 
-pub const ALL_REPORTS: &str = "SELECT callsign, number, button, ord, east, north, moment, \
-    division, outcome, status, cleared \
-    FROM reports ORDER BY callsign, number";
+pub const ALL_REPORTS: &str = "SELECT * FROM reports ORDER BY callsign, number";
 
-pub const REPORT_AT: &str = "SELECT callsign, number, button, ord, east, north, moment, division, \
-    outcome, status, cleared \
-    FROM reports WHERE callsign = ?1 AND number = ?2 ORDER BY callsign, number";
+pub const REPORT_AT: &str =
+    "SELECT * FROM reports WHERE callsign = ?1 AND number = ?2 ORDER BY callsign, number";
 
-pub const UNCLEARED_REPORTS: &str = "SELECT callsign, number, button, ord, east, north, moment, \
-    division, outcome, status, cleared \
-    FROM reports WHERE outcome = ?1 AND cleared = ?2 AND division = ?3 \
-    ORDER BY callsign, number";
+pub const UNCLEARED_REPORTS: &str = "SELECT * FROM reports \
+    WHERE outcome = ?1 AND cleared = ?2 AND division = ?3 ORDER BY callsign, number";
 
 pub const PUT_REPORT: &str = "INSERT INTO reports VALUES (?1, ?2, ?3, ?4, ?5, ?6, ?7, ?8, ?9, ?10, \
     ?11) \

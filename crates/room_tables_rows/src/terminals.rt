@@ -9,7 +9,7 @@ ghost use Rattle.room_tables_rows.specs.Readable.{is_who};
 
 use crate::columns::{Field, Stored, integer};
 use crate::fields::values_of;
-use room_place::whole::Whole;
+use room_place::bounded::Bounded;
 use room_types::asks::Who;
 use room_types::callsign::Callsign;
 use room_types::fleet::Terminal;
@@ -30,12 +30,14 @@ impl Stored for Terminal {
 
 // Who has this role, number and callsign; none where nobody has.
 fn who_of(role: u32, number: u32, callsign: Option<Callsign>) -> Option<Who>
-    ensures who { IfSome result (λ who. (role_of who ≡ role) × (number_of who ≡ number) × (crew_of who ≡ callsign)) }
-    ensures has_one { is_some result ≡ is_who (Int (pos role)) (Int (pos number)) (or_null Text callsign) }
+    ensures who { IfSome result (λ who. (role_of who ≡ role) × (number_of who ≡ number)
+        × (crew_of who ≡ callsign)) }
+    ensures has_one { is_some result ≡ is_who (Int (pos role)) (Int (pos number))
+        (or_null Text callsign) }
 {
     match (role, callsign) {
-        (0, None) => Some(Who::Desk(Whole::new(number)?)),
-        (1, None) => Some(Who::Position(Whole::new(number)?)),
+        (0, None) => Some(Who::Desk(Bounded::new(number)?)),
+        (1, None) => Some(Who::Position(Bounded::new(number)?)),
         (2, Some(callsign)) if number == 0 => Some(Who::Crew(callsign)),
         _ => None,
     }
@@ -85,11 +87,9 @@ fn crew_of(who: &Who) -> ValueRef<'_>
     }
 }
 
-pub const ALL_TERMINALS: &str =
-    "SELECT token, role, number, callsign FROM terminals ORDER BY token";
+pub const ALL_TERMINALS: &str = "SELECT * FROM terminals ORDER BY token";
 
-pub const TERMINAL_AT: &str =
-    "SELECT token, role, number, callsign FROM terminals WHERE token = ?1 ORDER BY token";
+pub const TERMINAL_AT: &str = "SELECT * FROM terminals WHERE token = ?1 ORDER BY token";
 
 pub const PUT_TERMINAL: &str = "INSERT INTO terminals VALUES (?1, ?2, ?3, ?4) ON CONFLICT (token) \
     DO UPDATE SET token = excluded.token, role = excluded.role, number = excluded.number, \

@@ -62,17 +62,13 @@ impl StoredRow for Turn {
     }
 }
 
-pub const ALL_TURNS: &str = "SELECT callsign, ord, division, incident, kind, ordered, \
-    acknowledged, scene, left_at, hospital, ended, stood_down \
-    FROM turns ORDER BY callsign, ord";
+pub const ALL_TURNS: &str = "SELECT * FROM turns ORDER BY callsign, ord";
 
-pub const TURN_AT: &str = "SELECT callsign, ord, division, incident, kind, ordered, acknowledged, \
-    scene, left_at, hospital, ended, stood_down \
-    FROM turns WHERE callsign = ?1 AND ord = ?2 ORDER BY callsign, ord";
+pub const TURN_AT: &str =
+    "SELECT * FROM turns WHERE callsign = ?1 AND ord = ?2 ORDER BY callsign, ord";
 
-pub const TURNS_OF: &str = "SELECT callsign, ord, division, incident, kind, ordered, acknowledged, \
-    scene, left_at, hospital, ended, stood_down \
-    FROM turns WHERE incident = ?1 AND division = ?2 ORDER BY callsign, ord";
+pub const TURNS_OF: &str =
+    "SELECT * FROM turns WHERE incident = ?1 AND division = ?2 ORDER BY callsign, ord";
 
 pub const PUT_TURN: &str = "INSERT INTO turns VALUES (?1, ?2, ?3, ?4, ?5, ?6, ?7, ?8, ?9, ?10, \
     ?11, ?12) \

@@ -1,5 +1,5 @@
 -- What each text makes of the schema before it, and all of them together.
-use Rattle.std.specs.Prelude.{ℕ, [], ◌++◌, take, drop, map, fold}
+use Rattle.std.specs.Prelude.{ℕ, ◌+◌, [], take, drop, map, fold}
 use Rattle.std.proofs.Common.{refl, inl, inr}
 use Rattle.sqlite_tied.specs.Compute.{everything}
 use Rattle.sqlite_schema.specs.declared.schema.Table.{Table}
@@ -9,7 +9,8 @@ use Rattle.sqlite_catalog.specs.Change.{created}
 use Rattle.sqlite.specs.Listing.{understood}
 use Rattle.room_tables_sql.specs.Statements.{Creates, Indexes}
 use Rattle.room_tables_schema.specs.Definitions.{Lead}
-use Rattle.room_tables_schema.specs.Schema.{no_schema, room_tables, key_indexes, working_indexes, tables_schema, room_schema, meta_table, areas_table, terminals_table, divisions_table, incidents_table, calls_table, vehicles_table, turns_table, assignments_table, points_table, loans_table, reports_table, offers_table, incidents_by_state, incidents_by_opening, calls_by_incident, turns_by_incident, reports_by_outcome}
+use Rattle.room_tables_schema.specs.Schema.{no_schema, room_tables, indexes_in, tables_schema, room_schema, meta_table, areas_table, terminals_table, divisions_table, incidents_table, calls_table, vehicles_table, turns_table, assignments_table, points_table, loans_table, reports_table, offers_table, incidents_by_state, incidents_by_opening, calls_by_incident, turns_by_incident, reports_by_outcome}
+use Rattle.room_tables_schema.specs.declared.tables.TheConstants.{INDEXES, KEY_INDEXES}
 use Rattle.room_tables_schema.specs.declared.texts.TheConstants.{DEFINITIONS, TABLE_DEFINITIONS, META, AREAS, TERMINALS, DIVISIONS, INCIDENTS, CALLS, VEHICLES, TURNS, ASSIGNMENTS, POINTS, LOANS, REPORTS, OFFERS, INCIDENTS_BY_STATE, INCIDENTS_BY_OPENING, CALLS_BY_INCIDENT, TURNS_BY_INCIDENT, REPORTS_BY_OUTCOME}
 
 -- a table or index as its text has it, before it has a tree
@@ -24,7 +25,7 @@ abbrev tables_upto : ℕ → Schema
 tables_upto n = fold (λ s t. created s (unplaced t)) no_schema (take n room_tables)
 
 abbrev indexes_upto : ℕ → Schema
-indexes_upto n = record { tables = room_tables; indexes = key_indexes ++ take n working_indexes; views = [] }
+indexes_upto n = record { tables = room_tables; indexes = indexes_in (take (KEY_INDEXES + n) INDEXES); views = [] }
 
 meta_creates : Creates (tables_upto 0) META.now (unplaced meta_table)
 unfolding understood everything

@@ -12,7 +12,7 @@ use Rattle.sqlite.specs.declared.error.Error.{Error}
 use Rattle.room_tables_sql.specs.Statements.{Creates, Indexes}
 use Rattle.room_tables_schema.specs.Faults.{fault_of}
 use Rattle.room_tables_schema.specs.declared.faults.Fault.{Fault}
-use Rattle.room_tables_schema.specs.Schema.{meta_tree, areas_tree, terminals_tree, divisions_tree, incidents_tree, calls_tree, vehicles_tree, turns_tree, assignments_tree, points_tree, loans_tree, reports_tree, offers_tree}
+use Rattle.room_tables_schema.specs.Schema.{meta_table, areas_table, terminals_table, divisions_table, incidents_table, calls_table, vehicles_table, turns_table, assignments_table, points_table, loans_table, reports_table, offers_table}
 
 -- the text makes a table or an index, which takes one schema to the next
 abbrev pub Defines : Schema → List ℕ → Schema → Type 0
@@ -43,16 +43,16 @@ pub record FailsAt (texts : List (List ℕ)) (old mid new : State) (fault : Faul
 
 -- no table of a room has a row
 pub record IsBlank (trees : Trees) : Type 0 where
-  pub meta : trees meta_tree ≡ []
-  pub areas : trees areas_tree ≡ []
-  pub terminals : trees terminals_tree ≡ []
-  pub divisions : trees divisions_tree ≡ []
-  pub incidents : trees incidents_tree ≡ []
-  pub calls : trees calls_tree ≡ []
-  pub vehicles : trees vehicles_tree ≡ []
-  pub turns : trees turns_tree ≡ []
-  pub assignments : trees assignments_tree ≡ []
-  pub points : trees points_tree ≡ []
-  pub loans : trees loans_tree ≡ []
-  pub reports : trees reports_tree ≡ []
-  pub offers : trees offers_tree ≡ []
+  pub meta : trees meta_table.tree ≡ []
+  pub areas : trees areas_table.tree ≡ []
+  pub terminals : trees terminals_table.tree ≡ []
+  pub divisions : trees divisions_table.tree ≡ []
+  pub incidents : trees incidents_table.tree ≡ []
+  pub calls : trees calls_table.tree ≡ []
+  pub vehicles : trees vehicles_table.tree ≡ []
+  pub turns : trees turns_table.tree ≡ []
+  pub assignments : trees assignments_table.tree ≡ []
+  pub points : trees points_table.tree ≡ []
+  pub loans : trees loans_table.tree ≡ []
+  pub reports : trees reports_table.tree ≡ []
+  pub offers : trees offers_table.tree ≡ []

@@ -1,6 +1,8 @@
 -- What a room's file is made of, and why its database fails.
 -- the tables and indexes
 pub mod Schema
+-- what is known of a connection to it
+pub mod Connections
 -- files of other versions
 pub mod Versions
 -- what the texts that make them do

@@ -4,5 +4,6 @@
 pub mod faults;
 mod forms;
 pub mod making;
+mod tables;
 pub mod testing;
 mod texts;

@@ -2,10 +2,12 @@
 
 ghost use Rattle.std.specs.Prelude.{◌≡◌, IsTrue, IfErr, OnOk, drop, map};
 ghost use Rattle.sqlite.specs.Held.{Held, state};
-ghost use Rattle.sqlite.specs.State.{HasCleanDisk, KeepsCommit, Survives};
+ghost use Rattle.sqlite.specs.State.{HasCleanDisk};
 ghost use Rattle.sqlite_catalog.specs.Change.{KeepsRows};
+ghost use Rattle.room_tables_sql.specs.Outcomes.{CommitsNothing};
 ghost use Rattle.room_tables_schema.specs.Schema.{no_schema, room_tables, tables_schema, room_schema};
 ghost use Rattle.room_tables_schema.specs.Definitions.{Lead, Grows, IsBlank, FailsAt};
+ghost use Rattle.room_tables_schema.specs.Connections.{MayWrite};
 
 use crate::faults::Fault;
 use crate::texts::{DEFINITIONS, TABLE_DEFINITIONS};
@@ -15,14 +17,18 @@ use sqlite::{Alter, Transaction};
 /// Makes all tables of a room, with no rows, and its indexes, in a file that has nothing. Where
 /// memory or storage fails, nothing is committed, and the transaction's rollback leaves nothing.
 pub fn make<S: Alter>(tx: &mut Transaction<'_, S>) -> Result<(), Fault>
-    requires empty { HasCleanDisk (state S.Store tx.old.conn.now) → (state S.Store tx.old.conn.now).now.schema ≡ no_schema }
-    requires inside { HasCleanDisk (state S.Store tx.old.conn.now) → IsTrue (state S.Store tx.old.conn.now).in_transaction }
-    ensures schema { HasCleanDisk (state S.Store tx.new.conn.now) → OnOk result ((state S.Store tx.new.conn.now).now.schema ≡ room_schema) }
-    ensures blank { HasCleanDisk (state S.Store tx.new.conn.now) → OnOk result (IsBlank (state S.Store tx.new.conn.now).now.trees) }
-    ensures inside { HasCleanDisk (state S.Store tx.new.conn.now) → OnOk result (IsTrue (state S.Store tx.new.conn.now).in_transaction) }
-    ensures kept { HasCleanDisk (state S.Store tx.new.conn.now) → KeepsCommit (state S.Store tx.old.conn.now) (state S.Store tx.new.conn.now) }
-    ensures why { HasCleanDisk (state S.Store tx.new.conn.now) → IfErr result (λ fault. (mid : Held S) × FailsAt (map (λ t. t.now) DEFINITIONS) (state S.Store tx.old.conn.now) (state S.Store mid) (state S.Store tx.new.conn.now) fault) }
-    ensures survives { Survives (state S.Store tx.old.conn.now) (state S.Store tx.new.conn.now) (λ _. ⊥) }
+    requires empty { HasCleanDisk (state S.Store tx.old.conn.now)
+        → (state S.Store tx.old.conn.now).now.schema ≡ no_schema }
+    requires inside { HasCleanDisk (state S.Store tx.old.conn.now)
+        → IsTrue (state S.Store tx.old.conn.now).in_transaction }
+    ensures blank { HasCleanDisk (state S.Store tx.new.conn.now)
+        → OnOk result (IsBlank (state S.Store tx.new.conn.now).now.trees) }
+    ensures inside { OnOk result (MayWrite S.Store tx.new.conn.now) }
+    ensures commits { CommitsNothing S.Store tx.old.conn.now tx.new.conn.now }
+    ensures why { HasCleanDisk (state S.Store tx.new.conn.now)
+        → IfErr result (λ fault. (mid : Held S)
+        × FailsAt (map (λ t. t.now) DEFINITIONS) (state S.Store tx.old.conn.now)
+        (state S.Store mid) (state S.Store tx.new.conn.now) fault) }
     ensures same_reference { tx.new.conn.ghost_name ≡ tx.old.conn.ghost_name }
 {
     define_all(tx, &DEFINITIONS)
@@ -31,14 +37,19 @@ pub fn make<S: Alter>(tx: &mut Transaction<'_, S>) -> Result<(), Fault>
 /// Makes the indexes of a room in a file that has its tables alone. All tables keep their rows.
 /// Where memory or storage fails, nothing is committed.
 pub fn make_indexes<S: Alter>(tx: &mut Transaction<'_, S>) -> Result<(), Fault>
-    requires tables { HasCleanDisk (state S.Store tx.old.conn.now) → (state S.Store tx.old.conn.now).now.schema ≡ tables_schema }
-    requires inside { HasCleanDisk (state S.Store tx.old.conn.now) → IsTrue (state S.Store tx.old.conn.now).in_transaction }
-    ensures schema { HasCleanDisk (state S.Store tx.new.conn.now) → OnOk result ((state S.Store tx.new.conn.now).now.schema ≡ room_schema) }
-    ensures rows { HasCleanDisk (state S.Store tx.new.conn.now) → OnOk result (KeepsRows room_tables (state S.Store tx.old.conn.now).now.trees (state S.Store tx.new.conn.now).now.trees) }
-    ensures inside { HasCleanDisk (state S.Store tx.new.conn.now) → OnOk result (IsTrue (state S.Store tx.new.conn.now).in_transaction) }
-    ensures kept { HasCleanDisk (state S.Store tx.new.conn.now) → KeepsCommit (state S.Store tx.old.conn.now) (state S.Store tx.new.conn.now) }
-    ensures why { HasCleanDisk (state S.Store tx.new.conn.now) → IfErr result (λ fault. (mid : Held S) × FailsAt (map (λ t. t.now) (drop TABLE_DEFINITIONS DEFINITIONS)) (state S.Store tx.old.conn.now) (state S.Store mid) (state S.Store tx.new.conn.now) fault) }
-    ensures survives { Survives (state S.Store tx.old.conn.now) (state S.Store tx.new.conn.now) (λ _. ⊥) }
+    requires tables { HasCleanDisk (state S.Store tx.old.conn.now)
+        → (state S.Store tx.old.conn.now).now.schema ≡ tables_schema }
+    requires inside { HasCleanDisk (state S.Store tx.old.conn.now)
+        → IsTrue (state S.Store tx.old.conn.now).in_transaction }
+    ensures rows { HasCleanDisk (state S.Store tx.new.conn.now)
+        → OnOk result (KeepsRows room_tables (state S.Store tx.old.conn.now).now.trees
+        (state S.Store tx.new.conn.now).now.trees) }
+    ensures inside { OnOk result (MayWrite S.Store tx.new.conn.now) }
+    ensures commits { CommitsNothing S.Store tx.old.conn.now tx.new.conn.now }
+    ensures why { HasCleanDisk (state S.Store tx.new.conn.now)
+        → IfErr result (λ fault. (mid : Held S)
+        × FailsAt (map (λ t. t.now) (drop TABLE_DEFINITIONS DEFINITIONS))
+        (state S.Store tx.old.conn.now) (state S.Store mid) (state S.Store tx.new.conn.now) fault) }
     ensures same_reference { tx.new.conn.ghost_name ≡ tx.old.conn.ghost_name }
 {
     define_all(tx, &DEFINITIONS[TABLE_DEFINITIONS..])
@@ -46,14 +57,19 @@ pub fn make_indexes<S: Alter>(tx: &mut Transaction<'_, S>) -> Result<(), Fault>
 
 /// Runs the texts that lead to a room's schema, up to the first that fails.
 fn define_all<S: Alter>(tx: &mut Transaction<'_, S>, texts: &[&str]) -> Result<(), Fault>
-    requires lead { HasCleanDisk (state S.Store tx.old.conn.now) → Lead (state S.Store tx.old.conn.now).now.schema (map (λ t. t.now) texts.now) room_schema }
-    requires inside { HasCleanDisk (state S.Store tx.old.conn.now) → IsTrue (state S.Store tx.old.conn.now).in_transaction }
-    ensures schema { HasCleanDisk (state S.Store tx.new.conn.now) → OnOk result ((state S.Store tx.new.conn.now).now.schema ≡ room_schema) }
-    ensures rows { HasCleanDisk (state S.Store tx.new.conn.now) → OnOk result (Grows (state S.Store tx.old.conn.now).now (state S.Store tx.new.conn.now).now) }
-    ensures inside { HasCleanDisk (state S.Store tx.new.conn.now) → OnOk result (IsTrue (state S.Store tx.new.conn.now).in_transaction) }
-    ensures kept { HasCleanDisk (state S.Store tx.new.conn.now) → KeepsCommit (state S.Store tx.old.conn.now) (state S.Store tx.new.conn.now) }
-    ensures why { HasCleanDisk (state S.Store tx.new.conn.now) → IfErr result (λ fault. (mid : Held S) × FailsAt (map (λ t. t.now) texts.now) (state S.Store tx.old.conn.now) (state S.Store mid) (state S.Store tx.new.conn.now) fault) }
-    ensures survives { Survives (state S.Store tx.old.conn.now) (state S.Store tx.new.conn.now) (λ _. ⊥) }
+    requires lead { HasCleanDisk (state S.Store tx.old.conn.now)
+        → Lead (state S.Store tx.old.conn.now).now.schema (map (λ t. t.now) texts.now) room_schema }
+    requires inside { HasCleanDisk (state S.Store tx.old.conn.now)
+        → IsTrue (state S.Store tx.old.conn.now).in_transaction }
+    ensures rows { HasCleanDisk (state S.Store tx.new.conn.now)
+        → OnOk result (Grows (state S.Store tx.old.conn.now).now
+        (state S.Store tx.new.conn.now).now) }
+    ensures inside { OnOk result (MayWrite S.Store tx.new.conn.now) }
+    ensures commits { CommitsNothing S.Store tx.old.conn.now tx.new.conn.now }
+    ensures why { HasCleanDisk (state S.Store tx.new.conn.now)
+        → IfErr result (λ fault. (mid : Held S)
+        × FailsAt (map (λ t. t.now) texts.now) (state S.Store tx.old.conn.now) (state S.Store mid)
+        (state S.Store tx.new.conn.now) fault) }
     ensures same_reference { tx.new.conn.ghost_name ≡ tx.old.conn.ghost_name }
 {
     for text in texts {

@@ -7,7 +7,8 @@ ghost use Rattle.room_tables_schema.specs.Versions.{BeginsAsRoom};
 ghost use Rattle.room_tables_schema.specs.Forms.{column_as, table_as, index_as, indexes_as};
 ghost use Rattle.room_tables_schema.specs.Bare.{IsBare, HasKey};
 
-use crate::forms::{ColumnForm, INDEXES, IndexForm, KEY_INDEXES, TABLES, TableForm};
+use crate::forms::{ColumnForm, IndexForm, TableForm};
+use crate::tables::{INDEXES, KEY_INDEXES, TABLES};
 use sqlite_items::Items;
 use sqlite_schema::code::Terms;
 use sqlite_schema::schema::{Column, Index, Schema, Stamps, Table};
@@ -35,7 +36,8 @@ pub fn has_tables_alone(schema: &Schema) -> bool
     has_objects(schema, &INDEXES[..KEY_INDEXES])
 }
 
-/// Whether a schema begins as that of a room does, of this version or another: with the table `meta`, and with no view.
+/// Whether a schema begins as that of a room does, of this version or another: with the table
+/// `meta`, and with no view.
 pub fn begins_as_room(schema: &Schema) -> bool
     ensures { IsTrue result ↔ BeginsAsRoom schema.now }
 {
@@ -46,7 +48,8 @@ pub fn begins_as_room(schema: &Schema) -> bool
 }
 
 fn has_objects(schema: &Schema, indexes: &[IndexForm]) -> bool
-    ensures { IsTrue result ↔ (schema.now ≡ record { tables = room_tables; indexes = indexes_as indexes.now; views = [] }) }
+    ensures { IsTrue result
+        ↔ (schema.now ≡ record { tables = room_tables; indexes = indexes_as indexes.now; views = [] }) }
 {
     all_fit(&TABLES, schema.tables.as_slice())
         && all_fit(indexes, schema.indexes.as_slice())
@@ -132,7 +135,8 @@ fn has_key(table: &Table, places: &[usize]) -> bool
 }
 
 fn are_one_key(table: &Table, places: &[usize]) -> bool
-    ensures { IsTrue result ↔ ((table.now.uniques ≡ places.now ∷ []) × (table.now.orders ≡ plain ∷ [])) }
+    ensures { IsTrue result ↔ ((table.now.uniques ≡ places.now ∷ [])
+        × (table.now.orders ≡ plain ∷ [])) }
 {
     match (table.uniques.as_slice(), table.orders.as_slice()) {
         ([key], [order]) => are(key, places) && is_plain(*order),

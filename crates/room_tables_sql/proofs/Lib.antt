@@ -16,6 +16,10 @@ pub mod Upserts
 pub mod Definitions
 -- what a query leaves that fails, and what it leaves to a stop
 pub mod Refusals
+-- reads one after another
+pub mod ReadLaws
+-- and writes in a transaction
+pub mod WriteLaws
 -- typed rows, the statements on a list of them, and how such a list is found at an open
 pub mod TypedRows
 pub mod TypedTables

@@ -1,10 +1,10 @@
 //! Statements in a transaction, which commit nothing, whether they succeed or fail.
 
-ghost use Rattle.std.specs.Prelude.{◌≡◌, IsTrue, Ok, Err, IfOk, IfErr, OnOk, OnErr};
+ghost use Rattle.std.specs.Prelude.{◌≡◌, IsTrue, Ok, Err, IfOk, IfErr, OnOk};
 ghost use Rattle.sqlite.specs.Held.{state};
-ghost use Rattle.sqlite.specs.State.{Executes, ExecutesInside, HasCleanDisk, Survives};
+ghost use Rattle.sqlite.specs.State.{Executes, ExecutesInside, HasCleanDisk};
 ghost use Rattle.sqlite.specs.Values.{bound};
-ghost use Rattle.room_tables_sql.specs.Outcomes.{Inside, Keeps};
+ghost use Rattle.room_tables_sql.specs.Outcomes.{Inside, WritesInside};
 
 use sqlite::{Alter, Error, Transaction};
 use sqlite_value::value::ValueRef;
@@ -17,12 +17,17 @@ pub fn write<S: Alter>(
     text: &str,
     params: &[ValueRef<'_>],
 ) -> Result<usize, Error>
-    requires { HasCleanDisk (state S.Store tx.old.conn.now) → IsTrue (state S.Store tx.old.conn.now).in_transaction }
-    ensures ran { HasCleanDisk (state S.Store tx.new.conn.now) → IfOk result (λ count. Executes text.now (bound params.now) (state S.Store tx.old.conn.now) (state S.Store tx.new.conn.now) (Ok count)) }
-    ensures ok { HasCleanDisk (state S.Store tx.new.conn.now) → OnOk result (Inside (state S.Store tx.old.conn.now) (state S.Store tx.new.conn.now)) }
-    ensures err { HasCleanDisk (state S.Store tx.new.conn.now) → OnErr result (Keeps (state S.Store tx.old.conn.now) (state S.Store tx.new.conn.now)) }
-    ensures why { HasCleanDisk (state S.Store tx.new.conn.now) → IfErr result (λ e. ExecutesInside 0 text.now (bound params.now) (state S.Store tx.old.conn.now) (state S.Store tx.new.conn.now) (Err e)) }
-    ensures survives { Survives (state S.Store tx.old.conn.now) (state S.Store tx.new.conn.now) (λ _. ⊥) }
+    requires { HasCleanDisk (state S.Store tx.old.conn.now)
+        → IsTrue (state S.Store tx.old.conn.now).in_transaction }
+    ensures ran { HasCleanDisk (state S.Store tx.new.conn.now)
+        → IfOk result (λ count. Executes text.now (bound params.now)
+        (state S.Store tx.old.conn.now) (state S.Store tx.new.conn.now) (Ok count)) }
+    ensures ok { HasCleanDisk (state S.Store tx.new.conn.now)
+        → OnOk result (Inside (state S.Store tx.old.conn.now) (state S.Store tx.new.conn.now)) }
+    ensures writes { WritesInside S.Store tx.old.conn.now tx.new.conn.now result }
+    ensures why { HasCleanDisk (state S.Store tx.new.conn.now)
+        → IfErr result (λ e. ExecutesInside 0 text.now (bound params.now)
+        (state S.Store tx.old.conn.now) (state S.Store tx.new.conn.now) (Err e)) }
     ensures same_reference { tx.new.conn.ghost_name ≡ tx.old.conn.ghost_name }
 {
     tx.execute(text, params)

@@ -121,14 +121,16 @@ pub struct PointLine {
     pub held: u32,
 }
 
-/// Something that needs an eye. Entries stand in the order of their fields, none before any callsign.
+/// Something that needs an eye. Entries stand in the order of their fields, none before any
+/// callsign.
 #[derive(Clone, Copy, PartialEq, Eq, PartialOrd, Ord)]
 pub struct Entry {
     /// 1 to 8, by what it is about.
     pub rank: u8,
     /// The moment that it counts from.
     pub since: Moment,
-    /// Of an incident, a report, a point or the other division, by rank; 0 for a shift that is over.
+    /// Of an incident, a report, a point or the other division, by rank; 0 for a shift that is
+    /// over.
     pub number: u32,
     /// The vehicle that it is about, if any.
     pub callsign: Option<Callsign>,

@@ -90,7 +90,8 @@ impl CrewRows {
     }
 
     fn is_reported(&self) -> bool
-        ensures { result ≡ passes (λ x. same_callsign x.callsign self.now.vehicle.callsign) self.now.report }
+        ensures { result ≡ passes (λ x.
+            same_callsign x.callsign self.now.vehicle.callsign) self.now.report }
     {
         match self.report {
             Some(report) => report.callsign == self.vehicle.callsign,

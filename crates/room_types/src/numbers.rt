@@ -1,19 +1,19 @@
 //! The whole numbers of the room, each with its range in its type.
-use room_place::whole::Whole;
+use room_place::bounded::Bounded;
 
 /// A call taker's position: 1 to 99.
-pub type PositionNumber = Whole<1, 99>;
+pub type PositionNumber = Bounded<1, 99>;
 /// A standby point of a division: 1 to 99.
-pub type PointNumber = Whole<1, 99>;
+pub type PointNumber = Bounded<1, 99>;
 /// How urgent an incident is: 1 to 3, the most urgent first.
-pub type Class = Whole<1, 3>;
+pub type Class = Bounded<1, 3>;
 /// How many vehicles of one kind are wanted, sent or lacking: 0 to 9.
-pub type Need = Whole<0, 9>;
+pub type Need = Bounded<0, 9>;
 /// How many vehicles a standby point wants: 0 to 9.
-pub type Cover = Whole<0, 9>;
+pub type Cover = Bounded<0, 9>;
 /// The number of a call, a report, an incident or an order: 1 to 2147483647.
-pub type Number = Whole<1, 2147483647>;
+pub type Number = Bounded<1, 2147483647>;
 /// The number that was given last, 0 where none was.
-pub type LastNumber = Whole<0, 2147483647>;
+pub type LastNumber = Bounded<0, 2147483647>;
 /// A whole second of UTC since 1970, up to the end of 2099.
-pub type Moment = Whole<0, 4102444799>;
+pub type Moment = Bounded<0, 4102444799>;

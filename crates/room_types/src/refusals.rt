@@ -112,7 +112,11 @@ impl Refusal {
 
     // Number, status and name.
     fn told(&self) -> (u8, u16, &'static str)
-        ensures { told self.now ≡ record { number = result.0; status = result.1; name = result.2.now } }
+        ensures { told self.now ≡ record {
+          number = result.0;
+          status = result.1;
+          name = result.2.now;
+        } }
     {
         match self {
             Refusal::NoSuchIncident => (1, 404, "NoSuchIncident"),

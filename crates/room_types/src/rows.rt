@@ -102,15 +102,23 @@ impl<R: Row> Rows<R> {
     /// that come in key order are put at the end, at no search. The one refusal is `Memory`; it
     /// changes nothing.
     pub fn put(&mut self, row: R) -> Result<Option<R>, Refusal>
-        ensures before { IfOk result (λ before. before ≡ row_at R.Key.cmp R.key_of self.old (R.key_of row)) }
+        ensures before { IfOk result (λ before.
+            before ≡ row_at R.Key.cmp R.key_of self.old (R.key_of row)) }
         ensures ok { OnOk result (self.new ≡ put_row R.Key.cmp R.key_of self.old row) }
         ensures err { OnErr result (self.new ≡ self.old) }
         ensures memory { IfErr result (λ refusal. refusal ≡ Memory) }
 
         // A division's rows change only where it owns the old row or the new one.
-        ensures local { (d : ℕ) → R.owned d row ≡ false → keep (R.owned d) (row_at R.Key.cmp R.key_of self.old (R.key_of row)) ≡ None → filter (R.owned d) self.new ≡ filter (R.owned d) self.old }
-        // They are the rows with this one, where it is the division's, and else without that of its key.
-        ensures own { OnOk result ((d : ℕ) → filter (R.owned d) self.new ≡ (if R.owned d row then put_row R.Key.cmp R.key_of (filter (R.owned d) self.old) row else drop_row R.Key.cmp R.key_of (filter (R.owned d) self.old) (R.key_of row))) }
+        ensures local { (d : ℕ) → R.owned d row ≡ false
+            → keep (R.owned d) (row_at R.Key.cmp R.key_of self.old (R.key_of row)) ≡ None
+            → filter (R.owned d) self.new ≡ filter (R.owned d) self.old }
+        // They are the rows with this one, where it is the division's, and else without that of its
+        // key.
+        ensures own { OnOk result ((d : ℕ)
+            → filter (R.owned d) self.new ≡
+            (if R.owned d row then put_row R.Key.cmp R.key_of
+            (filter (R.owned d) self.old) row else drop_row R.Key.cmp R.key_of
+            (filter (R.owned d) self.old) (R.key_of row))) }
     {
         match self.search(&row.key()) {
             Ok(at) => {

@@ -19,7 +19,8 @@ fn is_sent(vehicle: &Vehicle, assignment: &Assignment, turn: &Turn) -> bool
 /// Whether there are an assignment and an open turn exactly where the vehicle is busy, both its
 /// holder's, for one incident, and of its last order.
 pub fn sent_agrees(vehicle: &Vehicle, assignment: Option<&Assignment>, turn: Option<&Turn>) -> bool
-    ensures { result ≡ sent_agrees vehicle.now (option_copied assignment.entry) (option_copied turn.entry) }
+    ensures { result ≡ sent_agrees vehicle.now (option_copied assignment.entry)
+        (option_copied turn.entry) }
 {
     match (assignment, turn) {
         (None, None) => !vehicle.status.is_busy(),

@@ -1,5 +1,5 @@
-//! The rows that the room keeps, one struct a table. Moments are whole seconds of UTC, places metres
-//! of the National Grid.
+//! The rows that the room keeps, one struct a table. Moments are whole seconds of UTC, places
+//! metres of the National Grid.
 use crate::callsign::Callsign;
 use crate::codes::{Button, Kind, Outcome, State, Status};
 use crate::needs::Needs;

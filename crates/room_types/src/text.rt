@@ -24,11 +24,18 @@ impl<const CAP: usize> Model for Text<CAP> {
 
     ghost view = { λ t. take t.size t.bytes };
 
-    ghost invariant = { λ t. (t.size ≤ CAP) × (length t.bytes ≡ CAP) × (drop t.size t.bytes ≡ replicate (CAP - t.size) 0) × ∥ IsUtf8 (take t.size t.bytes) ∥₁ };
+    ghost invariant = { λ t. (t.size ≤ CAP) × (length t.bytes ≡ CAP) ×
+        (drop t.size t.bytes ≡ replicate (CAP - t.size) 0) × ∥ IsUtf8 (take t.size t.bytes) ∥₁ };
 
-    ghost inverse = { λ text. record { bytes = text ++ replicate (CAP - length text) 0; size = length text } };
+    ghost inverse = { λ text. record {
+      bytes = text ++ replicate (CAP - length text) 0;
+      size = length text;
+    } };
 
-    ghost inverse_ok = { λ t h i. record { bytes = text_back CAP t.size t.bytes h.0 h.1 h.2 i; size = size_back CAP t.size t.bytes h.0 h.1 i } };
+    ghost inverse_ok = { λ t h i. record {
+      bytes = text_back CAP t.size t.bytes h.0 h.1 h.2 i;
+      size = size_back CAP t.size t.bytes h.0 h.1 i;
+    } };
 }
 
 impl<const CAP: usize> Text<CAP> {

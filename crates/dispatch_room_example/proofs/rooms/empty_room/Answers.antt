@@ -3,7 +3,7 @@ use Rattle.sqlite.proofs.Callers.{memory_is_clean}
 use Rattle.sqlite.specs.Steps.{over_memory}
 use Rattle.room_model.specs.Room.{Room}
 use Rattle.room_types.specs.declared.fleet.Terminal.{Terminal}
-use Rattle.room_store.specs.Creating.{in_order, new_room}
+use Rattle.room_store_writes.specs.Filling.{in_order, new_room}
 use Rattle.room_store.specs.Keeping.{IsRoom}
 use Rattle.dispatch_room_example.specs.Example.{example_plan}
 use Rattle.dispatch_room_example.proofs.ExampleLemmas.{same_new_room}

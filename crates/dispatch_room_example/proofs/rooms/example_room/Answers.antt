@@ -2,7 +2,7 @@ use Rattle.std.proofs.Common.{subst, List}
 use Rattle.sqlite.proofs.Callers.{memory_is_clean}
 use Rattle.sqlite.specs.Steps.{over_memory}
 use Rattle.room_types.specs.declared.fleet.FleetRow.{FleetRow}
-use Rattle.room_store.specs.Creating.{in_order, new_room}
+use Rattle.room_store_writes.specs.Filling.{in_order, new_room}
 use Rattle.room_store.specs.Enrolling.{room_after_rows, terminals_after_rows}
 use Rattle.room_store.specs.Keeping.{IsRoom}
 use Rattle.dispatch_room_example.specs.Example.{example_plan, example_terminals}

@@ -15,5 +15,5 @@ returns-clause-talk g c =
       c.unwrap-zone.result,
       zone,
       serves machine c.unwrap-zone.result _ _ _ (memory_is_clean c.serve-end.new.room.conn) _ _ IsExample
-          (λ terminals room begins. rw (begins.0, begins.1) c.in_ok-store.ensures.room) c.args.turns c.serve-end.result c.serve-end.ensures.talk,
+          (λ terminals room begins. rw (begins.0, begins.1) c.in_ok-store.ensures.room) c.args.budget c.serve-end.result c.serve-end.ensures.talk,
     )

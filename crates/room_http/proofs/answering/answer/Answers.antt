@@ -1,5 +1,8 @@
-use Rattle.std.proofs.Common.{◌∙◌, sym, ap, refl, [], inl, inr, append-nil}
+use Rattle.std.proofs.Common.{◌∙◌, sym, ap, refl, [], inl, inr, append-nil, false, Ok, Err}
 use Rattle.room_http_answers.specs.Replies.{fixed_bytes}
+use Rattle.room_http.specs.Arrivals.{is_head_only}
+use Rattle.room_http.specs.declared.serving.ServeEnd.TheVariants.{Closed, WriteFault}
+use Rattle.room_http.proofs.ServedLaws.{none_served, one_promised}
 use Rattle.room_http.proofs.TalkLemmas.{IsTalk-one}
 use Rattle.room_http.proofs.answering.answer.Goals as goal
 
@@ -38,3 +41,31 @@ returns-clause-answers g c o shown =
             (room, [], cut.0, (refl, refl), (c.in-Err.ensures.reply.says trust terminals room stood, (cut.1, ap (fixed_bytes c.in-Err.refusal) (sym (c.head_only.ensures o shown)) ∙ sym c.fixed.ensures ∙ cut.2)), cut.3),
       ),
     )
+
+pub returns-in-Ok-write_all-2-clause-answers : goal.returns-in-Ok-write_all-2-clause-answers
+returns-in-Ok-write_all-2-clause-answers g c o shown =
+    let wrote = c.in-Ok-write_all-2.ensures.all in (
+      c.in-Some.at,
+      c.in-Some.ensures,
+      (
+        c.in-Err.refusal,
+        c.in-Err.ensures.reply.wants,
+        λ trust terminals room stood.
+            (room, [], fixed_bytes c.in-Err.refusal (is_head_only o), (refl, refl), (c.in-Err.ensures.reply.says trust terminals room stood, refl), rw (← c.head_only.ensures o shown, ← c.fixed.ensures) wrote.0),
+      ),
+    )
+
+pub returns-in_default-clause-promised : goal.returns-in_default-clause-promised
+returns-in_default-clause-promised g c same o shown = none_served _ _ _ _ _ (g.met.M.Room.fits _) tt
+
+pub returns-in-Ok-write_all-clause-promised : goal.returns-in-Ok-write_all-clause-promised
+returns-in-Ok-write_all-clause-promised g c same o shown = one_promised _ _ _ _ _ _ false _ _ _ (g.met.M.Room.fits _) o _ (Ok tt) (returns-in-Ok-write_all-clause-answers g c o shown) same
+
+pub returns-in-Ok-clause-promised : goal.returns-in-Ok-clause-promised
+returns-in-Ok-clause-promised g c same o shown = one_promised _ _ _ _ _ _ false _ _ _ (g.met.M.Room.fits _) o _ (Err WriteFault) (returns-in-Ok-clause-answers g c o shown) same
+
+pub returns-in-Ok-write_all-2-clause-promised : goal.returns-in-Ok-write_all-2-clause-promised
+returns-in-Ok-write_all-2-clause-promised g c same o shown = one_promised _ _ _ _ _ false false _ _ _ (g.met.M.Room.fits _) o _ (Err Closed) (returns-in-Ok-write_all-2-clause-answers g c o shown) same
+
+pub returns-clause-promised : goal.returns-clause-promised
+returns-clause-promised g c same o shown = one_promised _ _ _ _ _ _ false _ _ _ (g.met.M.Room.fits _) o _ (Err WriteFault) (returns-clause-answers g c o shown) same

@@ -1,15 +1,18 @@
 use Rattle.std.proofs.Common.{◌≡◌, ◌∙◌, refl, arith, sym, drop, ◌-◌, [], inl, None, false}
 use Rattle.std.specs.Io.KnownBytes.{prepend_known}
-use Rattle.room_http.specs.Outcomes.{message, refused}
+use Rattle.room_http.specs.Arrivals.{message, refused}
+use Rattle.room_http.specs.declared.serving.ServeEnd.TheVariants.{Closed, Cut, ReadFault, ReadsSpent}
 use Rattle.room_http.specs.Serving.{Finish}
 use Rattle.room_http.proofs.ServeLemmas.{Going-none, Going-kept, Going-more, Going-ends, closes, ends, ends_missing_none, leaves_part}
+use Rattle.room_http.proofs.ServedLaws.{none_served, promised}
+use Rattle.room_http_messages.proofs.StreamLemmas.{Appends-none}
 use Rattle.room_http.proofs.StreamLemmas.{CountsBy-none, Keeps-prepend, reads_by, message_passes, refusal_passes, nothing_left}
 use Rattle.room_http.proofs.serving.serve.Goals as goal
 use Rattle.room_http.proofs.serving.serve.Goals.{in-Ok-answer, in-Err-answer}
 
 pub messages-init : goal.messages-init
 messages-init g c =
-    let none : c.args.turns - c.args.turns ≡ 0 = omega arith in
+    let none : c.args.budget - c.args.budget ≡ 0 = omega arith in
     record {
       going = ([], Going-kept _ _ _ _ _ _ _ _ _ _ _ (Going-none g.M.Room.step c.args.zone.now _ _ _) (Keeps-prepend _ _ c.in-Ok-new.ensures));
       trusted = λ trust. trust;
@@ -46,7 +49,7 @@ returns-then-layout-clause-talk g c =
     let going = c.messages.invariant.going in
     let kept = Going-kept _ _ _ _ _ _ _ _ _ _ _ going.1 c.read_message.ensures.read.same in
     closes _ _ _ _ _ _ _ _ _ going.0 kept _ _ _ c.in_default-answer.ensures.trusted (prepend_known (drop end bytes) left) (message whole.0)
-    (message_passes bytes (drop end bytes) left whole.0 end whole.1 refl) c.args.turns (c.in_default-answer.ensures.answers (message whole.0) (c.message.ensures whole.0 whole.2))
+    (message_passes bytes (drop end bytes) left whole.0 end whole.1 refl) c.args.budget (c.in_default-answer.ensures.answers (message whole.0) (c.message.ensures whole.0 whole.2))
     (sym whole.2.closing ∙ c.if-layout.true)
 
 pub messages-preserved : goal.messages-preserved
@@ -92,7 +95,7 @@ returns-in-Err-Refused-clause-talk g c =
     let says = (rw c.in-Err-Refused.field-0-is at c.in-Err-Refused.ensures.says) in
     elim c.match-answer-2.branch [
       | in-Ok-answer w ↦ rw w.result-is (closes _ _ _ _ _ _ _ _ _ going.0 kept _ _ _ w.in-Ok-answer.ensures.trusted (prepend_known bytes left) (refused r head_only)
-          (refusal_passes bytes left r head_only says.0) c.args.turns (w.in-Ok-answer.ensures.answers (refused r head_only) ((cc), (cc))) refl)
+          (refusal_passes bytes left r head_only says.0) c.args.budget (w.in-Ok-answer.ensures.answers (refused r head_only) ((cc), (cc))) refl)
       | in-Err-answer w ↦ rw w.result-is (ends _ _ _ _ _ _ _ _ _ going.0 kept _ _ _ w.in-Err-answer.ensures.trusted (prepend_known bytes left) (refused r head_only)
           (refusal_passes bytes left r head_only says.0) _ _ (w.in-Err-answer.ensures.answers (refused r head_only) ((cc), (cc))))
     ]
@@ -133,22 +136,22 @@ returns-in-Err-ReadFault-clause-none_missed g c =
     let says = (rw c.in-Err-ReadFault.field-0-is at c.in-Err-ReadFault.ensures.says) in
     leaves_part _ _ _ _ _ _ _ _ _ _ _ _ refl kept says.0
 
-pub returns-in-Err-Turns-clause-reads : goal.returns-in-Err-Turns-clause-reads
-returns-in-Err-Turns-clause-reads g c = (_, omega arith, reads_by _ _ _ _ _ _ c.messages.invariant.spent c.read_message.ensures.read.spent c.messages.invariant.reads c.read_message.ensures.read.count)
+pub returns-in-Err-ReadsSpent-clause-reads : goal.returns-in-Err-ReadsSpent-clause-reads
+returns-in-Err-ReadsSpent-clause-reads g c = (_, omega arith, reads_by _ _ _ _ _ _ c.messages.invariant.spent c.read_message.ensures.read.spent c.messages.invariant.reads c.read_message.ensures.read.count)
 
-pub returns-in-Err-Turns-clause-talk : goal.returns-in-Err-Turns-clause-talk
-returns-in-Err-Turns-clause-talk g c =
+pub returns-in-Err-ReadsSpent-clause-talk : goal.returns-in-Err-ReadsSpent-clause-talk
+returns-in-Err-ReadsSpent-clause-talk g c =
     let going = c.messages.invariant.going in
     let kept = Going-kept _ _ _ _ _ _ _ _ _ _ _ going.1 c.read_message.ensures.read.same in
-    let says = (rw c.in-Err-Turns.field-0-is at c.in-Err-Turns.ensures.says) in
-    let whole : c.args.turns - c.read_message.new.turns ≡ c.args.turns = omega (arith, says.1) in
+    let says = (rw c.in-Err-ReadsSpent.field-0-is at c.in-Err-ReadsSpent.ensures.says) in
+    let whole : c.args.budget - c.read_message.new.budget ≡ c.args.budget = omega (arith, says.1) in
     let all = reads_by _ _ _ _ _ _ c.messages.invariant.spent c.read_message.ensures.read.spent c.messages.invariant.reads c.read_message.ensures.read.count in
     (going.0, Going-ends _ _ _ _ _ _ _ _ _ _ _ _ _ _ _ _ kept (λ rest known. tt), rw whole at all)
 
-pub returns-in-Err-Turns-clause-none_missed : goal.returns-in-Err-Turns-clause-none_missed
-returns-in-Err-Turns-clause-none_missed g c =
+pub returns-in-Err-ReadsSpent-clause-none_missed : goal.returns-in-Err-ReadsSpent-clause-none_missed
+returns-in-Err-ReadsSpent-clause-none_missed g c =
     let kept = Going-kept _ _ _ _ _ _ _ _ _ _ _ c.messages.invariant.going.1 c.read_message.ensures.read.same in
-    let says = (rw c.in-Err-Turns.field-0-is at c.in-Err-Turns.ensures.says) in
+    let says = (rw c.in-Err-ReadsSpent.field-0-is at c.in-Err-ReadsSpent.ensures.says) in
     leaves_part _ _ _ _ _ _ _ _ _ _ _ _ refl kept says.0
 
 pub returns-in-Err-clause-none_missed : goal.returns-in-Err-clause-none_missed
@@ -160,3 +163,30 @@ returns-in-Err-Refused-clause-none_missed g c =
       | in-Ok-answer w ↦ rw w.result-is tt
       | in-Err-answer w ↦ rw w.result-is (ends_missing_none _ _ _ _ _ w.in-Err-answer.ensures.ends)
     ]
+
+pub returns-in-Err-clause-promised : goal.returns-in-Err-clause-promised
+returns-in-Err-clause-promised g c = promised _ _ _ _ _ _ (g.met.M.Room.fits _) _ _ _ (returns-in-Err-clause-talk g c)
+
+pub returns-then-layout-clause-promised : goal.returns-then-layout-clause-promised
+returns-then-layout-clause-promised g c = promised _ _ _ _ _ _ (g.met.M.Room.fits _) _ c.args.budget Closed (returns-then-layout-clause-talk g c)
+
+pub returns-in-Err-Refused-clause-promised : goal.returns-in-Err-Refused-clause-promised
+returns-in-Err-Refused-clause-promised g c = promised _ _ _ _ _ _ (g.met.M.Room.fits _) _ _ _ (returns-in-Err-Refused-clause-talk g c)
+
+pub returns-in-Err-End-clause-promised : goal.returns-in-Err-End-clause-promised
+returns-in-Err-End-clause-promised g c = promised _ _ _ _ _ _ (g.met.M.Room.fits _) _ c.args.budget Closed (returns-in-Err-End-clause-talk g c)
+
+pub returns-in-Err-Cut-clause-promised : goal.returns-in-Err-Cut-clause-promised
+returns-in-Err-Cut-clause-promised g c = promised _ _ _ _ _ _ (g.met.M.Room.fits _) _ c.args.budget Cut (returns-in-Err-Cut-clause-talk g c)
+
+pub returns-in-Err-ReadFault-clause-promised : goal.returns-in-Err-ReadFault-clause-promised
+returns-in-Err-ReadFault-clause-promised g c = promised _ _ _ _ _ _ (g.met.M.Room.fits _) _ c.args.budget ReadFault (returns-in-Err-ReadFault-clause-talk g c)
+
+pub returns-in-Err-ReadsSpent-clause-promised : goal.returns-in-Err-ReadsSpent-clause-promised
+returns-in-Err-ReadsSpent-clause-promised g c = promised _ _ _ _ _ _ (g.met.M.Room.fits _) _ c.args.budget ReadsSpent (returns-in-Err-ReadsSpent-clause-talk g c)
+
+pub returns-in_default-clause-promised : goal.returns-in_default-clause-promised
+returns-in_default-clause-promised g c same = none_served _ _ _ _ _ (g.met.M.Room.fits _) ((λ stream known. (stream, refl)), ([], Appends-none _))
+
+pub returns-in_default-new-clause-promised : goal.returns-in_default-new-clause-promised
+returns-in_default-new-clause-promised g c same = none_served _ _ _ _ _ (g.met.M.Room.fits _) ((λ stream known. (stream, refl)), ([], Appends-none _))

@@ -13,8 +13,8 @@ invariant-messages g l = record {
       (prepend_known l.inbox (g.R.Source.left l.reader)) (g.W.Sink.held l.writer) (g.C.Clock.given l.clock)
       (g.M.Room.is_trusted l.room) (g.M.Room.stands l.initial.room) (g.M.Room.stands l.room) outs;
   trusted : g.M.Room.is_trusted l.room → g.M.Room.is_trusted l.initial.room;
-  spent : l.left ≤ l.turns;
-  reads : CountsBy (l.turns - l.left) (g.R.Source.reads l.initial.reader) (g.R.Source.reads l.reader);
+  spent : l.left ≤ l.budget;
+  reads : CountsBy (l.budget - l.left) (g.R.Source.reads l.initial.reader) (g.R.Source.reads l.reader);
   reader : g.R.Source.has_failed l.reader ≡ false;
   writer : g.W.Sink.has_failed l.writer ≡ false;
   ready : g.M.Room.is_ready l.room;

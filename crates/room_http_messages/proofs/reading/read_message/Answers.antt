@@ -1,6 +1,6 @@
 use Rattle.std.proofs.Common.{arith, append-nil, [], Err}
 use Rattle.std.proofs.lemmas.Result.{err_from_is_err_and}
-use Rattle.room_http_messages.proofs.ReadingLemmas.{Reads-trans, part-append, first_outcome}
+use Rattle.room_http_messages.proofs.ReadingLemmas.{Reads-trans, part-append, first_found}
 use Rattle.room_http_messages.proofs.reading.read_message.Goals as goal
 
 pub reads-init : goal.reads-init
@@ -29,4 +29,4 @@ returns-in_err-read_once g c =
     let p = err_from_is_err_and c.from_residual.result c.from_residual.ensures.1 in
     let read = Reads-trans _ _ c.reads.invariant.read c.read_once.ensures.read in
     let says = c.in_err-read_once.ensures.says in
-    rw (p.1, p.2) (record { read = read; says = says; first = first_outcome _ _ _ _ _ _ _ (Err _) read.same says })
+    rw (p.1, p.2) (record { read = read; says = says; first = first_found _ _ _ _ _ _ _ (Err _) read.same says })

@@ -6,23 +6,23 @@ use Rattle.room_http_messages.proofs.reading.read_message.Given as goal
 
 abbrev pub invariant-looks : goal.invariant-looks
 invariant-looks g l = record {
-  read : Reads g.R.Source.left g.R.Source.reads l.fn.reader l.reader l.fn.inbox l.inbox l.fn.turns l.turns;
+  read : Reads g.R.Source.left g.R.Source.reads l.fn.reader l.reader l.fn.inbox l.inbox l.fn.budget l.budget;
   sound : g.R.Source.has_failed l.reader ≡ false;
 }
 
 abbrev pub decreases-looks : goal.decreases-looks
-decreases-looks g l = l.turns
+decreases-looks g l = l.budget
 
 -- until a read was made more is wanted
 abbrev pub invariant-reads : goal.invariant-reads
 invariant-reads g l = record {
-  read : Reads g.R.Source.left g.R.Source.reads l.fn.reader l.reader l.fn.inbox l.inbox l.fn.turns l.turns;
+  read : Reads g.R.Source.left g.R.Source.reads l.fn.reader l.reader l.fn.inbox l.inbox l.fn.budget l.budget;
   sound : g.R.Source.has_failed l.reader ≡ false;
   room : l.wanted ≤ INBOX_ROOM;
   part : (more : List ℕ) → length (l.inbox ++ more) < l.wanted → IsPart (l.inbox ++ more);
-  spent : l.turns ≤ l.initial.turns;
-  begun : l.turns ≡ l.initial.turns → length l.inbox < l.wanted;
+  spent : l.budget ≤ l.initial.budget;
+  begun : l.budget ≡ l.initial.budget → length l.inbox < l.wanted;
 }
 
 abbrev pub decreases-reads : goal.decreases-reads
-decreases-reads g l = l.turns
+decreases-reads g l = l.budget

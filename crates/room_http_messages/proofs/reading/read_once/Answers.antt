@@ -8,6 +8,6 @@ returns-in-Ok-eq0 g c =
     let end = filled.bytes.4 c.in-Ok-eq0.field-0-test in
     let none = sym filled.bytes.1 in
     record {
-      read = Reads-one _ _ _ _ _ _ _ _ _ _ _ filled (omega (arith, c.if-turns-eq0.false)) (omega arith);
+      read = Reads-one _ _ _ _ _ _ _ _ _ _ _ filled (omega (arith, c.if-budget-eq0.false)) (omega arith);
       says = rw (c.end_of.ensures, c.bytes.ensures.value) (stops_at_end _ _ _ _ _ _ _ (filled.bytes.1 ∙ c.in-Ok-eq0.field-0-test) filled.bytes.2 c.requires.part (rw c.requires.sound at filled.failed) end.0 end.1);
     }

@@ -1,4 +1,5 @@
-use Rattle.std.proofs.lemmas.Result.{IfOk-weaker}
+use Rattle.std.proofs.Common.{inl}
+use Rattle.std.proofs.lemmas.Result.{IfErr-weaker, IfOk-weaker}
 use Rattle.room_store.proofs.deciding.decide.Goals as goal
 
 pub returns-in-Desk-clause-decided : goal.returns-in-Desk-clause-decided
@@ -12,3 +13,27 @@ returns-in-Crew-clause-decided g c clean = IfOk-weaker c.for_crew.result _ _ (λ
 pub returns-in-Position-clause-decided : goal.returns-in-Position-clause-decided
 returns-in-Position-clause-decided g c clean = IfOk-weaker c.for_position.result _ _ (λ x told house room h.
     rw c.in-Position.is (told house room h.stands h.formed h.plan (rw c.in-Position.is at h.addressed))) (c.for_position.ensures.decided clean)
+
+pub returns-in-Desk-clause-ok : goal.returns-in-Desk-clause-ok
+returns-in-Desk-clause-ok g c = c.for_desk.ensures.reads.ok
+
+pub returns-in-Desk-clause-err : goal.returns-in-Desk-clause-err
+returns-in-Desk-clause-err g c clean = IfErr-weaker c.for_desk.result _ _ (λ _ kept. inl kept) (c.for_desk.ensures.reads.err clean)
+
+pub returns-in-Desk-clause-mode : goal.returns-in-Desk-clause-mode
+returns-in-Desk-clause-mode g c = c.for_desk.ensures.reads.mode
+
+pub returns-in-Desk-clause-survives : goal.returns-in-Desk-clause-survives
+returns-in-Desk-clause-survives g c = c.for_desk.ensures.reads.survives
+
+pub returns-in-Crew-clause-ok : goal.returns-in-Crew-clause-ok
+returns-in-Crew-clause-ok g c = c.for_crew.ensures.reads.ok
+
+pub returns-in-Crew-clause-err : goal.returns-in-Crew-clause-err
+returns-in-Crew-clause-err g c clean = IfErr-weaker c.for_crew.result _ _ (λ _ kept. inl kept) (c.for_crew.ensures.reads.err clean)
+
+pub returns-in-Crew-clause-mode : goal.returns-in-Crew-clause-mode
+returns-in-Crew-clause-mode g c = c.for_crew.ensures.reads.mode
+
+pub returns-in-Crew-clause-survives : goal.returns-in-Crew-clause-survives
+returns-in-Crew-clause-survives g c = c.for_crew.ensures.reads.survives

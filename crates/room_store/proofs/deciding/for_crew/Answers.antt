@@ -1,4 +1,4 @@
-use Rattle.std.proofs.Common.{subst, sym, ◌≡◌}
+use Rattle.std.proofs.Common.{refl, subst, sym, ◌≡◌}
 use Rattle.room_types.specs.Keys.{callsign_cmp, vehicle_key}
 use Rattle.room_types.specs.Orders.{callsigns_total, exact_callsigns}
 use Rattle.room_model.proofs.Tests.{row_key}
@@ -6,6 +6,7 @@ use Rattle.room_model.specs.Slices.{AreCrewRows}
 use Rattle.room_model.specs.Step.{crew_asks}
 use Rattle.room_core.specs.Deciding.{Decides, number_in_hand}
 use Rattle.std.proofs.lemmas.Result.{IfOk-weaker}
+use Rattle.room_tables_sql.proofs.ReadLaws.{fails, looked, told, told_any, wants}
 use Rattle.room_store.proofs.deciding.for_crew.Goals as goal
 
 pub returns-in-Some-build-clause-decided : goal.returns-in-Some-build-clause-decided
@@ -17,3 +18,15 @@ returns-in-Some-build-clause-decided g c clean = IfOk-weaker c.machines.result _
     let here = subst (λ n. AreCrewRows n (number_in_hand a) room c.in-Some.rows) same rows in
     let decided = rw c.in-Some-build.ensures.rows at c.decide_crew.ensures room formed in
     told (crew_asks k a c.args.at room) (subst (λ n. Decides (crew_asks n a c.args.at room) c.decide_crew.result) (sym same) (decided here))) c.machines.ensures
+
+pub returns-in_err-found-clause-reads : goal.returns-in_err-found-clause-reads
+returns-in_err-found-clause-reads g c = fails c.from_residual.ensures.0 c.in_err-found.ensures.reads
+
+pub returns-in-Some-build-clause-reads : goal.returns-in-Some-build-clause-reads
+returns-in-Some-build-clause-reads g c = told_any c.machines.result (looked c.in_ok-found.ensures.reads)
+
+pub returns-in-None-build-clause-reads : goal.returns-in-None-build-clause-reads
+returns-in-None-build-clause-reads g c = wants refl (looked c.in_ok-found.ensures.reads)
+
+pub returns-in-None-clause-reads : goal.returns-in-None-clause-reads
+returns-in-None-clause-reads g c = wants refl (looked c.in_ok-found.ensures.reads)

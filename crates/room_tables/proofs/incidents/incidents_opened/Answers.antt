@@ -12,25 +12,16 @@ use Rattle.room_tables_sql.proofs.Refusals.{plain_here}
 use Rattle.room_tables.proofs.incidents.incidents_opened.Goals as goal
 
 pub load-requires : goal.load-requires
-load-requires g c clean = plain_here room_schema _ INCIDENTS_OPENED.now (c.requires clean) incidents_opened_means.plain
+load-requires g c clean = plain_here room_schema _ INCIDENTS_OPENED.now (c.requires.room clean) incidents_opened_means.plain
 
 pub returns-clause-rows : goal.returns-clause-rows
 returns-clause-rows g c clean =
     let old = state g.S.Store c.args.conn.now in
-    let early : HasCleanDisk old = omega (arith, c.load.ensures.survives.clean) in
-    IfOk-weaker c.load.result _ _ (λ found shown. incidents_opened_are c.args.from c.args.to c.args.division old (state g.S.Store c.load.new.conn) found (c.requires early) (rw (c.second.ensures, to_z-of_z w64 c.args.from c.ranges.from, c.second-2.ensures, to_z-of_z w64 c.args.to c.ranges.to, c.store.ensures) at shown)) (c.load.ensures.shown clean)
-
-pub returns-clause-ok : goal.returns-clause-ok
-returns-clause-ok g c = c.load.ensures.ok
-
-pub returns-clause-err : goal.returns-clause-err
-returns-clause-err g c = c.load.ensures.err
-
-pub returns-clause-mode : goal.returns-clause-mode
-returns-clause-mode g c = c.load.ensures.mode
-
-pub returns-clause-survives : goal.returns-clause-survives
-returns-clause-survives g c = c.load.ensures.survives
+    let early : HasCleanDisk old = omega (arith, c.load.ensures.reads.survives.clean) in
+    IfOk-weaker c.load.result _ _ (λ found shown. incidents_opened_are c.args.from c.args.to c.args.division old (state g.S.Store c.load.new.conn) found (c.requires.room early) (rw (c.second.ensures, to_z-of_z w64 c.args.from c.ranges.from, c.second-2.ensures, to_z-of_z w64 c.args.to c.ranges.to, c.store.ensures) at shown)) (c.load.ensures.shown clean)
 
 pub returns-clause-why : goal.returns-clause-why
 returns-clause-why g c clean = rw (c.second.ensures, to_z-of_z w64 c.args.from c.ranges.from, c.second-2.ensures, to_z-of_z w64 c.args.to c.ranges.to, c.store.ensures) at (c.load.ensures.why clean)
+
+pub returns-clause-reads : goal.returns-clause-reads
+returns-clause-reads g c = c.load.ensures.reads

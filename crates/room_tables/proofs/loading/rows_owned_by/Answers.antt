@@ -9,26 +9,17 @@ use Rattle.room_tables_rows.proofs.Loads.{chosen_rows}
 use Rattle.room_tables.proofs.loading.rows_owned_by.Goals as goal
 
 pub load-requires : goal.load-requires
-load-requires g c clean = rw c.select_owned.ensures (plain_here room_schema _ _ (c.requires clean) (g.met.X.Owned.selects_owned c.args.division).selects.plain)
+load-requires g c clean = rw c.select_owned.ensures (plain_here room_schema _ _ (c.requires.room clean) (g.met.X.Owned.selects_owned c.args.division).selects.plain)
 
 pub returns-clause-rows : goal.returns-clause-rows
 returns-clause-rows g c clean =
     let old = state g.S.Store c.args.conn.now in
-    let early : HasCleanDisk old = omega (arith, c.load.ensures.survives.clean) in
-    IfOk-weaker c.load.result _ _ (λ found shown. chosen_rows g.met.X.Table.is_table.is_held _ _ _ (g.met.X.Owned.selects_owned c.args.division) old (state g.S.Store c.load.new.conn) found (c.requires early)
+    let early : HasCleanDisk old = omega (arith, c.load.ensures.reads.survives.clean) in
+    IfOk-weaker c.load.result _ _ (λ found shown. chosen_rows g.met.X.Table.is_table.is_held _ _ _ (g.met.X.Owned.selects_owned c.args.division) old (state g.S.Store c.load.new.conn) found (c.requires.room early)
     (rw (c.select_owned.ensures, c.store.ensures) at shown)) (c.load.ensures.shown clean)
-
-pub returns-clause-ok : goal.returns-clause-ok
-returns-clause-ok g c = c.load.ensures.ok
-
-pub returns-clause-err : goal.returns-clause-err
-returns-clause-err g c = c.load.ensures.err
-
-pub returns-clause-mode : goal.returns-clause-mode
-returns-clause-mode g c = c.load.ensures.mode
-
-pub returns-clause-survives : goal.returns-clause-survives
-returns-clause-survives g c = c.load.ensures.survives
 
 pub returns-clause-why : goal.returns-clause-why
 returns-clause-why g c clean = rw (c.select_owned.ensures, c.store.ensures) at (c.load.ensures.why clean)
+
+pub returns-clause-reads : goal.returns-clause-reads
+returns-clause-reads g c = c.load.ensures.reads

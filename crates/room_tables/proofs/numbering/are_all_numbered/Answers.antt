@@ -18,11 +18,11 @@ loop-text-preserved g c =
     let mid = state g.S.Store c.loop-text.conn in
     let new = state g.S.Store c.is_numbered.new.conn in
     let before = c.loop-text.invariant in
-    let early = λ (clean : HasCleanDisk new). let e : HasCleanDisk mid = omega (arith, c.is_numbered.ensures.survives.clean) in e in
+    let early = λ (clean : HasCleanDisk new). let e : HasCleanDisk mid = omega (arith, c.is_numbered.ensures.reads.survives.clean) in e in
     record {
-      survives = survives_then old mid new (λ _. ⊥) (λ _. ⊥) (λ _. ⊥) (λ _ db none. none) (λ _ db none. none) before.survives c.is_numbered.ensures.survives;
-      stays = λ clean. record { so_far = inr (unchanged_after (before.stays (early clean)) c.is_numbered.new.conn (c.in_ok-is_numbered.ensures.ok clean)) };
-      mode = λ e. c.is_numbered.ensures.mode (before.mode e);
+      survives = survives_then old mid new (λ _. ⊥) (λ _. ⊥) (λ _. ⊥) (λ _ db none. none) (λ _ db none. none) before.survives c.is_numbered.ensures.reads.survives;
+      stays = λ clean. record { so_far = inr (unchanged_after (before.stays (early clean)) c.is_numbered.new.conn (c.in_ok-is_numbered.ensures.reads.ok clean)) };
+      mode = λ e. c.is_numbered.ensures.reads.mode (before.mode e);
       left = λ clean.
           less_left old.now.trees _ _ _ (rw (trees_stay (before.stays (early clean))) at (c.in_ok-is_numbered.ensures.numbered clean))
           (subst (Left old.now.trees) (at_drop_more (map (λ text. text.now)) c.args.texts.now c.loop-text.text-index _ c.loop-text-test.true) (before.left (early clean))) c.if-not-branch.false;
@@ -32,7 +32,7 @@ pub returns-then-not-branch-clause-numbered : goal.returns-then-not-branch-claus
 returns-then-not-branch-clause-numbered g c clean =
     let old = state g.S.Store c.args.conn.now in
     let before = c.loop-text.invariant in
-    let early : HasCleanDisk (state g.S.Store c.loop-text.conn) = omega (arith, c.is_numbered.ensures.survives.clean) in
+    let early : HasCleanDisk (state g.S.Store c.loop-text.conn) = omega (arith, c.is_numbered.ensures.reads.survives.clean) in
     let one = one_numbered old.now.trees _ _ _ (rw (trees_stay (before.stays early)) at (c.in_ok-is_numbered.ensures.numbered clean))
     (subst (Left old.now.trees) (at_drop_more (map (λ text. text.now)) c.args.texts.now c.loop-text.text-index _ c.loop-text-test.true) (before.left early)) in
     (λ yes. absurd (true≢false (sym yes)), λ numbered. sym c.if-not-branch.true ∙ one numbered)

@@ -10,25 +10,16 @@ use Rattle.room_tables_sql.proofs.Refusals.{plain_here}
 use Rattle.room_tables.proofs.terminals.terminal_at.Goals as goal
 
 pub find-requires : goal.find-requires
-find-requires g c clean = plain_here room_schema _ TERMINAL_AT.now (c.requires clean) terminal_at_means.plain
+find-requires g c clean = plain_here room_schema _ TERMINAL_AT.now (c.requires.room clean) terminal_at_means.plain
 
 pub returns-clause-row : goal.returns-clause-row
 returns-clause-row g c clean =
     let old = state g.S.Store c.args.conn.now in
-    let early : HasCleanDisk old = omega (arith, c.find.ensures.survives.clean) in
-    IfOk-weaker c.find.result _ _ (λ found shown. terminal_at_is c.args.token.now old (state g.S.Store c.find.new.conn) found (c.requires early) (rw (c.store.ensures) at shown)) (c.find.ensures.shown clean)
-
-pub returns-clause-ok : goal.returns-clause-ok
-returns-clause-ok g c = c.find.ensures.ok
-
-pub returns-clause-err : goal.returns-clause-err
-returns-clause-err g c = c.find.ensures.err
-
-pub returns-clause-mode : goal.returns-clause-mode
-returns-clause-mode g c = c.find.ensures.mode
-
-pub returns-clause-survives : goal.returns-clause-survives
-returns-clause-survives g c = c.find.ensures.survives
+    let early : HasCleanDisk old = omega (arith, c.find.ensures.reads.survives.clean) in
+    IfOk-weaker c.find.result _ _ (λ found shown. terminal_at_is c.args.token.now old (state g.S.Store c.find.new.conn) found (c.requires.room early) (rw (c.store.ensures) at shown)) (c.find.ensures.shown clean)
 
 pub returns-clause-why : goal.returns-clause-why
 returns-clause-why g c clean = rw (c.store.ensures) at (c.find.ensures.why clean)
+
+pub returns-clause-reads : goal.returns-clause-reads
+returns-clause-reads g c = c.find.ensures.reads

@@ -10,25 +10,16 @@ use Rattle.room_tables_sql.proofs.Refusals.{plain_here}
 use Rattle.room_tables.proofs.turns.turns_of.Goals as goal
 
 pub load-requires : goal.load-requires
-load-requires g c clean = plain_here room_schema _ TURNS_OF.now (c.requires clean) turns_of_means.plain
+load-requires g c clean = plain_here room_schema _ TURNS_OF.now (c.requires.room clean) turns_of_means.plain
 
 pub returns-clause-rows : goal.returns-clause-rows
 returns-clause-rows g c clean =
     let old = state g.S.Store c.args.conn.now in
-    let early : HasCleanDisk old = omega (arith, c.load.ensures.survives.clean) in
-    IfOk-weaker c.load.result _ _ (λ found shown. turns_of_are c.args.division c.args.incident old (state g.S.Store c.load.new.conn) found (c.requires early) (rw (c.store.ensures, c.store-2.ensures) at shown)) (c.load.ensures.shown clean)
-
-pub returns-clause-ok : goal.returns-clause-ok
-returns-clause-ok g c = c.load.ensures.ok
-
-pub returns-clause-err : goal.returns-clause-err
-returns-clause-err g c = c.load.ensures.err
-
-pub returns-clause-mode : goal.returns-clause-mode
-returns-clause-mode g c = c.load.ensures.mode
-
-pub returns-clause-survives : goal.returns-clause-survives
-returns-clause-survives g c = c.load.ensures.survives
+    let early : HasCleanDisk old = omega (arith, c.load.ensures.reads.survives.clean) in
+    IfOk-weaker c.load.result _ _ (λ found shown. turns_of_are c.args.division c.args.incident old (state g.S.Store c.load.new.conn) found (c.requires.room early) (rw (c.store.ensures, c.store-2.ensures) at shown)) (c.load.ensures.shown clean)
 
 pub returns-clause-why : goal.returns-clause-why
 returns-clause-why g c clean = rw (c.store.ensures, c.store-2.ensures) at (c.load.ensures.why clean)
+
+pub returns-clause-reads : goal.returns-clause-reads
+returns-clause-reads g c = c.load.ensures.reads

@@ -16,5 +16,5 @@ pub returns-clause-blank : goal.returns-clause-blank
 returns-clause-blank g c clean =
     let old = state g.S.Store c.args.tx.now.conn.now in
     let new = state g.S.Store c.define_all.new.tx.conn.now in
-    let early : HasCleanDisk old = omega (arith, c.define_all.ensures.survives.clean) in
-    on_ok_both c.define_all.result (is_blank old.now new.now (c.requires.empty early)) (c.define_all.ensures.rows clean) (c.define_all.ensures.schema clean)
+    let early : HasCleanDisk old = omega (arith, c.define_all.ensures.commits.survives.clean) in
+    on_ok_both c.define_all.result (λ rows may. is_blank old.now new.now (c.requires.empty early) rows (may.room clean)) (c.define_all.ensures.rows clean) c.define_all.ensures.inside

@@ -6,15 +6,14 @@ use Rattle.sqlite.specs.Values.{bound}
 use Rattle.room_tables_sql.proofs.Refusals.{query_unchanged, query_failed, query_survives}
 use Rattle.room_tables_sql.proofs.reading.select.Goals as goal
 
-pub returns-clause-ok : goal.returns-clause-ok
-returns-clause-ok g c clean =
-    let early : HasCleanDisk (state g.S.Store c.args.conn.now) = omega (arith, c.query_all.ensures.survives.clean) in
-    IfOk-weaker c.query_all.result _ _ (λ rows. query_unchanged c.args.text.now (bound c.args.params.now) _ _ c.requires early rows.items) (c.query_all.ensures.ok clean)
-
-pub returns-clause-err : goal.returns-clause-err
-returns-clause-err g c clean =
-    let early : HasCleanDisk (state g.S.Store c.args.conn.now) = omega (arith, c.query_all.ensures.survives.clean) in
-    IfErr-weaker c.query_all.result _ _ (query_failed c.args.text.now (bound c.args.params.now) _ _ c.requires early) (c.query_all.ensures.err clean)
-
-pub returns-clause-survives : goal.returns-clause-survives
-returns-clause-survives g c = query_survives c.args.text.now (bound c.args.params.now) _ _ c.requires c.query_all.ensures.survives
+pub returns-clause-reads : goal.returns-clause-reads
+returns-clause-reads g c =
+    let text = c.args.text.now in
+    let params = bound c.args.params.now in
+    let early = λ (clean : HasCleanDisk (state g.S.Store c.query_all.new.self)). let it : HasCleanDisk (state g.S.Store c.args.conn.now) = omega (arith, c.query_all.ensures.survives.clean) in it in
+    record {
+      ok = λ clean. IfOk-weaker c.query_all.result _ _ (λ rows. query_unchanged text params _ _ c.requires (early clean) rows.items) (c.query_all.ensures.ok clean);
+      err = λ clean. IfErr-weaker c.query_all.result _ _ (query_failed text params _ _ c.requires (early clean)) (c.query_all.ensures.err clean);
+      mode = c.query_all.ensures.mode;
+      survives = query_survives text params _ _ c.requires c.query_all.ensures.survives;
+    }

@@ -1,6 +1,6 @@
 use Rattle.std.proofs.Common.{refl}
 use Rattle.sqlite.proofs.StateLemmas.{survives_weaker}
-use Rattle.room_store.specs.Keeping.{house_of}
+use Rattle.room_store_writes.specs.Houses.{house_of}
 use Rattle.room_store.proofs.StoreLaws.{for_room, room_moved}
 use Rattle.room_store.proofs.store.Store.act.Goals as goal
 

@@ -1,7 +1,7 @@
 use Rattle.std.proofs.Common.{List, subst, sym, ℕ}
 use Rattle.sqlite.specs.Held.{state}
 use Rattle.room_tables.specs.Stands.{Stands}
-use Rattle.room_store.specs.Creating.{in_order, new_room}
+use Rattle.room_store_writes.specs.Filling.{in_order, new_room}
 use Rattle.room_store.proofs.CreationLaws.{new_room_formed, new_terminals_fit}
 use Rattle.room_store.proofs.store.Store.create.Goals as goal
 

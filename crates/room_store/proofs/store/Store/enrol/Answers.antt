@@ -1,6 +1,6 @@
 use Rattle.std.proofs.Common.{refl}
 use Rattle.sqlite.proofs.StateLemmas.{survives_weaker}
-use Rattle.room_store.specs.Keeping.{house_of}
+use Rattle.room_store_writes.specs.Houses.{house_of}
 use Rattle.room_store.proofs.EnrolledLaws.{in_plan, room_after_row}
 use Rattle.room_store.proofs.store.Store.enrol.Goals as goal
 

@@ -1,0 +1,8 @@
+//! What the commands do in a room, over any storage.
+#![tactic(auto)]
+
+pub mod creating;
+mod fates;
+pub mod importing;
+pub mod rooms;
+pub mod timing;

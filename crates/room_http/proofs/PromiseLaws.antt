@@ -1,0 +1,167 @@
+-- Every run of a connection keeps the promises.
+use Rattle.std.proofs.Common.{◌≡◌, ◌∙◌, ap, append_assoc, inl, inr, refl, subst, sym, ℕ, List, [], ◌∷◌, ◌++◌, Bool, true, Some, Result, Ok, Err}
+use Rattle.std.specs.Prelude.{cond, false, is_ok}
+use Rattle.room_place.specs.Choice.{Among}
+use Rattle.room_types.specs.Texts.{Callsign}
+use Rattle.room_types.specs.declared.answers.Answer.{Answer}
+use Rattle.room_types.specs.declared.asks.Ask.{Ask}
+use Rattle.room_types.specs.declared.asks.Ask.TheVariants.{Call, Report}
+use Rattle.room_types.specs.declared.asks.Event.{Event}
+use Rattle.room_types.specs.declared.fleet.Terminal.{Terminal}
+use Rattle.room_types.specs.declared.refusals.Refusal.{Refusal}
+use Rattle.room_model.proofs.AssignedOnce.{of_one_order, one_assignment, one_open_turn}
+use Rattle.room_model.proofs.CrewLaws.{mine_answer, mine_equal}
+use Rattle.room_model.proofs.KeptEvents.{run_kept}
+use Rattle.room_model.proofs.RepeatLaws.{call_repeated, report_repeated}
+use Rattle.room_model.proofs.Runs.{equal_answers, equal_shares, meet_well_formed, run_share, run_told}
+use Rattle.room_model.specs.Crossing.{crossings}
+use Rattle.room_model.specs.Decisions.{answer_of}
+use Rattle.room_model.specs.Events.{AreAddressed, OnlyAnswers, by_crew, by_position, received}
+use Rattle.room_model.specs.Room.{IsInOrder, Room}
+use Rattle.room_model.specs.Run.{is_desk, room_run, told}
+use Rattle.room_model.specs.Shares.{mine, own}
+use Rattle.room_model.specs.Step.{answer_to, room_after}
+use Rattle.room_model.specs.WellFormed.{IsWellFormed}
+use Rattle.room_http_answers.proofs.Dates.{one_reply_law}
+use Rattle.room_http_answers.specs.Replies.{IsReply}
+use Rattle.room_http_time.specs.declared.zones.Zone.{Zone}
+use Rattle.room_service.specs.Rooms.{machine}
+use Rattle.room_http.specs.Arrivals.{is_closing, is_head_only}
+use Rattle.room_http.specs.Promises.{ActsOnce, IsDeskAlike, AreSentOnce, Promises}
+use Rattle.room_http.specs.Runs.{AreAnswered, AreTold, Exchange, IsRun, IsTold, answers_of, arrivals_of, asker, event_then, events_of, is_by_desk, room_by, with_desk}
+use Rattle.room_http.specs.Talk.{Finds, Timed, replied}
+use Rattle.room_http.proofs.RunLemmas.{found_asked_by, room_push, room_split, run_first}
+
+-- ---- parts of a run
+module _ (known : Room) where
+  addressed_early : (before rest : List Exchange) → AreAddressed (events_of (before ++ rest)) known → AreAddressed (events_of before) known
+  addressed_early [] rest all = tt
+  addressed_early (x ∷ before) rest all = go x.found (addressed_early before rest) all
+    where
+      go : (found : Result Event Refusal) → (AreAddressed (events_of (before ++ rest)) known → AreAddressed (events_of before) known)
+          → AreAddressed (event_then found (events_of (before ++ rest))) known → AreAddressed (event_then found (events_of before)) known
+      go (Ok event) early all = (all.0, all.1, early all.2)
+      go (Err r) early all = early all
+
+-- what an arrival is answered, after those before it
+told_at : (zone : Zone) (terminals : List Terminal) (before rest : List Exchange) (x : Exchange) (room : Room) → AreAnswered zone terminals (before ++ x ∷ rest) room
+    → IsTold x (replied machine x.found (room_by before room)).1
+told_at zone terminals [] rest x room are = are.1
+told_at zone terminals (y ∷ before) rest x room are =
+    subst (λ r. IsTold x (replied machine x.found r).1) (sym (run_first y.found (events_of before) room))
+    (told_at zone terminals before rest x (replied machine y.found room).0 are.2)
+
+-- who asks of one of them
+asked_in : (zone : Zone) (terminals : List Terminal) (xs : List Exchange) (room : Room) → AreAnswered zone terminals xs room
+    → (x : Exchange) (event : Event) → Among x xs → x.found ≡ Ok event → (asker terminals x.arrival.0 ≡ Some event.who) × (event.at ≡ x.arrival.1)
+asked_in zone terminals [] room are x event there is = absurd there
+asked_in zone terminals (y ∷ xs) room are x event (inl same) is =
+    found_asked_by zone terminals x.arrival (Ok event) (rw is at (subst (λ (z : Exchange). Finds zone terminals z.arrival z.found) (sym same) are.0))
+asked_in zone terminals (y ∷ xs) room are x event (inr there) is = asked_in zone terminals xs (replied machine y.found room).0 are.2 x event there is
+
+-- ---- what a desk is answered
+told_apart : (d : ℕ) (b : Bool) (x : Exchange) (xs : List Exchange) (answer : Result Answer Refusal) (answers : List (Result Answer Refusal))
+    → IsTold x answer → AreTold xs answers → AreTold (cond b (x ∷ xs) xs) (cond b (answer ∷ answers) answers)
+told_apart d true x xs answer answers first rest = (first, rest)
+told_apart d false x xs answer answers first rest = rest
+
+desk_answered : (zone : Zone) (terminals : List Terminal) (d : ℕ) (xs : List Exchange) (room : Room) → AreAnswered zone terminals xs room → AreTold (with_desk d xs) (told d (events_of xs) room)
+desk_answered zone terminals d [] room are = tt
+desk_answered zone terminals d (x ∷ xs) room are = go x.found are.1 (desk_answered zone terminals d xs (replied machine x.found room).0 are.2)
+  where
+    go : (found : Result Event Refusal) → IsTold x (replied machine found room).1 → AreTold (with_desk d xs) (told d (events_of xs) (replied machine found room).0)
+        → AreTold (cond (is_by_desk d found) (x ∷ with_desk d xs) (with_desk d xs)) (told d (event_then found (events_of xs)) room)
+    go (Ok event) first rest = told_apart d (is_desk d event.who) x (with_desk d xs) (answer_to event room) (told d (events_of xs) (room_after event room)) first rest
+    go (Err r) first rest = rest
+
+-- equal answers to equal arrivals are equal bytes
+told_alike : (xs ys : List Exchange) (answers : List (Result Answer Refusal)) → AreTold xs answers → AreTold ys answers → arrivals_of xs ≡ arrivals_of ys → answers_of xs ≡ answers_of ys
+told_alike [] [] answers are also same = refl
+told_alike [] (y ∷ ys) answers are also same = cc
+told_alike (x ∷ xs) [] answers are also same = cc
+told_alike (x ∷ xs) (y ∷ ys) [] are also same = absurd are
+told_alike (x ∷ xs) (y ∷ ys) (answer ∷ answers) are also same =
+    let first : x.arrival ≡ y.arrival = cc in
+    let rest : arrivals_of xs ≡ arrivals_of ys = cc in
+    let again = subst (λ (o : Timed). IsReply answer o.1 (is_head_only o.0) (is_closing o.0) x.bytes) first are.0 in
+    let bytes = one_reply_law answer y.arrival.1 (is_head_only y.arrival.0) (is_closing y.arrival.0) x.bytes y.bytes again also.0 in
+    λ i. bytes i ∷ told_alike xs ys answers are.1 also.1 rest i
+
+-- ---- the promises
+sent_once_in : (room : Room) → IsWellFormed room → AreSentOnce room
+sent_once_in room formed = record {
+  assigned_once = one_assignment room formed;
+  turned_once = one_open_turn room formed;
+  together = λ a t here there unended same. let is = of_one_order room formed a t here there unended same in (is.0, is.1);
+}
+
+module _ (zone : Zone) (terminals : List Terminal) (xs : List Exchange) (room : Room) (formed : IsWellFormed room) (run : IsRun zone terminals xs room) where
+  -- every room on the way is well-formed
+  formed_at : (before rest : List Exchange) → xs ≡ before ++ rest → IsWellFormed (room_by before room)
+  formed_at before rest split = run_kept (events_of before) room formed (addressed_early room before rest (subst (λ l. AreAddressed (events_of l) room) split run.addressed))
+
+  told_in : (before rest : List Exchange) (x : Exchange) (found : Result Event Refusal) → xs ≡ before ++ x ∷ rest → x.found ≡ found → IsTold x (replied machine found (room_by before room)).1
+  told_in before rest x found split is =
+      subst (λ (found : Result Event Refusal). IsTold x (replied machine found (room_by before room)).1) is
+      (told_at zone terminals before rest x room (subst (λ l. AreAnswered zone terminals l room) split run.answered))
+
+  room_on : (before : List Exchange) (x : Exchange) (found : Result Event Refusal) → x.found ≡ found → room_by (before ++ x ∷ []) room ≡ (replied machine found (room_by before room)).0
+  room_on before x found is = room_push before x room ∙ ap (λ (found : Result Event Refusal). (replied machine found (room_by before room)).0) is
+
+  alike : (d : ℕ) (zone_there : Zone) (terminals_there : List Terminal) (ys : List Exchange) (other : Room) → IsWellFormed other → IsRun zone_there terminals_there ys other
+      → own d room ≡ own d other → received (crossings d (events_of xs) room) ≡ received (crossings d (events_of ys) other) → IsDeskAlike d xs ys room other
+  alike d zone_there terminals_there ys other good runs same handed =
+      let meets = meet_well_formed (events_of xs) room formed run.addressed in
+      let meet = meet_well_formed (events_of ys) other good runs.addressed in
+      let answers = equal_answers d (events_of xs) (events_of ys) room other meets meet same handed in
+      let here = desk_answered zone terminals d xs room run.answered in
+      let there = desk_answered zone_there terminals_there d ys other runs.answered in
+      record {
+        told = told_alike (with_desk d xs) (with_desk d ys) (told d (events_of ys) other) (subst (AreTold (with_desk d xs)) answers here) there;
+        shares = equal_shares d (events_of xs) (events_of ys) room other meets meet same handed;
+      }
+
+  crew : (before rest : List Exchange) (x : Exchange) (c : Callsign) (ask : Ask) (at : ℕ) (other : Room) → xs ≡ before ++ x ∷ rest → x.found ≡ Ok (by_crew c ask at)
+      → IsInOrder other → mine c (room_by before room) ≡ mine c other
+      → IsTold x (answer_to (by_crew c ask at) other) × (mine c (room_by (before ++ x ∷ []) room) ≡ mine c (room_after (by_crew c ask at) other))
+  crew before rest x c ask at other split is in_order same =
+      let order = (formed_at before (x ∷ rest) split).order in (
+        subst (IsTold x) (ap answer_of (mine_answer c ask at (room_by before room) other order in_order same)) (told_in before rest x (Ok (by_crew c ask at)) split is),
+        ap (mine c) (room_on before x (Ok (by_crew c ask at)) is) ∙ mine_equal c ask at (room_by before room) other order in_order same,
+      )
+
+  -- what acts once in a room that is in order acts once in every run
+  once : (sent : ℕ → Event)
+      → ((at later : ℕ) (s : Room) (between : List Event) → IsInOrder s → is_ok (answer_to (sent at) s) ≡ true → OnlyAnswers (sent later) (room_run between (room_after (sent at) s)) (answer_to (sent at) s))
+      → ActsOnce xs room sent
+  once sent law before between rest first again at later split is is_again ok =
+      let s = room_by before room in
+      let answer = answer_to (sent at) s in
+      let early = before ++ first ∷ between in
+      let split_first : xs ≡ before ++ first ∷ (between ++ again ∷ rest) = split ∙ append_assoc before (first ∷ between) (again ∷ rest) in
+      let there : room_by early room ≡ room_run (events_of between) (room_after (sent at) s) =
+      room_split before (first ∷ between) room ∙ run_first first.found (events_of between) s ∙ ap (λ (found : Result Event Refusal). room_run (events_of between) (replied machine found s).0) is in
+      let only : OnlyAnswers (sent later) (room_by early room) answer =
+      subst (λ now. OnlyAnswers (sent later) now answer) (sym there)
+      (law at later s (events_of between) (formed_at before (first ∷ (between ++ again ∷ rest)) split_first).order ok) in (
+        told_in before (between ++ again ∷ rest) first (Ok (sent at)) split_first is,
+        subst (IsTold again) only.1 (told_in early rest again (Ok (sent later)) split is_again),
+        room_on early again (Ok (sent later)) is_again ∙ only.0,
+      )
+
+  pub promises_kept : Promises terminals xs room
+  promises_kept =
+      let meets = meet_well_formed (events_of xs) room formed run.addressed in
+      record {
+        asked_by = asked_in zone terminals xs room run.answered;
+        share = λ d. run_share d (events_of xs) room meets;
+        desk_told = λ d. desk_answered zone terminals d xs room run.answered;
+        desk_apart = λ d. subst (AreTold (with_desk d xs)) (run_told d (events_of xs) room meets) (desk_answered zone terminals d xs room run.answered);
+        desk_alike = alike;
+        crew_alike = crew;
+        refused_alike = λ before rest x r split is. (told_in before rest x (Err r) split is, room_on before x (Err r) is);
+        formed = formed_at;
+        sent_once = λ before rest split. sent_once_in (room_by before room) (formed_at before rest split);
+        report_once = λ c press. once (by_crew c (Report press)) (λ at later s between in_order ok. report_repeated c press at s between in_order ok later);
+        call_once = λ position form. once (by_position position (Call form)) (λ at later s between in_order ok. call_repeated position form at s between in_order ok later);
+      }

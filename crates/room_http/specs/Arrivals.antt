@@ -1,0 +1,44 @@
+-- What is answered on a connection: the messages of its stream, and what is refused in the place of one.
+use Rattle.std.specs.Prelude.{◌≡◌, ℕ, List, [], ◌∷◌, Bool, true}
+use Rattle.room_types.specs.declared.refusals.Refusal.{Refusal}
+use Rattle.room_http_messages.specs.Layouts.{Shows}
+use Rattle.room_http_messages.specs.Messages.{WholeMessage, is_head, closes, HasMessage, IsRefused}
+use Rattle.room_http.specs.declared.arrivals.Arrived.{Arrived}
+use Rattle.room_http.specs.declared.arrivals.Arrived.TheVariants.{Message, Refused}
+
+-- a message, or a refusal and whether the answer has no content
+pub data Arrival : Type 0 where
+  message : WholeMessage → Arrival
+  refused : Refusal → Bool → Arrival
+
+-- the answer has no content
+abbrev pub is_head_only : Arrival → Bool
+is_head_only (message m) = is_head m.head.method
+is_head_only (refused r head_only) = head_only
+
+-- the connection closes after the answer
+abbrev pub is_closing : Arrival → Bool
+is_closing (message m) = closes m.head
+is_closing (refused r head_only) = true
+
+-- the stream begins with the arrival, and rest follows; what is refused is left where it is
+abbrev pub BeginsWith : List ℕ → Arrival → List ℕ → Type 0
+BeginsWith stream (message m) rest = HasMessage stream m rest
+BeginsWith stream (refused r head_only) rest = IsRefused stream r head_only × (rest ≡ stream)
+
+-- the stream begins with these arrivals, of which only the last may close, and rest follows
+abbrev pub Begins : List ℕ → List Arrival → List ℕ → Type 0
+Begins stream [] rest = stream ≡ rest
+Begins stream (o ∷ more) rest =
+    (next : List ℕ) × BeginsWith stream o next × (is_closing o ≡ true → more ≡ []) × Begins next more rest
+
+-- the stream begins with the arrival
+abbrev pub HasNext : Arrival → List ℕ → Type 0
+HasNext o stream = (next : List ℕ) × BeginsWith stream o next
+
+-- what is shown of an arrival
+abbrev pub IsShown : Arrived → Arrival → Type 0
+IsShown (Message shown) (message m) = Shows shown m
+IsShown (Message shown) (refused r head_only) = ⊥
+IsShown (Refused r head_only) (message m) = ⊥
+IsShown (Refused r head_only) (refused s without) = (r ≡ s) × (head_only ≡ without)

@@ -1,0 +1,2 @@
+-- what a file holds that is opened
+pub mod Opening

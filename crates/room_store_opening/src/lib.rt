@@ -1,0 +1,5 @@
+//! A file's tables read whole, and told to be a room or none.
+#![tactic(auto)]
+
+pub mod opening;
+pub mod whole;

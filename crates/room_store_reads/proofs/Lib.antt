@@ -1,0 +1,5 @@
+pub mod KeyedUnions
+pub mod RoomReads
+pub mod ReportTests
+pub mod ReadNumbers
+pub mod CrewReads

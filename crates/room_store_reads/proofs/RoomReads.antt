@@ -1,0 +1,60 @@
+-- Filters of rows, and the tests that they pass.
+use Rattle.std.proofs.Common.{Bool, List, [], arith, cond, false, refl, sym, true, ℕ, ◌&&◌, ◌∙◌, ◌∷◌, ◌≡◌, ◌||◌}
+use Rattle.std.proofs.lemmas.Bool.Decides.{nat_tests}
+use Rattle.std.specs.Ordering.{is_eq, nat_cmp}
+use Rattle.std.specs.Prelude.{filter, ◌==◌}
+use Rattle.room_tables_sql.proofs.Comparisons.{is_eq-then}
+use Rattle.room_types.specs.Keys.{callsign_cmp, numbered_cmp, pair_cmp, same_callsign}
+use Rattle.room_types.specs.Texts.{Callsign}
+
+-- tests that agree pass the same rows
+pub filter_as : {X : Type 0} (p q : X → Bool) (xs : List X) → ((x : X) → p x ≡ q x) → filter p xs ≡ filter q xs
+filter_as p q xs e i = filter (λ x. e x i) xs
+
+pub filter_none : {X : Type 0} (xs : List X) → filter (λ (x : X). false) xs ≡ []
+filter_none [] = refl
+filter_none (x ∷ xs) = filter_none xs
+
+cond_and : {X : Type 0} (a b : Bool) (p q : X → Bool) (x : X) (xs : List X) → a ≡ p x → b ≡ q x → filter (λ y. p y && q y) xs ≡ filter q (filter p xs)
+    → cond (a && b) (x ∷ filter (λ y. p y && q y) xs) (filter (λ y. p y && q y) xs) ≡ filter q (cond a (x ∷ filter p xs) (filter p xs))
+cond_and true true p q x xs e f h = rw (← f, h) refl
+cond_and true false p q x xs e f h = rw (← f, h) refl
+cond_and false b p q x xs e f h = h
+
+-- the rows that pass both tests are those of the first that pass the second
+pub filter_and : {X : Type 0} (p q : X → Bool) (xs : List X) → filter (λ x. p x && q x) xs ≡ filter q (filter p xs)
+filter_and p q [] = refl
+filter_and p q (x ∷ xs) = cond_and (p x) (q x) p q x xs refl refl (filter_and p q xs)
+
+pub same_number : (m n : ℕ) → is_eq (nat_cmp m n) ≡ (m == n)
+same_number m n = grind (arith, nat_tests)
+
+pub turned_number : (m n : ℕ) → is_eq (nat_cmp m n) ≡ (n == m)
+turned_number m n = grind (arith, nat_tests)
+
+pub pair_is : (d n a b : ℕ) → is_eq (pair_cmp (d, n) (a, b)) ≡ (a == d) && (n == b)
+pair_is d n a b = is_eq-then (nat_cmp d a) (nat_cmp n b) ∙ (λ i. turned_number d a i && same_number n b i)
+
+pub pair_turned : (d n a b : ℕ) → is_eq (pair_cmp (d, n) (a, b)) ≡ (a == d) && (b == n)
+pair_turned d n a b = is_eq-then (nat_cmp d a) (nat_cmp n b) ∙ (λ i. turned_number d a i && turned_number n b i)
+
+pub numbered_is : (c e : Callsign) (n m : ℕ) → is_eq (numbered_cmp (c, n) (e, m)) ≡ same_callsign c e && (n == m)
+numbered_is c e n m = is_eq-then (callsign_cmp c e) (nat_cmp n m) ∙ (λ i. is_eq (callsign_cmp c e) && same_number n m i)
+
+pub and_turned : (a b c : Bool) → a && (b && c) ≡ c && (a && b)
+and_turned true true true = refl
+and_turned true true false = refl
+and_turned true false true = refl
+and_turned true false false = refl
+and_turned false b true = refl
+and_turned false b false = refl
+
+pub or_none : (b : Bool) → b || false ≡ b
+or_none true = refl
+or_none false = refl
+
+pub or_turned : (a b c : Bool) → (a || b) || c ≡ (b || c) || a
+or_turned true true c = refl
+or_turned true false true = refl
+or_turned true false false = refl
+or_turned false b c = sym (or_none (b || c))

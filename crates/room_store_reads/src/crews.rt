@@ -1,0 +1,103 @@
+//! The rows of a vehicle that its crew's request may read, loaded by key.
+ghost use Rattle.std.specs.Prelude.{◌≡◌, is_none};
+ghost use Rattle.room_tables.specs.Finding.{Finds};
+ghost use Rattle.room_tables_schema.specs.Connections.{HasRoomSchema};
+ghost use Rattle.room_tables_sql.specs.Outcomes.{ReadsOnly};
+ghost use Rattle.room_types.specs.Keyed.{keep};
+ghost use Rattle.room_model.specs.WellFormed.{IsWellFormed};
+ghost use Rattle.room_store_reads.specs.CrewParts.{IsSent, IsLent, IsCrewOf};
+
+use room_tables::loading::row_at;
+use room_tables_schema::faults::Fault;
+use room_types::callsign::Callsign;
+use room_types::crews::CrewRows;
+use room_types::numbers::Number;
+use room_types::tables::{Assignment, Loan, Offer, Report, Turn, Vehicle};
+use sqlite::{Alter, Connection};
+
+/// The rows of a vehicle, and of its reports that of one number; none where there is no such
+/// vehicle.
+pub fn load_crew<S: Alter>(
+    conn: &mut Connection<S>,
+    callsign: &Callsign,
+    number: Number,
+) -> Result<Option<CrewRows>, Fault>
+    requires room { HasRoomSchema S.Store conn.old }
+    ensures rows { Finds S.Store conn.old conn.new result (λ room x. IsWellFormed room
+        → IsCrewOf callsign.now number room x) }
+    ensures reads { ReadsOnly S.Store conn.old conn.new result }
+{
+    let found = row_at::<Vehicle, S>(conn, callsign)?;
+    match found {
+        Some(vehicle) => {
+            let sent = load_sent(conn, &vehicle)?;
+            let lent = load_lent(conn, callsign)?;
+            let report = row_at::<Report, S>(conn, &(*callsign, number))?;
+            Ok(Some(CrewRows {
+                vehicle,
+                assignment: sent.assignment,
+                turn: sent.turn,
+                loan: lent.loan,
+                offer: lent.offer,
+                report,
+            }))
+        }
+        None => Ok(None),
+    }
+}
+
+// What the vehicle is sent to.
+#[derive(Drop)]
+struct Sent {
+    assignment: Option<Assignment>,
+    turn: Option<Turn>,
+}
+
+fn load_sent<S: Alter>(conn: &mut Connection<S>, vehicle: &Vehicle) -> Result<Sent, Fault>
+    requires room { HasRoomSchema S.Store conn.old }
+    ensures rows { Finds S.Store conn.old conn.new result (λ room x. IsWellFormed room
+        → IsSent vehicle.now room x) }
+    ensures reads { ReadsOnly S.Store conn.old conn.new result }
+{
+    let assignment = row_at::<Assignment, S>(conn, &vehicle.callsign)?;
+    match Number::new(vehicle.last_order.get()) {
+        Some(order) => {
+            let last = row_at::<Turn, S>(conn, &(vehicle.callsign, order))?;
+            Ok(Sent {
+                assignment,
+                turn: not_ended(last),
+            })
+        }
+        None => Ok(Sent {
+            assignment,
+            turn: None,
+        }),
+    }
+}
+
+fn not_ended(turn: Option<Turn>) -> Option<Turn>
+    ensures { result ≡ keep (λ t. is_none t.ended) turn }
+{
+    match turn {
+        Some(turn) if turn.ended.is_none() => Some(turn),
+        _ => None,
+    }
+}
+
+// Where the vehicle is lent, or offered, to.
+#[derive(Drop)]
+struct Lent {
+    loan: Option<Loan>,
+    offer: Option<Offer>,
+}
+
+fn load_lent<S: Alter>(conn: &mut Connection<S>, callsign: &Callsign) -> Result<Lent, Fault>
+    requires room { HasRoomSchema S.Store conn.old }
+    ensures rows { Finds S.Store conn.old conn.new result (λ room x. IsWellFormed room
+        → IsLent callsign.now room x) }
+    ensures reads { ReadsOnly S.Store conn.old conn.new result }
+{
+    let loan = row_at::<Loan, S>(conn, callsign)?;
+    let offer = row_at::<Offer, S>(conn, callsign)?;
+    Ok(Lent { loan, offer })
+}

@@ -1,0 +1,7 @@
+//! The rows that a request reads, loaded from the tables by key and by index.
+#![tactic(auto)]
+
+pub mod crews;
+mod naming;
+mod unions;
+pub mod working;

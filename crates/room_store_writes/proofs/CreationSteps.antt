@@ -1,0 +1,52 @@
+-- What one step after another of a transaction keeps, and what comes of puts one by one.
+use Rattle.std.proofs.Common.{Bool, List, [], ap, arith, cond, false, map, refl, subst, sym, true, zero, suc, ℕ, ◌+◌, ◌<◌, ◌∷◌, ◌≡◌}
+use Rattle.std.proofs.lemmas.Bool.Decides.{nat_tests}
+use Rattle.std.specs.Ordering.{nat_cmp}
+use Rattle.std.specs.Prelude.{filter}
+use Rattle.std.specs.declared.cmp.Ordering.TheVariants.{Greater}
+use Rattle.sqlite.specs.Held.{Held, state}
+use Rattle.sqlite.specs.State.{HasCleanDisk, State, Survives}
+use Rattle.sqlite.proofs.Callers.{survives_begin}
+use Rattle.sqlite.proofs.StateLemmas.{survives_then}
+use Rattle.sqlite_trees.specs.Tree.{Trees}
+use Rattle.sqlite_trees.specs.declared.store.Store.{Ghosts}
+use Rattle.room_tables_sql.proofs.ReadLaws.{still}
+use Rattle.room_types.specs.Keyed.{put_row}
+use Rattle.room_types.specs.Keys.{division_key}
+use Rattle.room_types.specs.declared.tables.Division.{Division}
+use Rattle.room_tables.specs.Stands.{places_from}
+use Rattle.room_store_writes.specs.Filling.{new_division}
+
+-- what a stop leaves of a transaction is what it could leave before, or what is committed
+pub survives_commit : {S : Type 0} (g : Ghosts S) (old begun : Held S) (made last end : State) (P : Trees → Type 0) → begun ≡ record old { in_transaction = true }
+    → Survives (state g begun) made (λ _. ⊥) → Survives made last (λ _. ⊥) → (HasCleanDisk last → P last.now.trees) → Survives last end (λ db. db ≡ last.now.trees) → Survives (state g old) end P
+survives_commit g old begun made last end P is one two whole commit =
+    let inside = rw is at (still one two) in
+    survives_then (state g old) last end (λ _. ⊥) (λ db. db ≡ last.now.trees) P (λ _ db none. absurd none)
+    (λ clean db same. let early : HasCleanDisk last = omega (arith, commit.clean) in subst P (sym same) (whole early))
+    (survives_begin g old last (λ _. ⊥) inside) commit
+
+greater : (m n : ℕ) → n < m → nat_cmp m n ≡ Greater
+greater m n h = grind (arith, nat_tests)
+
+-- so many divisions of those that pass, from one on
+abbrev pub divisions_to : (ℕ → Bool) → ℕ → ℕ → List Division
+divisions_to passes a k = map new_division (filter passes (places_from a k))
+
+one_more : (passed now : Bool) (a : ℕ) (e : Division) (rest last : List ℕ) → nat_cmp e.number a ≡ Greater
+    → cond now (put_row nat_cmp division_key (map new_division rest) e) (map new_division rest) ≡ map new_division last
+    → cond now (put_row nat_cmp division_key (map new_division (cond passed (a ∷ rest) rest)) e) (map new_division (cond passed (a ∷ rest) rest)) ≡ map new_division (cond passed (a ∷ last) last)
+one_more true true a e rest last above is = rw above (ap (λ l. new_division a ∷ l) is)
+one_more true false a e rest last above is = ap (λ l. new_division a ∷ l) is
+one_more false now a e rest last above is = is
+
+first : (passed : Bool) (a : ℕ) → cond passed (new_division a ∷ []) [] ≡ map new_division (cond passed (a ∷ []) [])
+first true a = refl
+first false a = refl
+
+-- the next is put at the end
+pub divisions_more : (passes : ℕ → Bool) (a k n : ℕ) → n ≡ a + k
+    → cond (passes n) (put_row nat_cmp division_key (divisions_to passes a k) (new_division n)) (divisions_to passes a k) ≡ divisions_to passes a (suc k)
+divisions_more passes a zero n e = let same : n ≡ a = omega arith in rw same (first (passes a) a)
+divisions_more passes a (suc k) n e = one_more (passes a) (passes n) a (new_division n) (filter passes (places_from (suc a) k)) (filter passes (places_from (suc a) (suc k)))
+    (greater n a (omega arith)) (divisions_more passes (suc a) k n (omega arith))

@@ -1,0 +1,8 @@
+-- what a transaction makes of the tables
+pub mod Writing
+-- what they keep beside the room
+pub mod Houses
+-- a room that begins
+pub mod Filling
+-- what the enrolment of a fleet row makes of them
+pub mod Enrolling

@@ -1,0 +1,106 @@
+//! What the enrolment of a fleet row writes.
+ghost use Rattle.std.specs.Prelude.{◌≡◌, false, OnOk, OnErr};
+ghost use Rattle.sqlite.specs.Held.{state};
+ghost use Rattle.sqlite.specs.State.{HasCleanDisk, Survives};
+ghost use Rattle.room_tables_schema.specs.Connections.{HasRoomSchema, MayWrite};
+ghost use Rattle.room_tables_sql.specs.Outcomes.{CommitsNothing};
+ghost use Rattle.room_types.specs.declared.fleet.RowFate.TheVariants as told;
+ghost use Rattle.room_model.specs.Enrol.{new_terminal, new_vehicle, room_by};
+ghost use Rattle.room_model.specs.Room.{Room};
+ghost use Rattle.room_tables.specs.Stands.{House, Stands};
+ghost use Rattle.room_tables.specs.Writes.{Changes};
+ghost use Rattle.room_store_writes.specs.Writing.{IsSettled, Leaves};
+ghost use Rattle.room_store_writes.specs.Enrolling.{Enrols, StandsAfter, house_by};
+
+use crate::writing::end;
+use room_tables::changing::put;
+use room_tables::terminals::put_terminal;
+use room_tables_schema::faults::Fault;
+use room_types::asks::Who;
+use room_types::codes::Status;
+use room_types::fleet::{FleetRow, RowFate, Terminal};
+use room_types::numbers::{LastNumber, Moment};
+use room_types::tables::Vehicle;
+use sqlite::{Alter, Connection, Transaction};
+
+/// Writes what a row of this fate adds. What a stop may leave is what it could before, or the room
+/// and the terminals after the row.
+pub fn write<S: Alter>(conn: &mut Connection<S>, row: &FleetRow, fate: RowFate) -> Result<(), Fault>
+    requires room { HasRoomSchema S.Store conn.old }
+    requires outside { conn.old.in_transaction ≡ false }
+    requires settled { HasCleanDisk (state S.Store conn.old) → IsSettled (state S.Store conn.old) }
+    ensures ok { HasCleanDisk (state S.Store conn.new)
+        → OnOk result (Enrols (state S.Store conn.old) (state S.Store conn.new) row.now
+        (Stands (state S.Store conn.old).now.trees) (λ _ _. fate)) }
+    ensures err { HasCleanDisk (state S.Store conn.new)
+        → OnErr result (Leaves (state S.Store conn.old) (state S.Store conn.new)) }
+    ensures ended { conn.new.in_transaction ≡ false }
+    ensures survives { Survives (state S.Store conn.old) (state S.Store conn.new) (λ db.
+        (house : House) (room : Room) → Stands (state S.Store conn.old).now.trees house room
+        → StandsAfter fate row.now house room db) }
+{
+    match fate {
+        RowFate::Added => write_row(conn, row),
+        RowFate::Same | RowFate::Refused(_) => Ok(()),
+    }
+}
+
+fn write_row<S: Alter>(conn: &mut Connection<S>, row: &FleetRow) -> Result<(), Fault>
+    requires room { HasRoomSchema S.Store conn.old }
+    requires outside { conn.old.in_transaction ≡ false }
+    requires settled { HasCleanDisk (state S.Store conn.old) → IsSettled (state S.Store conn.old) }
+    ensures ok { HasCleanDisk (state S.Store conn.new)
+        → OnOk result (Enrols (state S.Store conn.old) (state S.Store conn.new) row.now
+        (Stands (state S.Store conn.old).now.trees) (λ _ _. told.Added)) }
+    ensures err { HasCleanDisk (state S.Store conn.new)
+        → OnErr result (Leaves (state S.Store conn.old) (state S.Store conn.new)) }
+    ensures ended { conn.new.in_transaction ≡ false }
+    ensures survives { Survives (state S.Store conn.old) (state S.Store conn.new) (λ db.
+        (house : House) (room : Room) → Stands (state S.Store conn.old).now.trees house room
+        → StandsAfter told.Added row.now house room db) }
+{
+    let mut tx = conn.transaction();
+    let done = put_row(&mut tx, row);
+    end(tx, done)
+}
+
+// Puts a row's vehicle and its crew's terminal.
+fn put_row<S: Alter>(tx: &mut Transaction<'_, S>, row: &FleetRow) -> Result<(), Fault>
+    requires inside { MayWrite S.Store tx.old.conn.now }
+    ensures same_reference { tx.new.conn.ghost_name ≡ tx.old.conn.ghost_name }
+    ensures ok { HasCleanDisk (state S.Store tx.new.conn.now)
+        → OnOk result (Changes (state S.Store tx.old.conn.now) (state S.Store tx.new.conn.now)
+        (house_by told.Added row.now) (room_by told.Added row.now)) }
+    ensures commits { CommitsNothing S.Store tx.old.conn.now tx.new.conn.now }
+{
+    put(tx, &new_vehicle(row))?;
+    put_terminal(tx, &new_terminal(row))?;
+    Ok(())
+}
+
+// A vehicle that is new is off duty at home, its shift is over, and it has used no numbers.
+fn new_vehicle(row: &FleetRow) -> Vehicle
+    ensures { result ≡ new_vehicle row.now }
+{
+    Vehicle {
+        callsign: row.callsign,
+        home: row.division,
+        holder: row.division,
+        kind: row.kind,
+        place: row.place,
+        status: Status::OffDuty,
+        shift_end: Moment::of(0),
+        post: None,
+        last_order: LastNumber::of(0),
+        last_report: LastNumber::of(0),
+    }
+}
+
+fn new_terminal(row: &FleetRow) -> Terminal
+    ensures { result ≡ new_terminal row.now }
+{
+    Terminal {
+        token: row.token,
+        who: Who::Crew(row.callsign),
+    }
+}

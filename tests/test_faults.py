@@ -1,0 +1,98 @@
+"""A disk that fails, from outside: each call in turn that changes a file fails, alone or with all
+calls after it. A request gets its answer or 42. After 42 either the room is served on and nothing
+has changed, or it ends as `storage`, and its file holds the room before the request or after it. The
+request, sent again to the room opened again, gets its answer."""
+# needs: python3 gcc libc6-dev sqlite3
+# builds: dispatch_room
+import contextlib
+import re
+import subprocess
+
+from preloaded import COUNTING, EVERY, PreloadedTestCase
+from room import ask, call, dump, free_port, made
+
+# What is preloaded into the program.
+FAILING = COUNTING + r"""
+// Lets the calls that change a file fail from number FIRST to number LAST, counted from 1.
+
+static int fails(void) {
+  counted++;
+  if (counted < atol(getenv("FIRST")) || counted > atol(getenv("LAST"))) return 0;
+  errno = EIO;
+  return 1;
+}
+
+ssize_t pwrite(int file, const void *bytes, size_t size, off_t at) {
+  return fails() ? -1 : NEXT(pwrite)(file, bytes, size, at);
+}
+
+int ftruncate(int file, off_t size) { return fails() ? -1 : NEXT(ftruncate)(file, size); }
+
+int fsync(int file) { return fails() ? -1 : NEXT(fsync)(file); }
+
+int fdatasync(int file) { return fails() ? -1 : NEXT(fdatasync)(file); }
+"""
+
+MANY = 40  # so many calls fail in turn; with --all each of them
+LAST = 10 ** 9  # no program makes so many calls
+
+
+def failing(first, last):
+    """What the library is told: the first and the last call that fails."""
+    return {'FIRST': first, 'LAST': last}
+
+
+NEVER = failing(0, 0)
+ANSWERED = [(200, '{"division":1,"incident":1,"linked":false}')]
+FAILED = [(503, '{"error":"Storage","number":42}')]
+
+
+def rows_of(room):
+    """All that the file holds, but for the moments of today."""
+    return re.sub(r'\b\d{10}\b', 'MOMENT', dump(room))
+
+
+class Faults(PreloadedTestCase):
+    LIBRARY = FAILING
+
+    def served(self, told, room, connections=2):
+        """Serves a room to connections that send one call; the answers of each, the status, and what
+        was told."""
+        port, answers = free_port(), []
+        words = ['serve', room, f'127.0.0.1:{port}', '--connections', connections]
+        with self.program.start(told, *words) as process:
+            if process.stdout.readline() == b'serving\n':
+                for _ in range(connections):
+                    with contextlib.suppress(OSError):
+                        answers.append(ask(port, call(1)))
+            try:
+                _, err = process.communicate(timeout=5)
+            except subprocess.TimeoutExpired:
+                process.kill()
+                raise
+        return answers, process.returncode, err
+
+    def test_call(self):
+        room = made(self.folder / 'served.db')
+        file, before = self.fresh(room), rows_of(room)
+        wanted = ([ANSWERED, ANSWERED], 0, b'')
+        self.check('a call', self.served(NEVER, file), wanted)
+        after, total = rows_of(file), self.program.total()
+        ended = 0
+        for first in sorted({*range(1, total + 1, 1 if EVERY else 1 + total // MANY), total}):
+            for last, name in ((first, f'where {first} fails'), (LAST, f'from {first} on')):
+                file = self.fresh(room)
+                answers, status, err = self.served(failing(first, last), file)
+                with self.subTest(f'a call, {name}: how it ends'):
+                    self.assertIn((status, err), [(0, b''), (3, b'storage\n')])
+                ended += status == 3 and answers[:1] == [FAILED]
+                for answer in answers:
+                    with self.subTest(f'a call, {name}: an answer'):
+                        self.assertIn(answer, [ANSWERED, FAILED])
+                now = rows_of(file)
+                with self.subTest(f'a call, {name}: the room'):
+                    self.assertIn(now, [after] if ANSWERED in answers else [before, after])
+                self.check(f'a call, {name}, then the call', self.served(NEVER, file, 1),
+                           ([ANSWERED], 0, b''))
+                self.check(f'a call, {name}, then the call: the room', rows_of(file), after)
+        self.check('a fault has ended the room', ended > 0, True)
