@@ -1,7 +1,7 @@
 #!/usr/bin/env bash
 # A short day in the room, told step by step: a room is made, a fleet enrolled, a call taken, a vehicle
-# sent, lent and given back, and the day's report written. Needs curl. Usage: examples/day.sh [FOLDER], where the
-# room's file is left; without a folder it is removed at the end.
+# sent, lent and given back, and the day's report written. Needs curl. Usage: examples/day.sh [FOLDER [PORT]]; in the
+# folder the room's file is left, without a folder it is removed at the end.
 set -eu
 cd "$(dirname "$0")/.."
 
@@ -11,14 +11,18 @@ if [ -z "$folder" ]; then
   trap 'rm -rf "$folder"' EXIT
 fi
 room=$folder/room.db
-address=127.0.0.1:8192
+address=127.0.0.1:${2-8192}
+
+# In the tree the program is built first where it has to be; its package puts it on the PATH.
+dispatch_room=./dispatch_room
+[ -x "$dispatch_room" ] || dispatch_room=dispatch_room
 
 say() { printf '\n# %s\n' "$*"; }
 
 # Shows a command of the program, and runs it.
 program() {
   echo "\$ dispatch_room $*"
-  ./dispatch_room "$@"
+  "$dispatch_room" "$@"
 }
 
 # Shows a request of a terminal, and its answer.
@@ -40,7 +44,7 @@ program import "$room" examples/fleet.csv
 
 say 'The room is served to 19 connections, one after another.'
 echo "\$ dispatch_room serve room.db $address --connections 19"
-./dispatch_room serve "$room" "$address" --connections 19 >"$folder/serving" &
+"$dispatch_room" serve "$room" "$address" --connections 19 >"$folder/serving" &
 server=$!
 until [ -s "$folder/serving" ]; do
   kill -0 "$server" || exit 1

@@ -1,0 +1,198 @@
+"""The Debian package from outside: made twice with the same bytes, installed in an empty root,
+used from there where no toolchain is, and removed."""
+# needs: python3 curl dpkg groff-base
+# builds: dispatch_room
+import gzip
+import os
+import pathlib
+import re
+import shutil
+import subprocess
+import tempfile
+
+from room import TOP, TestCase, free_port
+from test_day import told
+from test_links import LINK
+
+DOCUMENTS = 'usr/share/doc/dispatch-room'
+UNIT = 'usr/lib/systemd/system/dispatch-room.service'
+PAGE = 'usr/share/man/man1/dispatch_room.1.gz'
+EXAMPLES = TOP / 'examples'
+
+# What a day in the room calls beside the program.
+TOOLS = ['bash', 'curl', 'date', 'dirname', 'sleep']
+SECTIONS = ['NAME', 'SYNOPSIS', 'DESCRIPTION', 'COMMANDS', 'EXIT STATUS', 'FILES', 'SEE ALSO']
+
+
+def output(*words, **named):
+    """What a command prints; that it fails, or tells anything on standard error, is an error."""
+    done = subprocess.run(list(map(str, words)), stdin=subprocess.DEVNULL, capture_output=True,
+                          timeout=60, **named)
+    assert (done.returncode, done.stderr) == (0, b''), f'{words}: {done}'
+    return done.stdout.decode()
+
+
+def starts_package(folder, mask, zone):
+    """Starts to make the package in a folder, under a mask of modes and a time zone."""
+    return subprocess.Popen([TOP / 'tools' / 'package', folder], stdin=subprocess.DEVNULL,
+                            stdout=subprocess.PIPE, umask=mask, cwd=folder,
+                            env=os.environ | {'TZ': zone})
+
+
+class Root:
+    """An empty root with a database of packages, and what is installed in it."""
+
+    def __init__(self, folder, package):
+        self.folder = folder
+        state = folder / 'var' / 'lib' / 'dpkg'
+        for it in (state, state / 'info', state / 'updates'):
+            it.mkdir(parents=True)
+        (state / 'status').touch()
+        self.dpkg('--install', package)
+
+    def dpkg(self, *words):
+        # The C library is not in this root, nor is its administrator who runs this.
+        told = [f'--force-{it}' for it in ('depends', 'not-root', 'bad-path')]
+        # A small machine may be told to leave documents out.
+        told += [f'--path-include=/usr/share/{it}/*' for it in ('doc', 'man')]
+        subprocess.run(['dpkg', f'--root={self.folder}', '--log=/dev/null', *told, *words],
+                       check=True, stdin=subprocess.DEVNULL, stdout=subprocess.DEVNULL,
+                       stderr=subprocess.DEVNULL)
+
+    def state(self):
+        words = ['dpkg-query', f'--admindir={self.folder}/var/lib/dpkg', '--show',
+                 '--showformat=${Package} ${db:Status-Abbrev}\n']
+        return subprocess.run(words, capture_output=True).stdout.decode()
+
+    def files(self):
+        """What lies in it, but for the database."""
+        found = [it.relative_to(self.folder) for it in self.folder.rglob('*')]
+        return sorted(str(it) for it in found if it.parts[:1] != ('var',))
+
+
+class Package(TestCase):
+    """The package, which is made twice at once, and what is installed of it."""
+
+    @classmethod
+    def setUpClass(cls):
+        folder = pathlib.Path(cls.enterClassContext(tempfile.TemporaryDirectory()))
+        made = []
+        for name, mask, zone in [('one', 0o022, 'UTC'), ('two', 0o077, 'Asia/Tokyo')]:
+            (folder / name).mkdir()
+            made.append(starts_package(folder / name, mask, zone))
+        cls.packages = [pathlib.Path(it.communicate(timeout=300)[0].decode().strip())
+                        for it in made]
+
+    def setUp(self):
+        super().setUp()
+        self.root = Root(self.folder / 'root', self.packages[0])
+        self.program = self.path('usr/bin/dispatch_room')
+        self.examples = self.path(DOCUMENTS) / 'examples'
+
+    def path(self, place):
+        return self.root.folder / place
+
+    # ---- what is in it
+
+    def test_same_bytes(self):
+        one, two = self.packages
+        self.check('names', one.name, two.name)
+        self.check('bytes', one.read_bytes() == two.read_bytes(), True)
+
+    def test_control(self):
+        field = lambda name: output('dpkg-deb', '--field', self.packages[0], name).strip()
+        self.check('name', field('Package'), 'dispatch-room')
+        self.check('architecture', field('Architecture'),
+                   output('dpkg', '--print-architecture').strip())
+        with self.subTest('the C library is all that it needs'):
+            self.assertRegex(field('Depends'), r'^libc6 \(>= [0-9.]+\)$')
+        control = self.folder / 'control'
+        output('dpkg-deb', '--control', self.packages[0], control)
+        self.check('it has no scripts', [it.name for it in control.iterdir()], ['control'])
+
+    def test_files(self):
+        listed = output('dpkg-deb', '--contents', self.packages[0])
+        rows = [it.split(maxsplit=5) for it in listed.splitlines()]
+        self.check('owners', {row[1] for row in rows}, {'root/root'})
+        self.check('modes of folders', {row[0] for row in rows if row[5].endswith('/')},
+                   {'drwxr-xr-x'})
+        modes = {row[5].removeprefix('./'): row[0] for row in rows if not row[5].endswith('/')}
+        scripts = {f'{DOCUMENTS}/examples/{it}' for it in ('day.sh', 'wall/wall.py')}
+        programs = scripts | {'usr/bin/dispatch_room'}
+        documents = [TOP / 'README.md', TOP / 'bench' / 'README.md', *EXAMPLES.glob('*.*'),
+                     *EXAMPLES.glob('wall/*.*'), *(TOP / 'docs').iterdir()]
+        others = {f'{DOCUMENTS}/{it.relative_to(TOP)}' for it in documents} | {UNIT, PAGE}
+        wanted = dict.fromkeys(programs | others, '-rw-r--r--')
+        wanted |= dict.fromkeys(programs, '-rwxr-xr-x')
+        self.check('files', modes, wanted)
+
+    def test_links(self):
+        """Links between documents lead somewhere, but for those into the sources."""
+        for page in self.path(DOCUMENTS).rglob('*.md'):
+            for name, link, _ in LINK.findall(page.read_text()):
+                if '://' not in link and 'crates/' not in link:
+                    self.check(f'{page.name}: {name}', (page.parent / link).exists(), True)
+
+    # ---- its use
+
+    def test_first_call(self):
+        done = subprocess.run([self.program], env={}, cwd=self.root.folder, capture_output=True,
+                              input=(self.examples / 'first-call.http').read_bytes())
+        self.assertEqual((done.returncode, done.stdout, done.stderr),
+                         (0, (EXAMPLES / 'first-call.out').read_bytes(), b''))
+
+    def test_day(self):
+        """A day in the room; nothing is on the PATH but what is installed, and a few commands."""
+        tools, port = self.folder / 'tools', free_port()
+        tools.mkdir()
+        for name in TOOLS:
+            (tools / name).symlink_to(shutil.which(name))
+        day = self.folder / 'day'
+        with day.open('wb') as out:
+            subprocess.run(['bash', self.examples / 'day.sh', self.folder, str(port)],
+                           env={'PATH': f'{self.program.parent}:{tools}'}, cwd=self.root.folder,
+                           stdin=subprocess.DEVNULL, stdout=out, stderr=subprocess.STDOUT)
+        lines = day.read_text().replace(f':{port}', ':8192').split('\n')
+        self.assertMultiLineEqual('\n'.join(told(it, self.folder) for it in lines),
+                                  (EXAMPLES / 'day.out').read_text())
+
+    def test_unit(self):
+        """What the unit starts serves a room."""
+        unit = self.path(UNIT).read_text()
+        self.check('it is the example', unit, (EXAMPLES / 'dispatch_room.service').read_text())
+        program, serve, file, address, *more = re.search('^ExecStart=(.*)$', unit, re.M)[1].split()
+        self.check('it serves', serve, 'serve')
+        folder = re.search('^StateDirectory=(.*)$', unit, re.M)[1]
+        self.check('its room', file, f'/var/lib/{folder}/room.db')
+        room = self.folder / 'room.db'
+        output(self.path(program[1:]), 'init', room, self.examples / 'plan.csv', env={})
+        address = address.rpartition(':')[0] + f':{free_port()}'
+        with subprocess.Popen([self.path(program[1:]), serve, room, address, *more], env={},
+                              stdout=subprocess.PIPE) as process:
+            self.check('it is served', process.stdout.readline(), b'serving\n')
+            process.kill()
+
+    def test_manual_page(self):
+        source = gzip.decompress(self.path(PAGE).read_bytes())
+        done = subprocess.run(['groff', '-man', '-Tascii', '-ww', '-P-cbou'], input=source,
+                              capture_output=True, timeout=60)
+        self.check('no warnings', (done.returncode, done.stderr), (0, b''))
+        lines = done.stdout.decode().splitlines()
+        headings = [it for it in lines[1:-1] if re.match('[A-Z]', it)]
+        self.check('sections', headings, SECTIONS)
+        shown = {it.strip() for it in lines}
+        names = re.findall('^  ([a-z]+) ', output(self.program, '--help', env={}), re.M)
+        self.check('commands', {'init', 'serve', 'help'} < set(names), True)
+        for words in [[], *([it] for it in names if it != 'help')]:
+            help_of = output(self.program, *words, '--help', env={}).splitlines()
+            self.check(f'the help of {" ".join(words) or "all"} is in it',
+                       {it.strip() for it in help_of} - shown, set())
+
+    # ---- its end
+
+    def test_removal(self):
+        self.check('installed', self.root.state(), 'dispatch-room ii \n')
+        self.check('files are there', 'usr/bin/dispatch_room' in self.root.files(), True)
+        self.root.dpkg('--remove', 'dispatch-room')
+        self.check('removed', self.root.state(), '')
+        self.check('nothing is left', self.root.files(), [])

@@ -1,0 +1,529 @@
+"""The wall of examples/wall in a browser: over a served room, over a room that stops, and over a
+room that is played, with hostile names and with a thousand incidents."""
+# needs: chromium chromium-driver
+# builds: dispatch_room
+import contextlib
+import json
+import re
+import select
+import socket
+import subprocess
+import sys
+import tempfile
+import threading
+import time
+import unittest
+import urllib.error
+import urllib.request
+
+from browser import OPENER, Browser, until
+from room import PROGRAM, TOP, TestCase, ask, call, fleet_of, free_port, message, run
+
+WALL = TOP / 'examples' / 'wall' / 'wall.py'
+TOKENS = ['deskone1', 'desktwo2', 'takerone', 'crewofa1', 'crewofb1']
+# Three hours ahead of UTC, which no other clock here is.
+ZONE, AHEAD = 'XYZ-3', 3 * 3600
+ROWS = ['what,number,a,b,c,d', f'zone,0,{ZONE},,,', 'area,1,500000,100000,549999,199999',
+        'area,2,550000,100000,599999,199999', 'desk,1,deskone1,,,', 'desk,2,desktwo2,,,',
+        'position,1,takerone,,,']
+BROWSER = None
+
+
+def setUpModule():
+    global BROWSER
+    folder = unittest.enterModuleContext(
+        tempfile.TemporaryDirectory(ignore_cleanup_errors=True))
+    BROWSER = unittest.enterModuleContext(Browser(folder))
+
+
+def plan_in(folder):
+    plan = folder / 'plan.csv'
+    plan.write_text('\n'.join(ROWS) + '\n')
+    return plan
+
+
+@contextlib.contextmanager
+def wall(port, plan, *tokens):
+    """A wall over the room at a port; gives its address."""
+    command = [sys.executable, WALL, f'127.0.0.1:{port}', plan, *tokens]
+    process = subprocess.Popen([*command, '--listen', '127.0.0.1:0'], stdin=subprocess.DEVNULL,
+                               stdout=subprocess.PIPE, stderr=subprocess.PIPE)
+    try:
+        line = process.stdout.readline().decode()
+        assert line.startswith('wall: '), f'no wall: {line} {process.stderr.read().decode()}'
+        yield line.removeprefix('wall: ').strip()
+    finally:
+        process.kill()
+        process.communicate()
+
+
+# ---- what is seen on the page
+
+
+def pictures():
+    return int(BROWSER.run('return document.documentElement.dataset.pictures ?? 0'))
+
+
+def refresh(times):
+    """Waits for so many pictures more."""
+    wanted = pictures() + times
+    until(lambda: pictures() >= wanted, 4 * times + 4)
+
+
+# The middle of a vehicle's dot or of an incident's, in metres by the edges of division 1's area.
+PLACE = """
+const area = document.querySelector('.areas [data-division="1"]').getBoundingClientRect();
+const dot = document.querySelector(`.dots [data-name="${arguments[0]}"]`)
+  .getBoundingClientRect();
+return [500000 + 50000 * (dot.x + dot.width / 2 - area.x) / area.width,
+  200000 - 100000 * (dot.y + dot.height / 2 - area.y) / area.height];
+"""
+MARK = """
+const mark = document.querySelector(`.mark[data-name="${arguments[0]}"]`);
+return mark && [mark.classList.value, ...[...mark.querySelectorAll('text')]
+  .filter((it) => it.getBoundingClientRect().width > 0).map((it) => it.textContent),
+  mark.querySelector('title').textContent];
+"""
+LINES = "return [...document.querySelectorAll('.sent line')].map((it) => " \
+        "[it.dataset.name, it.dataset.to])"
+QUEUES = """
+const texts = (nodes) => [...nodes].map((it) => it.textContent);
+return [...document.querySelectorAll('.queue')].map((it) => [it.querySelector('h2').textContent,
+  ...[...it.querySelectorAll('li')].map((entry) => texts(entry.children))]);
+"""
+WARNING = """
+const box = document.querySelector('#stale'), main = document.querySelector('main');
+const sizeOf = (it) => parseFloat(getComputedStyle(it).fontSize);
+const others = [...document.querySelectorAll('h1, h2, li, li *, #clock, small')].map(sizeOf);
+const {filter, opacity} = getComputedStyle(main);
+return {shown: box.getBoundingClientRect().height > 0, words: box.querySelector('p').innerText,
+  why: box.querySelector('small').textContent, filter, opacity,
+  isLargest: sizeOf(box.querySelector('p')) > Math.max(...others),
+  marks: document.querySelectorAll('.mark').length};
+"""
+
+
+def is_near(seen, wanted, metres=300):
+    return all(abs(one - other) <= metres for one, other in zip(seen, wanted))
+
+
+def warning():
+    return BROWSER.run(WARNING)
+
+
+# ---- a served room
+
+
+class Served(TestCase):
+    def setUp(self):
+        super().setUp()
+        self.plan, self.room = plan_in(self.folder), self.folder / 'room.db'
+        run('init', self.room, self.plan)
+        fleet = self.folder / 'fleet.csv'
+        fleet.write_text(fleet_of('A1,1,1,TQ303804,crewofa1', 'B1,2,2,TQ600800,crewofb1'))
+        run('import', self.room, fleet)
+        self.port = free_port()
+
+    @contextlib.contextmanager
+    def serving(self):
+        """The room, served at the same port each time."""
+        command = [PROGRAM, 'serve', self.room, f'127.0.0.1:{self.port}', '--connections', '9999']
+        process = subprocess.Popen(command, stdin=subprocess.DEVNULL, stdout=subprocess.PIPE)
+        try:
+            assert process.stdout.readline() == b'serving\n', 'not served'
+            yield
+        finally:
+            process.kill()
+            process.communicate()
+
+    def told(self, *words):
+        """The body of the answer to one message."""
+        (status, body), = ask(self.port, message(*words))
+        assert status == 200, body
+        return json.loads(body)
+
+    def test_served(self):
+        with self.serving():
+            tab = self.check_proposed()
+            self.check_mobilised()
+            self.check_reported()
+            self.check_queues()
+            others = self.other_pages()
+            BROWSER.turn_to(tab)
+            stopped = time.time()
+        self.check_stopped(stopped)
+        with self.serving():
+            self.check('an answer again', until(lambda: not warning()['shown'], 10), True)
+        self.check('not grey any longer', warning()['filter'], 'none')
+        for other, why in others:
+            BROWSER.turn_to(other)
+            until(lambda: warning()['shown'], 5)
+            seen = warning()
+            self.check(why, [seen['shown'], seen['why'], seen['marks'] > 0], [True, why, True])
+            BROWSER.close(other, then=tab)
+
+    def other_pages(self):
+        """Two more pages that get nothing new from now on, each with what it has to tell."""
+        with wall(played(self, small_room).port, self.plan, 'deskone1') as address:
+            left = BROWSER.tab(address)
+            until(pictures, 5)
+        is_broken = []
+
+        def told_of(token, what):
+            told = small_room(token, what)
+            return [None] if is_broken and what == 'vehicles' else told
+
+        address = self.enterContext(wall(played(self, told_of).port, self.plan, 'deskone1'))
+        broken = BROWSER.tab(address)
+        until(pictures, 5)
+        is_broken.append(True)
+        return [(left, "The wall's own server does not answer."),
+                (broken, 'The page can not draw what the room tells.')]
+
+    def check_proposed(self):
+        """A vehicle on duty and a call, as the page first shows them; gives its tab."""
+        self.told('deskone1', 'POST /vehicles/A1/duty',
+                  f'{{"place":"TQ303804","until":{int(time.time()) + 3600}}}')
+        ask(self.port, call(1, 'TQ400600'))
+        address = self.enterContext(wall(self.port, self.plan, 'deskone1', 'desktwo2'))
+        tab = BROWSER.open(address)
+        self.check('a first picture', until(pictures, 5) >= 1, True)
+        self.check('an available vehicle', BROWSER.run(MARK, 'vehicles A1')[:3],
+                   ['mark vehicle status-1', 'A', 'A1'])
+        self.check('a vehicle that is off duty', BROWSER.run(MARK, 'vehicles B1')[:3],
+                   ['mark vehicle status-0', '\u2013', 'B1'])
+        self.check('its place', is_near(BROWSER.run(PLACE, 'vehicles A1'), (530300, 180400)), True)
+        self.check('an incident, and what it lacks', BROWSER.run(MARK, 'incidents 1/1')[:4],
+                   ['mark incident class-2 short', '2', '1', '1'])
+        self.check('nobody is sent', BROWSER.run(LINES), [])
+        return tab
+
+    def check_mobilised(self):
+        proposed = self.told('deskone1', 'GET /incidents/1/propose')['proposals'][0]['vehicle']
+        self.told('deskone1', 'POST /incidents/1/mobilise', f'{{"vehicle":"{proposed}"}}')
+        refresh(2)
+        self.check('a mobilised vehicle', BROWSER.run(MARK, 'vehicles A1')[:3],
+                   ['mark vehicle status-2', 'M', 'A1'])
+        self.check('it is sent', BROWSER.run(LINES), [['vehicles A1', 'incidents 1/1']])
+        self.check('the incident is served', BROWSER.run(MARK, 'incidents 1/1')[:3],
+                   ['mark incident class-2 served', '2', '1'])
+
+    def check_reported(self):
+        self.told('desktwo2', 'POST /points/7', '{"cover":2,"place":"TQ700500"}')
+        self.told('crewofb1', 'POST /report',
+                  '{"button":"home","number":4,"order":0,"place":"TQ600800"}')
+        for number, button, place in [(1, 'mobile', 'TQ350700'), (2, 'scene', 'TQ401602')]:
+            self.told('crewofa1', 'POST /report', f'{{"button":"{button}","number":{number},'
+                                                  f'"order":1,"place":"{place}"}}')
+        refresh(2)
+        seen = BROWSER.run(MARK, 'vehicles A1')
+        self.check('a vehicle at the scene', seen[:3], ['mark vehicle status-3', 'S', 'A1'])
+        self.check('its new place', is_near(BROWSER.run(PLACE, 'vehicles A1'), (540100, 160200)),
+                   True)
+        wanted = 'A1, ambulance of division 1: at scene at TQ 401 602, sent to incident 1'
+        self.check('the words under the pointer', seen[-1].split(', shift')[0], wanted)
+
+    def check_queues(self):
+        one, two = BROWSER.run(QUEUES)
+        self.check('a queue where nothing waits', one, ['Division 10'])
+        self.check('a queue', [two[0], [it[1:] for it in two[1:]]],
+                   ['Division 22', [['B1', 'report 4 came out of turn'],
+                                    ['Point 7', 'short of cover']]])
+        self.check('what has no moment has no wait', two[2][0], '')
+        self.check('what has one', re.fullmatch('0:[01][0-9]', two[1][0]) is not None, True)
+        self.check('a point', BROWSER.run(MARK, 'points 2/7')[:3], ['mark point short', '7', '0/2'])
+        self.check('nothing is wrong', warning()['shown'], False)
+
+    def check_stopped(self, stopped):
+        before = warning()['marks']
+        until(lambda: warning()['shown'], 12)
+        took = time.time() - stopped
+        seen = warning()
+        self.check('a stopped room is told', seen['shown'], True)
+        self.check('it is told within ten seconds', took < 10, True)
+        found = re.fullmatch('NO ANSWER FROM THE ROOM SINCE ([0-9:]{8})',
+                             ' '.join(seen['words'].split()))
+        self.check('its words', found is not None, True)
+        second = int(stopped + AHEAD) % 86400
+        hours, minutes, seconds = map(int, found[1].split(':'))
+        late = (second - (hours * 3600 + minutes * 60 + seconds)) % 86400
+        self.check('since when, by the clock of the plan', 0 <= late <= 6, True)
+        self.check('it is the largest', seen['isLargest'], True)
+        self.check('why', seen['why'], 'It takes no connection.')
+        self.check('the rest is grey', ['grayscale(1)' in seen['filter'], seen['opacity']],
+                   [True, '0.7'])
+        self.check('the last picture stays', [before, seen['marks']], [4, 4])
+
+
+# ---- a room that is played
+
+
+class PlayedRoom(threading.Thread):
+    """Answers like a room. Keeps the heads that it was sent, and counts connections that came
+    while another was open, or that were not closed."""
+
+    def __init__(self, told_of):
+        super().__init__(daemon=True)
+        self.told_of = told_of
+        self.listener = socket.create_server(('127.0.0.1', 0))
+        self.port = self.listener.getsockname()[1]
+        self.heads, self.overlaps = [], 0
+        self.start()
+
+    def run(self):
+        with contextlib.suppress(OSError, ValueError):  # until it is closed
+            while True:
+                connection, _ = self.listener.accept()
+                with connection:
+                    self.serve(connection)
+
+    def serve(self, connection):
+        head = b''
+        while not head.endswith(b'\r\n\r\n'):
+            head += connection.recv(4096) or b'\r\n\r\n'
+        self.heads.append(head.decode())
+        line, *fields = head.decode().split('\r\n')
+        token = next(it for it in fields if it.startswith('X-Terminal: ')).split(' ')[1]
+        what = line.split(' ')[1].removeprefix('/')
+        body = json.dumps({what: self.told_of(token, what)}).encode()
+        self.overlaps += self.is_called(0.01)
+        connection.sendall(b'HTTP/1.1 200 OK\r\nDate: Wed, 25 Nov 2026 12:00:00 GMT\r\n'
+                           b'Content-Type: application/json\r\nConnection: close\r\n'
+                           b'Content-Length: %d\r\n\r\n' % len(body) + body)
+        ready, _, _ = select.select([connection, self.listener], [], [], 10)
+        self.overlaps += connection not in ready or connection.recv(1) != b''
+
+    def is_called(self, seconds):
+        return bool(select.select([self.listener], [], [], seconds)[0])
+
+
+def played(test, told_of):
+    """A played room, which ends with the test."""
+    room = PlayedRoom(told_of)
+    test.addCleanup(room.listener.close)
+    return room
+
+
+NOW = 1795608000  # the moment of the played room's answers
+
+
+def vehicle(name, status=1, kind=1, place=(530000, 180000), incident=None):
+    return {'home': 1, 'incident': incident, 'kind': kind, 'place': place, 'post': None,
+            'shift_end': NOW, 'status': status, 'vehicle': name}
+
+
+def incident(number, place=(530000, 180000), lack=(1, 0, 0), level=2):
+    return {'calls': 1, 'class': level, 'lack': lack, 'needs': [1, 1, 1], 'number': number,
+            'opened': NOW - 60, 'place': place}
+
+
+HOSTILE = ['<img src=x onerror=alert(1)>', '</title><script>alert(1)</script>', '"><b>', '&lt;']
+
+
+def small_room(token, what):
+    """A room with a vehicle of each status, names that are no callsigns, and a queue."""
+    if token != 'deskone1':
+        return []
+    vehicles = [vehicle(f'V{it}', it, it % 3 + 1) for it in range(8)]
+    waits = [(2, 3, 600, 'V2'), (6, 0, 50, 'V1'), (7, 4, NOW, ''), (4, 9, 4000, 'V3'),
+             (1, 1, 200, '')]
+    return {
+        'vehicles': vehicles + [vehicle(it) for it in HOSTILE],
+        'incidents': [incident(it, level=it) for it in (1, 2, 3)],
+        'points': [],
+        'queue': [{'number': number, 'rank': rank, 'since': NOW - age, 'vehicle': name}
+                  for rank, number, age, name in waits]
+        + [{'number': 1, 'rank': 4, 'since': NOW, 'vehicle': it} for it in HOSTILE],
+    }[what]
+
+
+def large_room():
+    """A room of 500 vehicles and 1,000 incidents in which each reading finds another picture."""
+    readings = []
+
+    def told_of(token, what):
+        readings.append(what)
+        west, name = (500000, 'A') if token == 'deskone1' else (550000, 'B')
+        turn = len(readings) // 8
+
+        def at(it, moved=0):
+            return [west + (it * 7919 + moved) % 50000, 100000 + it * 104729 % 100000]
+
+        def status(it):
+            return (it // 8 + turn if it % 8 == 0 else it) % 8
+
+        return {
+            'vehicles': [vehicle(f'{name}{it}', status(it), it % 3 + 1, at(it, turn * 997),
+                                 it + 1 if 2 <= status(it) <= 5 else None) for it in range(250)],
+            'incidents': [incident(it + 1, at(it + 1000), [(it + turn) % 4 // 3, it % 2, 0],
+                                   it % 3 + 1) for it in range(500)],
+            'points': [],
+            'queue': [{'number': it + 1, 'rank': 1, 'since': NOW - 1000 + it, 'vehicle': ''}
+                      for it in range(300)],
+        }[what]
+
+    return told_of
+
+
+class Played(TestCase):
+    def show(self, told_of, *tokens):
+        """A played room on the page."""
+        room = played(self, told_of)
+        address = self.enterContext(wall(room.port, plan_in(self.folder), *tokens))
+        return room, address
+
+    def test_words(self):
+        room, address = self.show(small_room, 'deskone1', 'desktwo2')
+        BROWSER.size(1280, 720)
+        BROWSER.open(address)
+        until(pictures, 5)
+        BROWSER.run('window.kept = document.querySelector(".vehicle")')
+        refresh(1)
+        self.check('nodes are kept', BROWSER.run('return kept.isConnected'), True)
+        names = BROWSER.run("return [...document.querySelectorAll('.vehicle .name')]"
+                            ".map((it) => it.textContent)")
+        self.check('names stay text', names[8:], HOSTILE)
+        self.check('no name is markup', BROWSER.run(
+            "return document.querySelectorAll('img, b b, svg script, title ~ title').length"), 0)
+        self.check_waits()
+        self.check_marks()
+        self.check_type()
+        self.check_widths()
+        self.check('it only gets', {it.split(' ')[0] for it in room.heads}, {'GET'})
+        self.check('each connection is closed',
+                   all('\r\nConnection: close\r\n' in it for it in room.heads), True)
+        self.check('never two at once', room.overlaps, 0)
+
+    def check_waits(self):
+        _, *entries = BROWSER.run(QUEUES)[0]
+        self.check('the longest wait first', [it[:2] for it in entries[:3]],
+                   [['1 h 06', 'V3'], ['10:00', 'V2'], ['3:20', 'Incident 1']])
+        self.check('what finds no room is counted', BROWSER.run(
+            "return document.querySelector('.more').textContent"), f'and {9 - len(entries)} more')
+
+    def check_marks(self):
+        letters = [BROWSER.run(MARK, f'vehicles V{it}')[1] for it in range(8)]
+        self.check('a letter for each status', len(set(letters)), 8)
+        outlines = "return [...document.querySelectorAll('.vehicle.mark .shape')]" \
+                   ".map((it) => it.getAttribute('d'))"
+        self.check('an outline for each kind', len(set(BROWSER.run(outlines))), 3)
+        figures = [BROWSER.run(MARK, f'incidents 1/{it}')[1] for it in (1, 2, 3)]
+        self.check('a figure for each class', figures, ['1', '2', '3'])
+        overlaps = BROWSER.run("""
+            const all = [...document.querySelectorAll('.mark')]
+              .map((it) => it.getAttribute('transform'));
+            return all.length - new Set(all).size;""")
+        self.check('no mark lies on another', overlaps, 0)
+
+    def check_type(self):
+        heights = BROWSER.run("""
+            return ['.who', '.time', '.why', '.vehicle .name', '#clock'].map((it) => {
+              const node = document.querySelector(it);
+              const scale = node.getCTM?.().a ?? 1;
+              return scale * parseFloat(getComputedStyle(node).fontSize) / innerHeight; });""")
+        self.check('letters are large', [it > 0.025 for it in heights], 5 * [True])
+        colours = BROWSER.run("""
+            return ['.who', '.time', '.why', 'h2', 'h1', '#counts', '.more'].map((it) =>
+              getComputedStyle(document.querySelector(it)).color).concat(
+              [...document.querySelectorAll('.vehicle.mark .letter')].slice(0, 8).map((it) =>
+                getComputedStyle(it).fill));""")
+        grounds = 7 * ['rgb(20, 27, 36)'] + BROWSER.run("""
+            return [...document.querySelectorAll('.vehicle.mark .shape')].slice(0, 8).map((it) =>
+              getComputedStyle(it).fill);""")
+        ratios = [contrast(*it) for it in zip(colours, grounds)]
+        self.check('contrast is at least 7', [it for it in ratios if it < 7], [])
+
+    def check_widths(self):
+        boxes = "return ['#queues', '#map'].map((it) => document.querySelector(it)" \
+                ".getBoundingClientRect()).map((it) => [it.left, it.top])"
+        (left, top), (map_left, map_top) = BROWSER.run(boxes)
+        self.check('a wide window: the queue beside the map', [left > map_left, top == map_top],
+                   [True, True])
+        BROWSER.size(520, 900)
+        (left, top), (map_left, map_top) = BROWSER.run(boxes)
+        self.check('a narrow one: the queue first', [left == map_left, top < map_top],
+                   [True, True])
+        BROWSER.size(1280, 720)
+
+    def test_answers(self):
+        """What the wall's server gives to whoever asks, and what it costs the room."""
+        room, address = self.show(small_room, 'deskone1', 'desktwo2')
+        files = [it.name for it in WALL.parent.glob('*.*') if it.suffix in ('.html', '.css', '.js')]
+        paths = ['', 'picture', *files]
+        others = ['wall.py', 'README.md', 'vehicles', '../plan.csv', 'picture?token=deskone1',
+                  'http://127.0.0.1/queue']
+        told = {it: fetch(address + it) for it in paths + others}
+        self.check('what is there', [it for it in told if told[it][0] == 200], paths)
+        self.check('what is not', {told[it][0] for it in others}, {404})
+        whole = ''.join(f'{head}{body}' for _, head, body in told.values())
+        self.check('no token leaves', [it for it in TOKENS if it in whole], [])
+        self.check('only its own scripts', [it for it, (_, head, _) in told.items()
+                                            if "default-src 'none'; script-src 'self'" not in head],
+                   [])
+        self.check('another host', fetch(address, {'Host': 'room.example'})[0], 403)
+        self.check('POST', fetch(address + 'picture', {}, b'{}')[0], 501)
+        self.check('one picture of two desks', len(room.heads), 8)
+        time.sleep(2.3)
+        self.check('without a page nothing', len(room.heads), 8)
+        pages = [threading.Thread(target=fetch, args=[address + 'picture']) for _ in range(20)]
+        for page in pages:
+            page.start()
+        for page in pages:
+            page.join()
+        self.check('twenty pages cost no more than one', len(room.heads), 16)
+        self.check('never two at once', room.overlaps, 0)
+
+    def test_words_of_the_command(self):
+        plan = plan_in(self.folder)
+        for what, room, file, token, listen in [
+                ('a page for all', '127.0.0.1:9', plan, 'deskone1', '0.0.0.0:0'),
+                ('a page for a network', '127.0.0.1:9', plan, 'deskone1', '192.0.2.1:0'),
+                ('a room elsewhere', '192.0.2.1:80', plan, 'deskone1', '127.0.0.1:0'),
+                ('a token of no desk', '127.0.0.1:9', plan, 'takerone', '127.0.0.1:0'),
+                ('no plan', '127.0.0.1:9', WALL, 'deskone1', '127.0.0.1:0')]:
+            done = subprocess.run([sys.executable, WALL, room, file, token, '--listen', listen],
+                                  stdin=subprocess.DEVNULL, capture_output=True, timeout=20)
+            said = (done.stdout + done.stderr).decode()
+            self.check(f'{what} is refused', [done.returncode, token in said], [2, False])
+
+    def test_many(self):
+        """500 vehicles and 1,000 incidents. From each picture to the next all vehicles move, an
+        eighth of them changes its status, and half of the incidents what they lack."""
+        _, address = self.show(large_room(), 'deskone1', 'desktwo2')
+        BROWSER.size(1280, 720)
+        BROWSER.open(address)
+        until(pictures, 5)
+        took = []
+        for _ in range(3):
+            refresh(1)
+            time.sleep(0.4)
+            took.append(float(BROWSER.run(
+                'return document.documentElement.dataset.redrawMilliseconds')))
+        count = "return document.querySelectorAll(arguments[0]).length"
+        self.check('vehicles', BROWSER.run(count, '.vehicle.mark'), 500)
+        self.check('incidents', BROWSER.run(count, '.incident.mark'), 1000)
+        self.check('lines', BROWSER.run(count, '.sent line'), 280)
+        # What else runs on the machine makes some slower: it is the quickest that counts.
+        self.check('a redraw within 200 ms', [it for it in took if min(took) > 200], [])
+
+
+def fetch(url, fields=None, body=None):
+    """The status, the head and the content of an answer of the wall."""
+    request = urllib.request.Request(url, body, fields or {})
+    try:
+        with OPENER.open(request, timeout=20) as answer:
+            return answer.status, str(answer.headers), answer.read().decode()
+    except urllib.error.HTTPError as answer:
+        return answer.code, str(answer.headers), answer.read().decode()
+
+
+def contrast(*colours):
+    """The contrast of two colours as the accessibility guidelines of the web reckon it."""
+    def light(text):
+        parts = [int(it) / 255 for it in re.findall('[0-9]+', text)[:3]]
+        red, green, blue = (it / 12.92 if it <= 0.04045 else ((it + 0.055) / 1.055) ** 2.4
+                            for it in parts)
+        return 0.2126 * red + 0.7152 * green + 0.0722 * blue
+
+    low, high = sorted(map(light, colours))
+    return (high + 0.05) / (low + 0.05)
