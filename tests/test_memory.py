@@ -1,12 +1,15 @@
 """Memory from outside: each allocation of the program is refused in turn, alone or with all that
 come after it. What was answered stands, what was not has changed nothing, and the same command
-then ends well. Where the program gets along without what was refused, it does as ever."""
+then ends well. Where the program gets along without what was refused, it does as ever. A room that
+is served goes on after a request that was refused for memory, and answers it when it comes
+again."""
 # needs: python3 gcc libc6-dev sqlite3
 # builds: dispatch_room
 import re
 
 from preloaded import EVERY, PreloadedTestCase
-from room import FLEET, PLAN, call, dump, made, message, sql
+from room import FLEET, PLAN, call, dump, free_port, made, message, run, sql, talk
+from test_rows import ROWS, answers, messages
 
 # What is preloaded into the program.
 REFUSING = r"""
@@ -51,6 +54,29 @@ void *aligned_alloc(size_t align, size_t size) {
 }
 int posix_memalign(void **out, size_t align, size_t size) {
   return is_refused() ? ENOMEM : NEXT(posix_memalign)(out, align, size);
+}
+"""
+
+# What is preloaded into a room that is served at the moments of a script.
+AT_A_MOMENT = REFUSING + r"""
+// Sets the clock of the day to the moment that stands in the file MOMENT.
+#include <fcntl.h>
+#include <time.h>
+#include <unistd.h>
+
+int clock_gettime(clockid_t clock, struct timespec *time) {
+  if (clock != CLOCK_REALTIME) return NEXT(clock_gettime)(clock, time);
+  char text[16] = "";
+  int file = open(getenv("MOMENT"), O_RDONLY);
+  ssize_t count = read(file, text, sizeof text - 1);
+  close(file);
+  if (count <= 0) {
+    errno = EINVAL;
+    return -1;
+  }
+  time->tv_sec = atol(text);
+  time->tv_nsec = 0;
+  return 0;
 }
 """
 
@@ -128,19 +154,28 @@ def rows_of(room):
     return re.sub(r'\b\d{10}\b', 'MOMENT', dump(room))
 
 
-class Memory(PreloadedTestCase):
-    LIBRARY = REFUSING
+class MemoryTestCase(PreloadedTestCase):
+    """A test case that refuses allocations in turn."""
 
-    def each(self, most):
-        """What is refused in turn, once a run with nothing refused has told how many allocations
-        there are: each of the first, then one in so many that there are about so many in all, each
-        alone and with all that follow it; with --all each of them. Beside it, its name."""
+    def numbers(self, most):
+        """Which allocations are refused, once a run with nothing refused has told how many there
+        are: each of the first, then one in so many that there are about so many in all; with --all
+        each of them."""
         total = self.program.total()
         self.check('memory is asked for', total > 0, True)
         most = 2 * total if EVERY else most
         near = range(1, min(total, most // 2) + 1)
         far = range(len(near) + 1, total + 1, 1 + (total - len(near)) // (most // 2))
-        for number in [*near, *far]:
+        return [*near, *far]
+
+
+class Memory(MemoryTestCase):
+    LIBRARY = REFUSING
+
+    def each(self, most):
+        """What is refused in turn, each allocation alone and with all that follow it; beside it,
+        its name."""
+        for number in self.numbers(most):
             yield without(number, number), f'allocation {number}'
             yield without(number, LAST), f'allocation {number} and all after it'
 
@@ -235,3 +270,83 @@ class Memory(PreloadedTestCase):
             again = self.program.serve(NOTHING, file, call(1))
             self.check(f'a call without {name}, then the call', again, CALLED)
             self.check(f'a call without {name}, then the call: the room', rows_of(file), after)
+
+
+def is_want(answer):
+    """Whether a message is refused for memory."""
+    return answer.content == WANTING[0][1]
+
+
+class Again(MemoryTestCase):
+    """One room in one process, after a request that was refused for memory."""
+
+    LIBRARY = AT_A_MOMENT
+
+    def setUp(self):
+        super().setUp()
+        self.moment = self.folder / 'moment'
+        self.room = made(self.folder / 'again.db')
+        run('import', self.room, FLEET)
+
+    def talk_to(self, port, asked):
+        """The answer to a message over a connection of its own, at its moment; none where the
+        program has ended."""
+        self.moment.write_text(asked.moment)
+        try:
+            got = talk(port, asked.text().encode())
+        except OSError:
+            return None
+        return answers(got.decode(), [asked])[0] if got else None
+
+    def serve(self, refused, file, left, spare=0):
+        """Serves a room to messages, and to so many more. Takes off those that are answered, and
+        gives the answers, those that are refused for memory too, and how the room ended."""
+        port, got = free_port(), []
+        words = 'serve', file, f'127.0.0.1:{port}', '--connections', len(left) + spare
+        with self.program.start(refused | {'MOMENT': self.moment}, *words) as process:
+            answer = process.stdout.readline() == b'serving\n'
+            while answer and left:
+                answer = self.talk_to(port, left[0])
+                if answer:
+                    got.append(answer)
+                    if not is_want(answer):
+                        left.pop(0)
+            if spare and not left:
+                process.kill()
+            _, err = process.communicate(timeout=60)
+        return got, (process.returncode, err)
+
+    def check_answers(self, what, asked, got):
+        """Each message is answered as its script wants it."""
+        self.check(f'{what}: each message is answered', len(got), len(asked))
+        for message, answer, before in zip(asked, got, [None, *got]):
+            with self.subTest(f'{what}: {message.line}'):
+                self.assertTrue(message.fits(answer, before),
+                                f'  wanted {message.wanted}\n  got    {answer}')
+
+    def play(self, name):
+        """Plays a script, with one allocation refused; where the room ends, it is served again."""
+        asked = messages(ROWS / name)
+        file = self.fresh(self.room)
+        got, end = self.serve(NOTHING, file, list(asked))
+        self.check(f'{name}: how it ends', end, (0, b''))
+        self.check_answers(name, asked, got)
+        wanted, went_on = dump(file), 0
+        for number in self.numbers(60):
+            what = f'{name} without allocation {number}'
+            file, left = self.fresh(self.room), list(asked)
+            got, end = self.serve(without(number, number), file, left, spare=1)
+            went_on += not left and any(map(is_want, got))
+            if left:
+                with self.subTest(f'{what}: how it ends'):
+                    self.assertIn(end, [(5, b'memory\n'), (3, b'storage\n')])
+                got += self.serve(NOTHING, file, left)[0]
+            self.check_answers(what, asked, [it for it in got if not is_want(it)])
+            self.check(f'{what}: the room', dump(file), wanted)
+        self.check(f'{name}: a request that was refused is answered', went_on > 0, True)
+
+    def test_orders_and_reports(self):
+        self.play('orders-and-reports.rows')
+
+    def test_an_offer(self):
+        self.play('offer-accepted.rows')

@@ -3,6 +3,9 @@
 //! over a room's file.
 #![tactic(auto)]
 
+ghost use Rattle.std.specs.Prelude.{◌≡◌};
+ghost use Rattle.dispatch_room_endings.specs.Endings.{status_of};
+
 use dispatch_room_commands::commands::{USAGE, command};
 use dispatch_room_endings::endings::{Failure, ended};
 use dispatch_room_example::dry_run::dry_run;
@@ -45,7 +48,9 @@ fn dry(rt: &HostRuntime) -> Result<(), Failure> {
 }
 
 // Tells a fault on standard error, and gives its status.
-fn tell(rt: &HostRuntime, fault: Failure) -> u8 {
+fn tell(rt: &HostRuntime, fault: Failure) -> u8
+    ensures { result ≡ status_of fault }
+{
     let _ = eprintln!(rt; "{fault}");
     fault.status()
 }

@@ -1,4 +1,7 @@
 //! The commands over a room's file: what they write, and the exit status.
+ghost use Rattle.std.specs.Prelude.{◌≡◌};
+ghost use Rattle.clap.specs.Words.{kind_of};
+ghost use Rattle.dispatch_room_commands.specs.Ends.{IsHelpDone, IsWordsStatus, is_mistake, status_after};
 
 use crate::creating::init;
 use crate::importing::import;
@@ -25,14 +28,16 @@ pub fn command<O: Write, E: Write>(
     out: &mut O,
     err: &mut E,
 ) -> u8 {
-    let done = match words::read(alloc, words) {
-        Ok(task) => perform(rt, alloc, &task, out),
-        Err(error) if is_mistake(&error) => {
-            let _ = write!(err, "{error}");
-            return USAGE;
-        }
-        Err(error) => help(&error, out),
-    };
+    match words::read(alloc, words) {
+        Ok(task) => end(perform(rt, alloc, &task, out), err),
+        Err(error) => refuse(&error, out, err),
+    }
+}
+
+// Tells why a command failed, and gives its exit status.
+fn end<E: Write>(done: Result<Done, Failure>, err: &mut E) -> u8
+    ensures { result ≡ status_after done }
+{
     match done {
         Ok(done) => done.status(),
         Err(fault) => {
@@ -60,14 +65,32 @@ fn perform<O: Write>(
     }
 }
 
+// Tells a mistake in the words, or the help that was asked for, and gives the exit status.
+fn refuse<O: Write, E: Write>(error: &Error, out: &mut O, err: &mut E) -> u8
+    ensures { IsWordsStatus (kind_of error.now) result }
+{
+    if is_mistake(error.kind()) {
+        let _ = write!(err, "{error}");
+        return USAGE;
+    }
+    end(help(error, out), err)
+}
+
 // Whether an error of the words is a mistake in them, and neither help that was asked for nor
 // want of memory.
-fn is_mistake(error: &Error) -> bool {
-    error.use_stderr() && error.kind() != ErrorKind::OutOfMemory
+fn is_mistake(kind: ErrorKind) -> bool
+    ensures { result ≡ is_mistake kind }
+{
+    !matches!(
+        kind,
+        ErrorKind::DisplayHelp | ErrorKind::DisplayVersion | ErrorKind::OutOfMemory
+    )
 }
 
 // Writes the help that was asked for.
-fn help<O: Write>(error: &Error, out: &mut O) -> Result<Done, Failure> {
+fn help<O: Write>(error: &Error, out: &mut O) -> Result<Done, Failure>
+    ensures { IsHelpDone (kind_of error.now) result }
+{
     if error.kind() == ErrorKind::OutOfMemory {
         return Err(Failure::Memory);
     }

@@ -1,4 +1,10 @@
 //! `init`: a room is created in a file, by a plan.
+ghost use Rattle.std.specs.Prelude.{◌≡◌, IfOk, OnOk};
+ghost use Rattle.std.specs.Io.KnownBytes.{Appends};
+ghost use Rattle.dispatch_room_endings.specs.declared.endings.Done.TheVariants.{Whole};
+ghost use Rattle.dispatch_room_files.specs.declared.plans.PlanFile.{PlanFile as File};
+ghost use Rattle.dispatch_room_work.specs.Created.{created_text};
+
 use crate::files::{closed, connect, read_text};
 use dispatch_room_endings::endings::{Done, Failure};
 use dispatch_room_files::plans::{PlanFile, read_plan};
@@ -13,7 +19,11 @@ pub fn init<O: Write>(
     file: &str,
     plan: &str,
     out: &mut O,
-) -> Result<Done, Failure> {
+) -> Result<Done, Failure>
+    ensures whole { IfOk result (λ done. done ≡ Whole) }
+    ensures text { OnOk result ((plan : File) × Appends (O.contents out.old) (O.contents out.new)
+        (created_text plan)) }
+{
     let text = read_text(rt, plan)?;
     let plan = read_plan(alloc, text.as_slice())?;
     create_file(rt, alloc, file, &plan)?;

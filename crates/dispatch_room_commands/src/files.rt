@@ -1,5 +1,7 @@
 //! The files that commands name: text files read whole, and the room's file.
-ghost use Rattle.std.specs.Prelude.{◌≡◌, false, IfOk};
+ghost use Rattle.std.specs.Prelude.{◌≡◌, ◌⊎◌, Err, Ok, false, IfErr, IfOk, IsOk, OnOk};
+ghost use Rattle.dispatch_room_endings.specs.declared.endings.Failure.TheVariants as failure;
+ghost use Rattle.dispatch_room_commands.specs.Ends.{IsFileFault, fault_of};
 
 use dispatch_room_endings::endings::Failure;
 use dispatch_room_work::rooms::Worked;
@@ -8,7 +10,9 @@ use std::fs;
 use std::io::ErrorKind;
 
 /// The bytes of a text file.
-pub fn read_text(rt: &HostRuntime, path: &str) -> Result<Vec<u8>, Failure> {
+pub fn read_text(rt: &HostRuntime, path: &str) -> Result<Vec<u8>, Failure>
+    ensures { IfErr result (λ fault. (fault ≡ failure.Memory) ⊎ (fault ≡ failure.Input)) }
+{
     match fs::read(rt, path) {
         Ok(text) => Ok(text),
         Err(error) if error.kind() == ErrorKind::OutOfMemory => Err(Failure::Memory),
@@ -18,7 +22,8 @@ pub fn read_text(rt: &HostRuntime, path: &str) -> Result<Vec<u8>, Failure> {
 
 /// A connection to a database's file, which is made where it is not there.
 pub fn connect(rt: &HostRuntime, path: &str) -> Result<Connection<FileStore<File>>, Failure>
-    ensures { IfOk result (λ conn. conn.in_transaction ≡ false) }
+    ensures outside { IfOk result (λ conn. conn.in_transaction ≡ false) }
+    ensures fault { IfErr result IsFileFault }
 {
     match Connection::open(rt, path) {
         Ok(conn) => Ok(conn),
@@ -29,7 +34,8 @@ pub fn connect(rt: &HostRuntime, path: &str) -> Result<Connection<FileStore<File
 /// A connection to the file of a room, which has to be there. An empty file is none, and stays
 /// empty: to the database it is a new one, whose first page would be written.
 pub fn connect_room(rt: &HostRuntime, path: &str) -> Result<Connection<FileStore<File>>, Failure>
-    ensures { IfOk result (λ conn. conn.in_transaction ≡ false) }
+    ensures outside { IfOk result (λ conn. conn.in_transaction ≡ false) }
+    ensures fault { IfErr result (λ fault. (fault ≡ failure.File) ⊎ IsFileFault fault) }
 {
     match find(rt, path) {
         Ok(()) => connect(rt, path),
@@ -38,7 +44,9 @@ pub fn connect_room(rt: &HostRuntime, path: &str) -> Result<Connection<FileStore
 }
 
 // Finds a file that is there and not empty.
-fn find(rt: &HostRuntime, path: &str) -> Result<(), Failure> {
+fn find(rt: &HostRuntime, path: &str) -> Result<(), Failure>
+    ensures { IfErr result (λ fault. (fault ≡ failure.File) ⊎ IsFileFault fault) }
+{
     match fs::metadata(rt, path) {
         Ok(found) if found.len() > 0 => Ok(()),
         Ok(_) => Err(Failure::File),
@@ -51,7 +59,13 @@ fn find(rt: &HostRuntime, path: &str) -> Result<(), Failure> {
 }
 
 /// What was done in a file, once the file is closed with all that was committed in it.
-pub fn closed<T: Drop>(worked: Worked<T, FileStore<File>>) -> Result<T, Failure> {
+pub fn closed<T: Drop>(worked: Worked<T, FileStore<File>>) -> Result<T, Failure>
+    ensures room { OnOk result (IsOk worked) }
+    ensures done { IfOk worked (λ worked. IfOk result (λ done. worked.0 ≡ Ok done)) }
+    ensures fault { IfOk worked (λ worked. IfErr result (λ fault. (worked.0 ≡ Err fault)
+        ⊎ IsFileFault fault)) }
+    ensures none { IfErr worked (λ fault. result ≡ Err fault) }
+{
     match worked {
         Ok((done, conn)) => match conn.close() {
             Ok(()) => done,
@@ -61,7 +75,9 @@ pub fn closed<T: Drop>(worked: Worked<T, FileStore<File>>) -> Result<T, Failure>
     }
 }
 
-fn fault_of(error: Error) -> Failure {
+fn fault_of(error: Error) -> Failure
+    ensures { result ≡ fault_of error }
+{
     match error {
         Error::SqliteFailure(ErrorCode::OutOfMemory) => Failure::Memory,
         _ => Failure::Storage,

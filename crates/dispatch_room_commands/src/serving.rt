@@ -1,25 +1,20 @@
 //! `serve`: a room is served over TCP, one connection after another.
-ghost use Rattle.std.specs.Prelude.{◌≡◌, false};
-ghost use Rattle.room_store.specs.Keeping.{IsReady};
+ghost use Rattle.std.specs.Prelude.{◌≡◌, IfErr, IfSome, None, false};
+ghost use Rattle.dispatch_room_endings.specs.declared.endings.Failure.TheVariants.{Network};
 
 use crate::files::{closed, connect_room};
 use dispatch_room_endings::endings::{Done, Failure};
+use dispatch_room_serving::callers::Callers;
+use dispatch_room_serving::serving::serve_in;
 use dispatch_room_words::tasks::Service;
-use dispatch_room_work::rooms::{Worked, open_room};
-use room_http::serving::{ServeEnd, serve};
+use dispatch_room_work::rooms::Worked;
 use room_http_messages::wires::Wire;
 use room_http_time::clocks::MachineClock;
-use room_http_time::zones::Zone;
-use room_service::rooms::Room;
-use room_store::store::Store;
 use sqlite::{Alter, Connection};
 use std::alloc::Global;
 use std::io::Write;
 use std::net::{TcpListener, TcpStream};
 use std::time::Duration;
-
-/// How many reads a connection has at most.
-const MOST_READS: u32 = 100_000;
 
 /// Serves the room of a file to so many connections. A connection that ends badly doesn't end it,
 /// but for want of memory, and where the room's file failed so that it has to be opened again.
@@ -31,13 +26,13 @@ pub fn serve_file<O: Write>(
     out: &mut O,
 ) -> Result<Done, Failure> {
     match connect_room(rt, file) {
-        Ok(conn) => closed(serve_in(rt, alloc, conn, service, out)),
+        Ok(conn) => closed(serve_room(rt, alloc, conn, service, out)),
         Err(fault) => Err(fault),
     }
 }
 
-// Serves the room of a database.
-fn serve_in<S: Alter + Drop, O: Write>(
+// Serves the room of a database to those who call at an address.
+fn serve_room<S: Alter + Drop, O: Write>(
     rt: &HostRuntime,
     alloc: Global,
     conn: Connection<S>,
@@ -46,87 +41,62 @@ fn serve_in<S: Alter + Drop, O: Write>(
 ) -> Worked<Done, S>
     requires outside { conn.in_transaction ≡ false }
 {
-    let (mut room, zone) = open_room(alloc, conn)?;
-    let served = listen_and_serve(rt, alloc, &mut room, &zone, service, out);
-    Ok((served, room.close()))
-}
-
-fn listen_and_serve<S: Alter, O: Write>(
-    rt: &HostRuntime,
-    alloc: Global,
-    room: &mut Store<S>,
-    zone: &Zone,
-    service: Service<'_>,
-    out: &mut O,
-) -> Result<Done, Failure>
-    requires ready { IsReady S.Store room.old }
-    ensures ready { IsReady S.Store room.new }
-{
-    let listener = listen(rt, service.address, out)?;
-    serve_each(rt, alloc, room, zone, &listener, service)
-}
-
-// Listens at an address, and says so.
-fn listen<O: Write>(rt: &HostRuntime, address: &str, out: &mut O) -> Result<TcpListener, Failure> {
-    let Ok(listener) = TcpListener::bind(rt, address) else {
-        return Err(Failure::Network);
+    let mut clock = MachineClock::new(rt);
+    let mut callers = TcpCallers {
+        rt,
+        service,
+        out,
+        listener: None,
     };
-    if writeln!(out, "serving").is_err() || out.flush().is_err() {
-        return Err(Failure::Network);
-    }
-    Ok(listener)
+    serve_in(alloc, conn, &mut callers, &mut clock, service.connections)
 }
 
-fn serve_each<S: Alter>(
-    rt: &HostRuntime,
-    alloc: Global,
-    room: &mut Store<S>,
-    zone: &Zone,
-    listener: &TcpListener,
-    service: Service<'_>,
-) -> Result<Done, Failure>
-    requires ready { IsReady S.Store room.old }
-    ensures ready { IsReady S.Store room.new }
-{
-    for _connection in 0..service.connections {
-        if let Ok((stream, _)) = listener.accept() {
-            serve_one(rt, alloc, room, zone, &stream, service.patience)?;
-            if !room.is_sound() {
-                return Err(Failure::Storage);
-            }
+// Who calls at an address.
+#[derive(Drop)]
+struct TcpCallers<'a, O> {
+    rt: &'a HostRuntime,
+    service: Service<'a>,
+    out: &'a mut O,
+    listener: Option<TcpListener>,
+}
+
+impl<'a, O: Write> Callers for TcpCallers<'a, O> {
+    type Reader = Wire<TcpStream>;
+
+    type Writer = Wire<TcpStream>;
+
+    ghost heard = { λ _. None };
+
+    ghost told = { λ _. None };
+
+    // Listens at the address, and says so.
+    fn begin(&mut self) -> Result<(), Failure> {
+        let Ok(listener) = TcpListener::bind(self.rt, self.service.address) else {
+            return Err(Failure::Network);
+        };
+        if writeln!(self.out, "serving").is_err() || self.out.flush().is_err() {
+            return Err(Failure::Network);
         }
+        self.listener = Some(listener);
+        Ok(())
     }
-    Ok(Done::Whole)
+
+    fn next(&mut self) -> Option<(Wire<TcpStream>, Wire<TcpStream>)> {
+        let (stream, _) = self.listener.as_ref()?.accept().ok()?;
+        sides(stream, self.service.patience)
+    }
+
+    fn done(&mut self, _reader: Wire<TcpStream>, _writer: Wire<TcpStream>) {}
 }
 
-fn serve_one<M: Room>(
-    rt: &HostRuntime,
-    alloc: Global,
-    room: &mut M,
-    zone: &Zone,
-    stream: &TcpStream,
-    patience: u16,
-) -> Result<(), Failure>
-    requires ready { M.is_ready room.old }
-    ensures ready { M.is_ready room.new }
+// The two sides of a connection, whose reads and writes wait so many seconds at most.
+fn sides(stream: TcpStream, patience: u16) -> Option<(Wire<TcpStream>, Wire<TcpStream>)>
+    ensures reader { IfSome result (λ sides. sides.0.failed ≡ false) }
+    ensures writer { IfSome result (λ sides. sides.1.failed ≡ false) }
 {
     let wait = Some(Duration::from_secs(u64::from(patience)));
-    if stream.set_read_timeout(wait).is_err() || stream.set_write_timeout(wait).is_err() {
-        return Ok(());
-    }
-    let mut reader = Wire::new(stream);
-    let mut writer = Wire::new(stream);
-    let mut clock = MachineClock::new(rt);
-    match serve(
-        alloc,
-        &mut reader,
-        &mut writer,
-        room,
-        zone,
-        &mut clock,
-        MOST_READS,
-    ) {
-        ServeEnd::Memory => Err(Failure::Memory),
-        _ => Ok(()),
-    }
+    stream.set_read_timeout(wait).ok()?;
+    stream.set_write_timeout(wait).ok()?;
+    let reader = stream.try_clone().ok()?;
+    Some((Wire::new(reader), Wire::new(stream)))
 }

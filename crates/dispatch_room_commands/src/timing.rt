@@ -1,4 +1,6 @@
 //! `times`: the report of a division's day.
+ghost use Rattle.std.specs.Prelude.{◌≡◌, IfOk};
+ghost use Rattle.dispatch_room_endings.specs.declared.endings.Done.TheVariants.{Whole};
 
 use crate::files::{closed, connect_room};
 use dispatch_room_endings::endings::{Done, Failure};
@@ -15,7 +17,9 @@ pub fn times<O: Write>(
     division: DivisionNumber,
     day: &str,
     out: &mut O,
-) -> Result<Done, Failure> {
+) -> Result<Done, Failure>
+    ensures { IfOk result (λ done. done ≡ Whole) }
+{
     let report = report_in_file(rt, alloc, file, division, day)?;
     match out.write_all(report.as_slice()) {
         Ok(()) => Ok(Done::Whole),

@@ -13,7 +13,7 @@ use Rattle.room_http.specs.Serving.{Sides, Finish, Answered, Unserved, Broken, U
 use Rattle.dispatch_room_example.specs.Example.{untold}
 use Rattle.room_http.specs.Talk.{Timed, IsFront, BreaksOff, Talks}
 
-module _ (step : Step) (zone : Zone) (old : Sides) (new : Finish) (trusted : Type 0) (trust : trusted) (stood stands asked : List Terminal → Room → Type 0)
+module _ (step : Step) (zone : Zone) (old : Sides) (new : Finish) (trusted : Type 0) (trust : trusted) (stood stands : List Terminal → Room → Type 0) (wants : Timed → List Terminal → Room → Type 0) (asked : List Terminal → Room → Type 0)
     (is : (terminals : List Terminal) (room : Room) → asked terminals room → stood terminals room) where
   -- what is written is the talk of each room that the one at the beginning was asked to be
   talks : (outs : List Timed) (says less : List Terminal → Room → List ℕ → Type 0) → ((terminals : List Terminal) (room : Room) (tail : List ℕ) → says terminals room tail → less terminals room tail)
@@ -30,13 +30,14 @@ module _ (step : Step) (zone : Zone) (old : Sides) (new : Finish) (trusted : Typ
         (λ terminals after tail said. (tt, said.1)) a.talk;
   }
 
-  wanted : (outs : List Timed) (x : Timed) (so_much : List ℕ → List ℕ → Type 0) → Unserved step zone old new trusted stood stands outs x so_much → Unserved step zone old new ⊤ asked untold outs x so_much
+  wanted : (outs : List Timed) (x : Timed) (so_much : List ℕ → List ℕ → Type 0) → Unserved step zone old new trusted stood stands wants outs x so_much → Unserved step zone old new ⊤ asked untold (λ y. untold) outs x so_much
   wanted outs x so_much w = record {
     begins = w.begins;
     timed = w.timed;
+    next = w.next;
     refusal = w.refusal;
     want = w.want;
-    talk = talks outs (λ terminals after tail. stands terminals after × so_much tail (fixed_bytes w.refusal (is_head_only x.0)))
+    talk = talks outs (λ terminals after tail. wants x terminals after × so_much tail (fixed_bytes w.refusal (is_head_only x.0)))
         (λ terminals after tail. untold terminals after × so_much tail (fixed_bytes w.refusal (is_head_only x.0)))
         (λ terminals after tail said. (tt, said.1)) w.talk;
   }
@@ -59,7 +60,7 @@ module _ (step : Step) (zone : Zone) (old : Sides) (new : Finish) (trusted : Typ
   }
 
   -- however it ended
-  pub serves : (budget : ℕ) (end : ServeEnd) → ServeIs step zone old new trusted stood stands budget end → ServeIs step zone old new ⊤ asked untold budget end
+  pub serves : (budget : ℕ) (end : ServeEnd) → ServeIs step zone old new trusted stood stands wants budget end → ServeIs step zone old new ⊤ asked untold (λ x. untold) budget end
   serves budget Closed (inl ended) = inl (ended.0, answered ended.0 (λ rest. rest ≡ []) ended.1, ended.2)
   serves budget Closed (inr (inl closed)) = inr (inl (closed.0, answered closed.0 (λ rest. ⊤) closed.1, closed.2))
   serves budget Closed (inr (inr want)) = inr (inr (want.0, want.1, wanted want.0 want.1 (λ tail fixed. tail ≡ fixed) want.2))

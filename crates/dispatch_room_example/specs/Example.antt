@@ -60,10 +60,10 @@ IsExample terminals room = (terminals ≡ terminals_with_crews) × (room ≡ roo
 abbrev pub IsExampleZone : Zone → Type 0
 IsExampleZone zone = IsPosixZone example_plan.zone (zone_of zone)
 
--- of the room afterwards nothing is told
+-- of the room afterwards, and of what a stop leaves, nothing is told
 abbrev pub untold : List Terminal → Room → Type 0
 untold terminals room = ⊤
 
 -- what is written is the talk of the example room with the messages that are read, in so many reads at most
 abbrev pub IsExampleTalk : Sides → Finish → ℕ → ServeEnd → Type 0
-IsExampleTalk old new budget end = (zone : Zone) × IsExampleZone zone × ServeIs machine zone old new ⊤ IsExample untold budget end
+IsExampleTalk old new budget end = (zone : Zone) × IsExampleZone zone × ServeIs machine zone old new ⊤ IsExample untold (λ x. untold) budget end

@@ -2,7 +2,7 @@
 ghost use Rattle.std.specs.Prelude.{◌≡◌, replicate};
 ghost use Rattle.room_types.specs.declared.fleet.RowFate.TheVariants.{Added};
 ghost use Rattle.room_store_writes.specs.Filling.{in_order, new_room};
-ghost use Rattle.room_store.specs.Enrolling.{fates_of};
+ghost use Rattle.room_model.specs.Fleets.{fates_of};
 ghost use Rattle.dispatch_room_example.specs.Example.{example_fleet, example_plan, example_terminals};
 
 /// Each of the five vehicles is new to the room when its row is enrolled.

@@ -1,6 +1,13 @@
 //! The room of a database, opened for a command.
-ghost use Rattle.std.specs.Prelude.{◌≡◌, false, IfOk};
-ghost use Rattle.room_store.specs.Keeping.{IsReady};
+ghost use Rattle.std.specs.Prelude.{◌≡◌, false, IfOk, IsTrue, List};
+ghost use Rattle.jiff.specs.Placed.{IsPosixZone};
+ghost use Rattle.sqlite.specs.Held.{state};
+ghost use Rattle.sqlite.specs.State.{HasCleanDisk};
+ghost use Rattle.room_types.specs.declared.fleet.Terminal.{Terminal};
+ghost use Rattle.room_model.specs.Room.{Room};
+ghost use Rattle.room_http_time.specs.Days.{zone_of};
+ghost use Rattle.room_tables.specs.Stands.{House, Stands};
+ghost use Rattle.room_store.specs.Keeping.{IsReady, IsRoom};
 
 use dispatch_room_endings::endings::Failure;
 use room_http_time::zones::Zone;
@@ -8,13 +15,22 @@ use room_store::store::Store;
 use sqlite::{Alter, Connection};
 use std::alloc::Global;
 
-/// The room in a database, with the zone of its days.
+/// The room in a database, with the zone of its days: the well-formed room that the tables stood
+/// for, and the zone of its plan.
 pub fn open_room<S: Alter + Drop>(
     alloc: Global,
     conn: Connection<S>,
 ) -> Result<(Store<S>, Zone), Failure>
     requires outside { conn.in_transaction ≡ false }
     ensures ready { IfOk result (λ opened. IsReady S.Store opened.0) }
+    ensures room { IfOk result (λ opened. HasCleanDisk (state S.Store opened.0.conn)
+        → (terminals : List Terminal) × (room : Room) × IsRoom S.Store opened.0 terminals room) }
+    // Of a connection that a fault has shut, the tables tell nothing.
+    ensures same { IfOk result (λ opened. HasCleanDisk (state S.Store opened.0.conn)
+        → IsTrue (state S.Store opened.0.conn).is_open
+        → (house : House) (room : Room) → Stands (state S.Store conn).now.trees house room
+        → (house.zone ≡ opened.0.plan.zone) × IsRoom S.Store opened.0 house.terminals room) }
+    ensures zone { IfOk result (λ opened. IsPosixZone opened.0.plan.zone (zone_of opened.1)) }
 {
     let room = match Store::open(alloc, conn) {
         Ok(room) => room,

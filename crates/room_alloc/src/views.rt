@@ -17,7 +17,7 @@ use room_types::tables::Point;
 use std::alloc::Global;
 
 /// The division's points in number order, each with the number of vehicles that hold it now. The
-/// one refusal is `Memory`.
+/// one refusal is `Memory`, where the list finds none.
 pub fn point_lines(alloc: Global, slice: &Slice, at: Moment) -> Result<Listed<PointLine>, Refusal>
     ensures ok { IfOk result (λ lines. (plan : List Area)
         → show_points slice.now.division at (room_of plan slice.now.rows) ≡ show
@@ -39,24 +39,18 @@ fn lines_of(
 {
     let mut lines = Listed::new(alloc);
     for point in points {
-        lines.push(line_of(slice, point, at)?)?;
+        lines.push(line_of(slice, point, at))?;
     }
     Ok(lines)
 }
 
-// More vehicles than the line can count would be more than memory holds.
-fn line_of(slice: &Slice, point: &Point, at: Moment) -> Result<PointLine, Refusal>
-    ensures ok { IfOk result (λ line.
-        line ≡ point_line slice.now.division at (unplanned slice.now.rows) point.now) }
-    ensures memory { IfErr result (λ refusal. refusal ≡ Memory) }
+fn line_of(slice: &Slice, point: &Point, at: Moment) -> PointLine
+    ensures { result ≡ point_line slice.now.division at (unplanned slice.now.rows) point.now }
 {
-    match u32::try_from(holders(slice, point.number, at)) {
-        Ok(held) => Ok(PointLine {
-            number: point.number,
-            place: point.place,
-            cover: point.cover,
-            held,
-        }),
-        Err(_) => Err(Refusal::Memory),
+    PointLine {
+        number: point.number,
+        place: point.place,
+        cover: point.cover,
+        held: holders(slice, point.number, at) as u64,
     }
 }

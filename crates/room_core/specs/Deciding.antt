@@ -6,6 +6,9 @@ use Rattle.room_types.specs.declared.refusals.Refusal.{Refusal}
 use Rattle.room_types.specs.declared.tables.Report.{Report}
 use Rattle.room_model.specs.Decisions.{Verdict, Decision, refuse_if, show}
 use Rattle.room_model.specs.Reports.{same_press}
+use Rattle.room_model.specs.Room.{Room}
+use Rattle.room_model.specs.Shares.{own}
+use Rattle.room_model.specs.Working.{working}
 use Rattle.room_types.specs.declared.answers.Answer.TheVariants as answer
 use Rattle.room_types.specs.declared.asks.Ask.TheVariants as ask
 use Rattle.room_types.specs.declared.refusals.Refusal.TheVariants as refusal
@@ -15,10 +18,14 @@ abbrev pub Decides : Verdict → Result Decision Refusal → Type 0
 Decides wanted (Ok x) = wanted ≡ Ok x
 Decides wanted (Err e) = (e ≡ refusal.Memory) ⊎ (wanted ≡ Err e)
 
--- The number of the report that a crew's ask reads. An order reads none: any number serves, and it takes the first.
-abbrev pub number_in_hand : Ask → ℕ
-number_in_hand (ask.Report p) = p.number
-number_in_hand a = 1
+-- The rows are those of division d's that the ask may read, or all of them.
+abbrev pub AreRead : ℕ → Ask → Room → Room → Type 0
+AreRead d a rows r = (rows ≡ working d a r) ⊎ (rows ≡ own d r)
+
+-- The report that a crew's ask reads has this number. An order reads none, so that any number serves.
+abbrev pub IsInHand : Ask → ℕ → Type 0
+IsInHand (ask.Report p) n = n ≡ p.number
+IsInHand a n = Unit {0}
 
 -- a kept report gets its kept answer, and its number no other content
 abbrev pub again : Report → Press → Verdict

@@ -12,8 +12,7 @@ ghost use Rattle.room_model.specs.Queries.{kept_call};
 ghost use Rattle.room_model.specs.Room.{Room};
 ghost use Rattle.room_model.specs.Slices.{room_of};
 ghost use Rattle.room_model.specs.WellFormed.{IsWellFormed};
-ghost use Rattle.room_model.specs.Working.{working};
-ghost use Rattle.room_core.specs.Deciding.{Decides};
+ghost use Rattle.room_core.specs.Deciding.{AreRead, Decides};
 
 use crate::decisions::Decision;
 use room_incident::calls::{Taken, take_call};
@@ -25,15 +24,15 @@ use room_types::slices::Slice;
 use room_types::tables::Call;
 use std::alloc::Global;
 
-/// A call that the room has not kept, placed in the slice's division (the caller sees to both). In
-/// every well-formed room whose rows that the call may read are the slice's, the decision is the
-/// room's.
+/// A call that the room has not kept, placed in the slice's division (the caller sees to both).
+/// Where the slice's rows are those that the call may read, or the division's whole share, the
+/// decision is the room's, in every well-formed room.
 pub fn decide_call(alloc: Global, slice: &Slice, new: &NewCall) -> Result<Decision, Refusal>
     ensures { (r : Room) (f : CallForm) → IsWellFormed r
         → new.now ≡ new_call new.now.position f new.now.at
         → kept_call new.now.position f.serial r ≡ None
         → division_of r.plan f.place ≡ Some slice.now.division
-        → room_of r.plan slice.now.rows ≡ working slice.now.division (CallAsk f) r
+        → AreRead slice.now.division (CallAsk f) (room_of r.plan slice.now.rows) r
         → Decides (take_call new.now r) result }
 {
     match take_call(slice, new) {

@@ -1,5 +1,5 @@
 //! What a crew asks, decided on its vehicle's rows.
-ghost use Rattle.std.specs.Prelude.{◌≡◌, Ok, Some, IfOk, IfErr};
+ghost use Rattle.std.specs.Prelude.{◌≡◌, ℕ, Ok, Some, IfOk, IfErr};
 ghost use Rattle.room_types.specs.declared.refusals.Refusal.TheVariants.{Memory};
 ghost use Rattle.room_model.specs.Room.{Room};
 ghost use Rattle.room_model.specs.Slices.{AreCrewRows};
@@ -8,7 +8,7 @@ ghost use Rattle.room_model.specs.WellFormed.{IsWellFormed};
 ghost use Rattle.room_model.specs.Decisions.{tell};
 ghost use Rattle.room_model.specs.Reports.{order_of};
 ghost use Rattle.room_fleet.specs.Reported.{answered, changes_of, reported};
-ghost use Rattle.room_core.specs.Deciding.{Decides, again, number_in_hand};
+ghost use Rattle.room_core.specs.Deciding.{Decides, IsInHand, again};
 
 use crate::decisions::Decision;
 use room_fleet::buttons::{acts, ends_turn};
@@ -22,8 +22,9 @@ use room_types::refusals::Refusal;
 use room_types::tables::Report;
 use std::alloc::Global;
 
-/// What a vehicle's crew asks. In every well-formed room that has these rows of the vehicle, the
-/// decision is the room's. A kept report number gets its kept answer, or is refused where its
+/// What a vehicle's crew asks. In every well-formed room that has these rows of the vehicle the
+/// decision is the room's: of a report with that of its number in hand, if it was kept, and of an
+/// order with whatever report. A kept report number gets its kept answer, or is refused where its
 /// content is another.
 pub fn decide_crew(
     alloc: Global,
@@ -31,8 +32,8 @@ pub fn decide_crew(
     ask: &Ask,
     at: Moment,
 ) -> Result<Decision, Refusal>
-    ensures { (r : Room) → IsWellFormed r
-        → AreCrewRows slice.now.rows.vehicle.callsign (number_in_hand ask.now) r slice.now.rows
+    ensures { (r : Room) (n : ℕ) → IsWellFormed r → IsInHand ask.now n
+        → AreCrewRows slice.now.rows.vehicle.callsign n r slice.now.rows
         → Decides (crew_asks slice.now.rows.vehicle.callsign ask.now at r) result }
 {
     match ask {
@@ -45,9 +46,10 @@ pub fn decide_crew(
     }
 }
 
-/// The number of the report that a crew's request reads, of the reports of its vehicle.
+/// The number of the report that a crew's request reads, of the reports of its vehicle. An order
+/// reads none, and takes any.
 pub fn number_in_hand(ask: &Ask) -> Number
-    ensures { result ≡ number_in_hand ask.now }
+    ensures { IsInHand ask.now result }
 {
     match ask {
         Ask::Report(press) => press.number,

@@ -4,8 +4,7 @@ ghost use Rattle.room_model.specs.Room.{Room};
 ghost use Rattle.room_model.specs.Slices.{room_of};
 ghost use Rattle.room_model.specs.Step.{desk_asks};
 ghost use Rattle.room_model.specs.WellFormed.{IsWellFormed};
-ghost use Rattle.room_model.specs.Working.{working};
-ghost use Rattle.room_core.specs.Deciding.{Decides};
+ghost use Rattle.room_core.specs.Deciding.{AreRead, Decides};
 
 use crate::decisions::Decision;
 use crate::{incidents, lending, queues, vehicles};
@@ -16,9 +15,9 @@ use room_types::refusals::Refusal;
 use room_types::slices::Slice;
 use std::alloc::Global;
 
-/// What a division's desk asks. In every well-formed room of this plan whose rows that the request
-/// may read are the slice's, the decision is the room's. A request that is for no desk is refused
-/// as `WrongRole`.
+/// What a division's desk asks. In every well-formed room of this plan the decision is the room's,
+/// where the slice's rows are those that the request may read, and where they are the division's
+/// whole share. A request that is for no desk is refused as `WrongRole`.
 pub fn decide_desk(
     alloc: Global,
     plan: &Plan,
@@ -27,7 +26,7 @@ pub fn decide_desk(
     at: Moment,
 ) -> Result<Decision, Refusal>
     ensures { (r : Room) → IsWellFormed r → r.plan ≡ plan.now.areas
-        → room_of r.plan slice.now.rows ≡ working slice.now.division ask.now r
+        → AreRead slice.now.division ask.now (room_of r.plan slice.now.rows) r
         → Decides (desk_asks slice.now.division ask.now at r) result }
 {
     decide(alloc, plan, slice, ask, at)

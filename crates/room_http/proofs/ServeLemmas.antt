@@ -1,5 +1,5 @@
 -- Lemmas on a connection that is served.
-use Rattle.std.proofs.Common.{◌≡◌, ◌∙◌, ◌≤◌, subst, sym, refl, ℕ, List, [], ◌∷◌, ◌++◌, map, append-nil, inl, inr, Bool, true, false, Option, Some, None, Ok, Err, All}
+use Rattle.std.proofs.Common.{◌≡◌, ◌∙◌, ◌≤◌, subst, sym, refl, ℕ, List, [], ◌∷◌, ◌++◌, map, append-nil, inl, inr, Bool, true, false, Option, Some, None, Result, Ok, Err, All}
 use Rattle.std.proofs.lemmas.List.{length-map, map-append}
 use Rattle.std.proofs.lemmas.List.Elements.{All-nil, All-push}
 use Rattle.std.specs.Io.KnownBytes.{prepend_known, Keeps, Appends}
@@ -18,9 +18,9 @@ use Rattle.room_http.specs.Arrivals.{Arrival, is_closing, is_head_only, Begins, 
 use Rattle.room_http_time.specs.declared.zones.Zone.{Zone}
 use Rattle.room_service.specs.Rooms.{Step, IsWant}
 use Rattle.room_http.specs.Serving.{Sides, Finish, Answered, Unserved, Broken, LeavesPart, MissesNone, ServeIs}
-use Rattle.room_http.specs.Talk.{Timed, IsFront, BreaksOff, Talks}
+use Rattle.room_http.specs.Talk.{Timed, IsFront, BreaksOff, Stays, Talks, Wants}
 use Rattle.room_http.proofs.StreamLemmas.{Passes, Begins-push}
-use Rattle.room_http.proofs.TalkLemmas.{Talks-none, Talks-append}
+use Rattle.room_http.proofs.TalkLemmas.{Talks-append, Talks-as, Talks-none}
 
 -- the arrivals were answered, all of them stay open, and these bytes are left
 pub record Going (step : Step) (zone : Zone) (old : Sides) (left held given : Option (List ℕ)) (trusted : Type 0) (stood stands : List Terminal → Room → Type 0) (outs : List Timed) : Type 0 where
@@ -55,13 +55,14 @@ ends_missing_none left remains given gives ReadFault ends = absurd ends
 ends_missing_none left remains given gives ReadsSpent ends = absurd ends
 
 module _ (step : Step) (zone : Zone) (old : Sides) where
-  pub Going-none : (trusted : Type 0) (stood : List Terminal → Room → Type 0) → Going step zone old old.left old.held old.given trusted stood stood []
-  Going-none trusted stood = record {
+  pub Going-none : (trusted : Type 0) (stood stands : List Terminal → Room → Type 0) → ((terminals : List Terminal) (room : Room) → stood terminals room → stands terminals room)
+      → Going step zone old old.left old.held old.given trusted stood stands []
+  Going-none trusted stood stands is = record {
     begins = λ stream known. (stream, known, refl);
     stay = All-nil (λ (x : Timed). is_closing x.0 ≡ false);
     timed = All-nil (λ (x : Timed). x.1 ≤ LAST_MOMENT);
     moments = Appends-none old.given;
-    talk = Talks-none step zone trusted stood old.held;
+    talk = Talks-none step zone trusted stood stands old.held is;
   }
 
   module _ (early : Type 0) (stood stays : List Terminal → Room → Type 0) (left held given : Option (List ℕ)) (outs : List Timed) where
@@ -102,112 +103,136 @@ module _ (step : Step) (zone : Zone) (old : Sides) where
           (map (λ x. x.1) outs, length-map outs (λ x. x.1) ∙ sym (length-map outs (λ x. x.0)), before.moments),
         )
 
-    module _ (before : Going step zone old left held given early stood stays outs) (new : Finish) (late : Type 0) (stands : List Terminal → Room → Type 0) (earlier : late → early)
-        (after : Option (List ℕ)) (o : Arrival) (pass : Passes left after o) where
-      begins_more : (at : ℕ) (stream : List ℕ) → old.left ≡ Some stream → (next : List ℕ) × (after ≡ Some next) × Begins stream (map (λ x. x.0) (outs ++ (o, at) ∷ [])) next
-      begins_more at stream known =
-          let begins = before.begins stream known in
-          let passes = pass.passes begins.0 begins.1 in
-          (passes.0, passes.2, Begins-push stream outs begins.0 (o, at) passes.0 begins.2 before.stay passes.1)
+  -- one more arrival
+  module _ (was early : Type 0) (stood stays : List Terminal → Room → Type 0) (lefts : List Terminal → List Room → Type 0) (left held given : Option (List ℕ)) (outs : List Timed)
+      (before : Going step zone old left held given early stood (Stays was stays lefts) outs) (new : Finish) (is_kept late : Type 0) (stands : List Terminal → Room → Type 0) (leaves : List Terminal → List Room → Type 0)
+      (earlier : late → early) (kept : late → was → is_kept) (after : Option (List ℕ)) (o : Arrival) (pass : Passes left after o) where
+    abbrev AnswersHere : Result (Unit {0}) ServeEnd → Type 0
+    AnswersHere = Answers step zone held new.held given new.given new.write_failed new.was_none late stays (Stays is_kept stands leaves) (Wants step zone is_kept stands leaves) o
 
-      has_next : (stream : List ℕ) → old.left ≡ Some stream → (rest : List ℕ) × Begins stream (map (λ x. x.0) outs) rest × HasNext o rest
-      has_next stream known =
-          let begins = before.begins stream known in
-          let passes = pass.passes begins.0 begins.1 in
-          (begins.0, begins.2, (passes.0, passes.1))
+    abbrev ServeHere : ℕ → ServeEnd → Type 0
+    ServeHere = ServeIs step zone old new late stood (Stays was stands leaves) (Wants step zone was stands leaves)
 
-      moments_more : (at : ℕ) → Appends given new.given (at ∷ []) → Appends old.given new.given (map (λ x. x.1) (outs ++ (o, at) ∷ []))
-      moments_more at moment =
-          rw (map-append (λ (x : Timed). x.1) outs ((o, at) ∷ [])) (Appends-more old.given given new.given (map (λ x. x.1) outs) (at ∷ []) before.moments moment)
+    still : late → (terminals : List Terminal) (room : Room) → Stays is_kept stands leaves terminals room → Stays was stands leaves terminals room
+    still trust terminals room it = (it.0, λ before. it.1 (kept trust before))
 
-      timed_more : (at : ℕ) → at ≤ LAST_MOMENT → All (λ x. x.1 ≤ LAST_MOMENT) (outs ++ (o, at) ∷ [])
-      timed_more at within = All-push (λ (x : Timed). x.1 ≤ LAST_MOMENT) outs (o, at) before.timed within
+    still_wants : late → (x : Timed) (terminals : List Terminal) (room : Room) → Wants step zone is_kept stands leaves x terminals room → Wants step zone was stands leaves x terminals room
+    still_wants trust x terminals room it = (it.0, λ before. it.1 (kept trust before))
 
-      -- what is said goes on from here
-      talk_more : (more : List Timed) (says : List Terminal → Room → List ℕ → Type 0) → Talks step zone late stays held new.held more says
-          → Talks step zone late stood old.held new.held (outs ++ more) says
-      talk_more more says talk = Talks-append step zone early late stood stays old.held held new.held outs more says earlier before.talk talk
+    begins_more : (at : ℕ) (stream : List ℕ) → old.left ≡ Some stream → (next : List ℕ) × (after ≡ Some next) × Begins stream (map (λ x. x.0) (outs ++ (o, at) ∷ [])) next
+    begins_more at stream known =
+        let begins = before.begins stream known in
+        let passes = pass.passes begins.0 begins.1 in
+        (passes.0, passes.2, Begins-push stream outs begins.0 (o, at) passes.0 begins.2 before.stay passes.1)
 
-      talk_kept : (says : List Terminal → Room → List ℕ → Type 0) → Talks step zone late stays held new.held [] says
-          → Talks step zone late stood old.held new.held outs says
-      talk_kept says talk = rw append-nil at (talk_more [] says talk)
+    has_next : (stream : List ℕ) → old.left ≡ Some stream → (rest : List ℕ) × Begins stream (map (λ x. x.0) outs) rest × HasNext o rest
+    has_next stream known =
+        let begins = before.begins stream known in
+        let passes = pass.passes begins.0 begins.1 in
+        (begins.0, begins.2, (passes.0, passes.1))
 
-      -- one more was answered, and stays open
-      pub Going-more : Answers step zone held new.held given new.given new.write_failed new.was_none late stays stands o (Ok tt) → is_closing o ≡ false
-          → (more : List Timed) × Going step zone old after new.held new.given late stood stands more
-      Going-more answers open_ =
-          let at = answers.0 in (
-            outs ++ (o, at) ∷ [],
-            record {
-              begins = begins_more at;
-              stay = All-push (λ (x : Timed). is_closing x.0 ≡ false) outs (o, at) before.stay open_;
-              timed = timed_more at answers.1.0;
-              moments = moments_more at answers.1.1;
-              talk = talk_more ((o, at) ∷ []) (λ terminals room tail. stands terminals room × (tail ≡ [])) answers.3;
-            },
-          )
+    moments_more : (at : ℕ) → Appends given new.given (at ∷ []) → Appends old.given new.given (map (λ x. x.1) (outs ++ (o, at) ∷ []))
+    moments_more at moment =
+        rw (map-append (λ (x : Timed). x.1) outs ((o, at) ∷ [])) (Appends-more old.given given new.given (map (λ x. x.1) outs) (at ∷ []) before.moments moment)
 
-      -- one more was answered, and closes
-      pub closes : (budget : ℕ) → Answers step zone held new.held given new.given new.write_failed new.was_none late stays stands o (Ok tt) → is_closing o ≡ true
-          → ServeIs step zone old new late stood stands budget Closed
-      closes budget answers closing =
-          let at = answers.0 in
-          inr (inl (
-            outs ++ (o, at) ∷ [],
-            record {
-              begins = λ stream known. let begins = begins_more at stream known in (begins.0, begins.2, tt);
-              timed = (timed_more at answers.1.0, moments_more at answers.1.1);
-              talk = talk_more ((o, at) ∷ []) (λ terminals room tail. stands terminals room × (tail ≡ [])) answers.3;
-            },
-            (outs, (o, at), refl, closing),
-          ))
+    timed_more : (at : ℕ) → at ≤ LAST_MOMENT → All (λ x. x.1 ≤ LAST_MOMENT) (outs ++ (o, at) ∷ [])
+    timed_more at within = All-push (λ (x : Timed). x.1 ≤ LAST_MOMENT) outs (o, at) before.timed within
 
-      wanted : (at : ℕ) (r : Refusal) (more : List ℕ → List ℕ → Type 0) → at ≤ LAST_MOMENT → Appends given new.given (at ∷ []) → IsWant r
-          → Talks step zone late stays held new.held [] (λ terminals room tail. stands terminals room × more tail (fixed_bytes r (is_head_only o)))
-          → Unserved step zone old new late stood stands outs (o, at) more
-      wanted at r more within moment want talk = record {
-        begins = has_next;
-        timed = (timed_more at within, moments_more at moment);
-        refusal = r;
-        want = want;
-        talk = talk_kept (λ terminals room tail. stands terminals room × more tail (fixed_bytes r (is_head_only o))) talk;
-      }
+    -- what is said goes on from here
+    talk_more : (more : List Timed) (says less : List Terminal → Room → List ℕ → Type 0) → (late → (terminals : List Terminal) (room : Room) (tail : List ℕ) → says terminals room tail → less terminals room tail)
+        → Talks step zone late stays held new.held more says → Talks step zone late stood old.held new.held (outs ++ more) less
+    talk_more more says less tells talk =
+        Talks-append step zone early late stood (Stays was stays lefts) old.held held new.held outs more less earlier before.talk
+        (Talks-as step zone late stays (Stays was stays lefts) held new.held more says less (λ terminals room it. it.0) tells talk)
 
-      broken : (at : ℕ) → at ≤ LAST_MOMENT → Appends given new.given (at ∷ [])
-          → Talks step zone late stays held new.held [] (λ terminals room tail. BreaksOff step zone terminals stands room (o, at) tail)
-          → Broken step zone old new late stood stands outs (o, at)
-      broken at within moment talk = record {
-        begins = λ stream known. let begins = begins_more at stream known in (begins.0, begins.2, tt);
-        timed = (timed_more at within, moments_more at moment);
-        talk = talk_kept (λ terminals room tail. BreaksOff step zone terminals stands room (o, at) tail) talk;
-      }
+    talk_kept : (says less : List Terminal → Room → List ℕ → Type 0) → (late → (terminals : List Terminal) (room : Room) (tail : List ℕ) → says terminals room tail → less terminals room tail)
+        → Talks step zone late stays held new.held [] says → Talks step zone late stood old.held new.held outs less
+    talk_kept says less tells talk = rw append-nil at (talk_more [] says less tells talk)
 
-      -- serving ended with one more
-      pub ends : (budget : ℕ) (e : ServeEnd) → Answers step zone held new.held given new.given new.write_failed new.was_none late stays stands o (Err e)
-          → ServeIs step zone old new late stood stands budget e
-      ends budget Closed answers = inr (inr (outs, (o, answers.0), wanted answers.0 answers.2.0 (λ tail fixed. tail ≡ fixed) answers.1.0 answers.1.1 answers.2.1 answers.2.2))
-      ends budget WriteFault answers = (
-        (
-          outs,
-          (o, answers.0),
-          elim answers.3 [
-            | inl talk ↦ inl (broken answers.0 answers.1.0 answers.1.1 talk)
-            | inr want ↦ inr (wanted answers.0 want.0 IsFront answers.1.0 answers.1.1 want.1 want.2)
-          ],
-        ),
-        answers.2,
-      )
-      ends budget ClockFault answers = (
+    abbrev Said : Type 0 → (List ℕ → Type 0) → List Terminal → Room → List ℕ → Type 0
+    Said before tells terminals room tail = Stays before stands leaves terminals room × tells tail
+
+    more_said : (more : List Timed) (tells : List ℕ → Type 0) → Talks step zone late stays held new.held more (Said is_kept tells) → Talks step zone late stood old.held new.held (outs ++ more) (Said was tells)
+    more_said more tells talk = talk_more more (Said is_kept tells) (Said was tells) (λ trust terminals room tail it. (still trust terminals room it.0, it.1)) talk
+
+    -- one more was answered, and stays open
+    pub Going-more : AnswersHere (Ok tt) → is_closing o ≡ false
+        → (more : List Timed) × Going step zone old after new.held new.given late stood (Stays was stands leaves) more
+    Going-more answers open_ =
+        let at = answers.0 in (
+          outs ++ (o, at) ∷ [],
+          record {
+            begins = begins_more at;
+            stay = All-push (λ (x : Timed). is_closing x.0 ≡ false) outs (o, at) before.stay open_;
+            timed = timed_more at answers.1.0;
+            moments = moments_more at answers.1.1;
+            talk = more_said ((o, at) ∷ []) (λ tail. tail ≡ []) answers.3;
+          },
+        )
+
+    -- one more was answered, and closes
+    pub closes : (budget : ℕ) → AnswersHere (Ok tt) → is_closing o ≡ true → ServeHere budget Closed
+    closes budget answers closing =
+        let at = answers.0 in
+        inr (inl (
+          outs ++ (o, at) ∷ [],
+          record {
+            begins = λ stream known. let begins = begins_more at stream known in (begins.0, begins.2, tt);
+            timed = (timed_more at answers.1.0, moments_more at answers.1.1);
+            talk = more_said ((o, at) ∷ []) (λ tail. tail ≡ []) answers.3;
+          },
+          (outs, (o, at), refl, closing),
+        ))
+
+    wanted : (at : ℕ) (r : Refusal) (more : List ℕ → List ℕ → Type 0) → at ≤ LAST_MOMENT → Appends given new.given (at ∷ []) → IsWant r
+        → Talks step zone late stays held new.held [] (λ terminals room tail. Wants step zone is_kept stands leaves (o, at) terminals room × more tail (fixed_bytes r (is_head_only o)))
+        → Unserved step zone old new late stood (Stays was stands leaves) (Wants step zone was stands leaves) outs (o, at) more
+    wanted at r more within moment want talk = record {
+      begins = has_next;
+      next = λ stream known. let begins = begins_more at stream known in (begins.0, begins.2, tt);
+      timed = (timed_more at within, moments_more at moment);
+      refusal = r;
+      want = want;
+      talk = talk_kept (λ terminals room tail. Wants step zone is_kept stands leaves (o, at) terminals room × more tail (fixed_bytes r (is_head_only o)))
+          (λ terminals room tail. Wants step zone was stands leaves (o, at) terminals room × more tail (fixed_bytes r (is_head_only o))) (λ trust terminals room tail it. (still_wants trust (o, at) terminals room it.0, it.1)) talk;
+    }
+
+    broken : (at : ℕ) → at ≤ LAST_MOMENT → Appends given new.given (at ∷ [])
+        → Talks step zone late stays held new.held [] (λ terminals room tail. BreaksOff step zone terminals (Stays is_kept stands leaves) room (o, at) tail)
+        → Broken step zone old new late stood (Stays was stands leaves) outs (o, at)
+    broken at within moment talk = record {
+      begins = λ stream known. let begins = begins_more at stream known in (begins.0, begins.2, tt);
+      timed = (timed_more at within, moments_more at moment);
+      talk = talk_kept (λ terminals room tail. BreaksOff step zone terminals (Stays is_kept stands leaves) room (o, at) tail)
+          (λ terminals room tail. BreaksOff step zone terminals (Stays was stands leaves) room (o, at) tail)
+          (λ trust terminals room tail it. (it.0, it.1, it.2, still trust terminals it.0 it.3, it.4)) talk;
+    }
+
+    -- serving ended with one more
+    pub ends : (budget : ℕ) (e : ServeEnd) → AnswersHere (Err e) → ServeHere budget e
+    ends budget Closed answers = inr (inr (outs, (o, answers.0), wanted answers.0 answers.2.0 (λ tail fixed. tail ≡ fixed) answers.1.0 answers.1.1 answers.2.1 answers.2.2))
+    ends budget WriteFault answers = (
+      (
         outs,
-        o,
-        record {
-          begins = has_next;
-          timed = before.timed;
-          clock = no_moment_later old.given given new.given new.was_none (map (λ x. x.1) outs) before.moments answers.0;
-          talk = talk_kept (λ terminals room tail. stands terminals room × (tail ≡ [])) answers.1;
-        },
-      )
-      ends budget Cut answers = absurd answers
-      ends budget ReadFault answers = absurd answers
-      ends budget ReadsSpent answers = absurd answers
-      ends budget Memory answers = absurd answers
+        (o, answers.0),
+        elim answers.3 [
+          | inl talk ↦ inl (broken answers.0 answers.1.0 answers.1.1 talk)
+          | inr want ↦ inr (wanted answers.0 want.0 IsFront answers.1.0 answers.1.1 want.1 want.2)
+        ],
+      ),
+      answers.2,
+    )
+    ends budget ClockFault answers = (
+      outs,
+      o,
+      record {
+        begins = has_next;
+        timed = before.timed;
+        clock = no_moment_later old.given given new.given new.was_none (map (λ x. x.1) outs) before.moments answers.0;
+        talk = talk_kept (Said is_kept (λ tail. tail ≡ [])) (Said was (λ tail. tail ≡ [])) (λ trust terminals room tail it. (still trust terminals room it.0, it.1)) answers.1;
+      },
+    )
+    ends budget Cut answers = absurd answers
+    ends budget ReadFault answers = absurd answers
+    ends budget ReadsSpent answers = absurd answers
+    ends budget Memory answers = absurd answers

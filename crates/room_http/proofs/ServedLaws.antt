@@ -1,7 +1,7 @@
 -- What was served is a run that keeps the promises.
 use Rattle.std.proofs.Common.{◌≡◌, ◌∙◌, ap, append-nil, inl, inr, refl, subst, sym, ℕ, List, [], ◌∷◌, ◌++◌, Bool, map, Option, Some, Result, Ok, Err}
 use Rattle.std.proofs.lemmas.List.{map-append}
-use Rattle.std.specs.Prelude.{⊤}
+use Rattle.std.specs.Prelude.{⊤, ◌⊎◌}
 use Rattle.std.specs.Io.KnownBytes.{Appends}
 use Rattle.room_types.specs.declared.fleet.Terminal.{Terminal}
 use Rattle.room_types.specs.declared.refusals.Refusal.{Refusal}
@@ -20,63 +20,82 @@ use Rattle.room_http.specs.Arrivals.{Arrival, Begins, HasNext, is_head_only}
 use Rattle.room_http.specs.Served.{AreFirst, AreGiven, AreWritten, IsAtMost, IsWantTail, KeepsPromises, Served}
 use Rattle.room_http.specs.Runs.{Exchange, IsRun, IsTold, arrivals_of, room_by}
 use Rattle.room_http.specs.Serving.{Answered, Broken, Finish, ServeIs, Sides, Unserved, Untimed}
-use Rattle.room_http.specs.Talk.{BreaksOff, IsFront, IsTalk, Talks, Timed, replied}
+use Rattle.room_http.specs.Talk.{BreaksOff, IsFront, IsTalk, LeavesNext, Stays, Talks, Timed, Wants, replied}
 use Rattle.room_http.proofs.PromiseLaws.{promises_kept}
 use Rattle.room_http.proofs.RunLemmas.{answered_join, room_push, run_of, talk_run}
 use Rattle.room_http.proofs.TalkLemmas.{Talks-none}
 
-module _ (zone : Zone) (are : List Timed → Type 0) (held holds : Option (List ℕ)) (stands : List Terminal → Room → Type 0) (terminals : List Terminal) (room : Room)
-    (fit : AreTerminals room terminals) (formed : IsWellFormed room) where
-  served_by : (xs : List Exchange) (written : List ℕ) → IsRun zone terminals xs room → are (arrivals_of xs) → stands terminals (room_by xs room)
-      → Appends held holds written → AreWritten xs written → Served zone are held holds stands terminals room
-  served_by xs written run arrivals after appends so_far = record {
-    exchanges = xs;
-    arrivals = arrivals;
-    run = run;
-    after = after;
-    written = (written, appends, so_far);
-    promises = promises_kept zone terminals xs room formed run;
-  }
+module _ (zone : Zone) (are : List Timed → Type 0) (was_kept : Type 0) (stands : List Terminal → Room → Type 0) (leaves : List Terminal → List Room → Type 0) where
+  -- the room after these arrivals, and what a stop leaves of it
+  abbrev IsLeft : List Timed → List Terminal → Room → Type 0
+  IsLeft outs terminals room =
+      stands terminals room × (was_kept → leaves terminals (room ∷ []) ⊎ ((x : Timed) × are (outs ++ x ∷ []) × LeavesNext machine zone leaves x terminals room))
 
-  -- the answers were written, and a tail
-  whole : (outs : List Timed) (after : Room) (bytes tail : List ℕ) → are outs → IsTalk machine zone terminals room outs after bytes → stands terminals after
-      → IsWantTail tail → Appends held holds (bytes ++ tail) → Served zone are held holds stands terminals room
-  whole outs after bytes tail arrivals talk stay wants appends =
-      let of = talk_run zone terminals room outs after bytes fit talk in
-      served_by of.0 (bytes ++ tail) of.1.run (subst are (sym of.1.arrivals) arrivals) (subst (stands terminals) (sym of.1.leads) stay) appends
-      (inl (tail, wants, ap (λ b. b ++ tail) (sym of.1.told)))
+  alone : (outs : List Timed) (terminals : List Terminal) (room : Room) → Stays was_kept stands leaves terminals room → IsLeft outs terminals room
+  alone outs terminals room stays = (stays.0, λ was. inl (stays.1 was))
 
-  -- the last answer was not written wholly
-  short : (outs : List Timed) (x : Timed) (now : Room) (bytes tail : List ℕ) → are (outs ++ x ∷ []) → IsTalk machine zone terminals room outs now bytes
-      → BreaksOff machine zone terminals stands now x tail → Appends held holds (bytes ++ tail) → Served zone are held holds stands terminals room
-  short outs x now bytes tail arrivals talk (after, answer, (found, finds, is, replies), stay, front) appends =
-      let of = talk_run zone terminals room outs now bytes fit talk in
-      let last : Exchange = record { arrival = x; found = found; bytes = answer } in
-      let outs_are : arrivals_of (of.0 ++ last ∷ []) ≡ outs ++ x ∷ [] = map-append (λ (y : Exchange). y.arrival) of.0 (last ∷ []) ∙ ap (λ os. os ++ x ∷ []) of.1.arrivals in
-      let leads : room_by (of.0 ++ last ∷ []) room ≡ after = room_push of.0 last room ∙ ap (λ r. (replied machine found r).0) of.1.leads ∙ sym is in
-      let told : IsTold last (replied machine found (room_by of.0 room)).1 = subst (λ r. IsTold last (replied machine found r).1) (sym of.1.leads) replies in
-      served_by (of.0 ++ last ∷ []) (bytes ++ tail) (run_of zone terminals room (of.0 ++ last ∷ []) fit (answered_join zone terminals of.0 (last ∷ []) room of.1.run.answered (finds, told, tt)))
-      (subst are (sym outs_are) arrivals) (subst (stands terminals) (sym leads) stay) appends
-      (inr (of.0, last, tail, refl, front, ap (λ b. b ++ tail) (sym of.1.told)))
+  wanting : (outs : List Timed) (x : Timed) → are (outs ++ x ∷ []) → (terminals : List Terminal) (room : Room) → Wants machine zone was_kept stands leaves x terminals room → IsLeft outs terminals room
+  wanting outs x first terminals room wants = (wants.0, λ was. elim (wants.1 was) [ inl one ↦ inl one | inr next ↦ inr (x, first, next) ])
 
-module _ (zone : Zone) (are : List Timed → Type 0) (held holds : Option (List ℕ)) (trusted : Type 0) (stood stands : List Terminal → Room → Type 0)
-    (fit : (terminals : List Terminal) (room : Room) → stood terminals room → AreTerminals room terminals) where
-  kept_whole : (outs : List Timed) (tells : List ℕ → Type 0) → are outs → ((tail : List ℕ) → tells tail → IsWantTail tail)
-      → Talks machine zone trusted stood held holds outs (λ terminals after tail. stands terminals after × tells tail) → KeepsPromises zone are held holds trusted stood stands
-  kept_whole outs tells arrivals wants talk trust terminals room standing formed =
-      let t = talk trust terminals room standing in
-      whole zone are held holds stands terminals room (fit terminals room standing) formed outs t.0 t.1 t.2 arrivals t.3 t.4.0 (wants t.2 t.4.1) t.5
+module _ (zone : Zone) (are : List Timed → Type 0) (held holds : Option (List ℕ)) (was_kept : Type 0) (stands : List Terminal → Room → Type 0) (leaves : List Terminal → List Room → Type 0) where
+  abbrev LeftHere : List Timed → List Terminal → Room → Type 0
+  LeftHere = IsLeft zone are was_kept stands leaves
 
-  kept_short : (outs : List Timed) (x : Timed) → are (outs ++ x ∷ [])
-      → Talks machine zone trusted stood held holds outs (λ terminals after tail. BreaksOff machine zone terminals stands after x tail) → KeepsPromises zone are held holds trusted stood stands
-  kept_short outs x arrivals talk trust terminals room standing formed =
-      let t = talk trust terminals room standing in
-      short zone are held holds stands terminals room (fit terminals room standing) formed outs x t.0 t.1 t.2 arrivals t.3 t.4 t.5
+  module _ (terminals : List Terminal) (room : Room) (fit : AreTerminals room terminals) (formed : IsWellFormed room) where
+    served_by : (xs : List Exchange) (written : List ℕ) → IsRun zone terminals xs room → are (arrivals_of xs) → LeftHere (arrivals_of xs) terminals (room_by xs room)
+        → Appends held holds written → AreWritten xs written → Served zone are held holds was_kept stands leaves terminals room
+    served_by xs written run arrivals after appends so_far = record {
+      exchanges = xs;
+      arrivals = arrivals;
+      run = run;
+      after = after.0;
+      written = (written, appends, so_far);
+      promises = promises_kept zone terminals xs room formed run;
+      kept = after.1;
+    }
+
+    -- the answers were written, and a tail
+    whole : (outs : List Timed) (after : Room) (bytes tail : List ℕ) → are outs → IsTalk machine zone terminals room outs after bytes → LeftHere outs terminals after
+        → IsWantTail tail → Appends held holds (bytes ++ tail) → Served zone are held holds was_kept stands leaves terminals room
+    whole outs after bytes tail arrivals talk stay wants appends =
+        let of = talk_run zone terminals room outs after bytes fit talk in
+        served_by of.0 (bytes ++ tail) of.1.run (subst are (sym of.1.arrivals) arrivals) (subst (λ os. LeftHere os terminals (room_by of.0 room)) (sym of.1.arrivals) (subst (LeftHere outs terminals) (sym of.1.leads) stay)) appends
+        (inl (tail, wants, ap (λ b. b ++ tail) (sym of.1.told)))
+
+    -- the last answer was not written wholly
+    short : (outs : List Timed) (x : Timed) (now : Room) (bytes tail : List ℕ) → are (outs ++ x ∷ []) → IsTalk machine zone terminals room outs now bytes
+        → BreaksOff machine zone terminals (Stays was_kept stands leaves) now x tail → Appends held holds (bytes ++ tail) → Served zone are held holds was_kept stands leaves terminals room
+    short outs x now bytes tail arrivals talk (after, answer, (found, finds, is, replies), stay, front) appends =
+        let of = talk_run zone terminals room outs now bytes fit talk in
+        let last : Exchange = record { arrival = x; found = found; bytes = answer } in
+        let outs_are : arrivals_of (of.0 ++ last ∷ []) ≡ outs ++ x ∷ [] = map-append (λ (y : Exchange). y.arrival) of.0 (last ∷ []) ∙ ap (λ os. os ++ x ∷ []) of.1.arrivals in
+        let leads : room_by (of.0 ++ last ∷ []) room ≡ after = room_push of.0 last room ∙ ap (λ r. (replied machine found r).0) of.1.leads ∙ sym is in
+        let told : IsTold last (replied machine found (room_by of.0 room)).1 = subst (λ r. IsTold last (replied machine found r).1) (sym of.1.leads) replies in
+        served_by (of.0 ++ last ∷ []) (bytes ++ tail) (run_of zone terminals room (of.0 ++ last ∷ []) fit (answered_join zone terminals of.0 (last ∷ []) room of.1.run.answered (finds, told, tt)))
+        (subst are (sym outs_are) arrivals) (subst (LeftHere (arrivals_of (of.0 ++ last ∷ [])) terminals) (sym leads) (alone zone are was_kept stands leaves (arrivals_of (of.0 ++ last ∷ [])) terminals after stay)) appends
+        (inr (of.0, last, tail, refl, front, ap (λ b. b ++ tail) (sym of.1.told)))
+
+  module _ (trusted : Type 0) (stood : List Terminal → Room → Type 0) (fit : (terminals : List Terminal) (room : Room) → stood terminals room → AreTerminals room terminals) where
+    kept_whole : (outs : List Timed) (says : List Terminal → Room → Type 0) (tells : List ℕ → Type 0) → are outs → ((terminals : List Terminal) (room : Room) → says terminals room → LeftHere outs terminals room)
+        → ((tail : List ℕ) → tells tail → IsWantTail tail)
+        → Talks machine zone trusted stood held holds outs (λ terminals after tail. says terminals after × tells tail) → KeepsPromises zone are held holds trusted was_kept stood stands leaves
+    kept_whole outs says tells arrivals left wants talk trust terminals room standing formed =
+        let t = talk trust terminals room standing in
+        whole terminals room (fit terminals room standing) formed outs t.0 t.1 t.2 arrivals t.3 (left terminals t.0 t.4.0) (wants t.2 t.4.1) t.5
+
+    kept_short : (outs : List Timed) (x : Timed) → are (outs ++ x ∷ [])
+        → Talks machine zone trusted stood held holds outs (λ terminals after tail. BreaksOff machine zone terminals (Stays was_kept stands leaves) after x tail) → KeepsPromises zone are held holds trusted was_kept stood stands leaves
+    kept_short outs x arrivals talk trust terminals room standing formed =
+        let t = talk trust terminals room standing in
+        short terminals room (fit terminals room standing) formed outs x t.0 t.1 t.2 arrivals t.3 t.4 t.5
 
 -- nothing was answered
-pub none_served : (zone : Zone) (are : List Timed → Type 0) (held : Option (List ℕ)) (trusted : Type 0) (stood : List Terminal → Room → Type 0)
-    → ((terminals : List Terminal) (room : Room) → stood terminals room → AreTerminals room terminals) → are [] → KeepsPromises zone are held held trusted stood stood
-none_served zone are held trusted stood fit none = kept_whole zone are held held trusted stood stood fit [] (λ tail. tail ≡ []) none (λ tail is. inl is) (Talks-none machine zone trusted stood held)
+pub none_served : (zone : Zone) (are : List Timed → Type 0) (held : Option (List ℕ)) (was_kept trusted : Type 0) (stood : List Terminal → Room → Type 0) (leaves : List Terminal → List Room → Type 0)
+    → ((terminals : List Terminal) (room : Room) → stood terminals room → AreTerminals room terminals) → ((terminals : List Terminal) (room : Room) → was_kept → stood terminals room → leaves terminals (room ∷ []))
+    → are [] → KeepsPromises zone are held held trusted was_kept stood stood leaves
+none_served zone are held was_kept trusted stood leaves fit leaves_it none =
+    kept_whole zone are held held was_kept stood leaves trusted stood fit [] (Stays was_kept stood leaves) (λ tail. tail ≡ []) none (alone zone are was_kept stood leaves []) (λ tail is. inl is)
+    (Talks-none machine zone trusted stood (Stays was_kept stood leaves) held (λ terminals room standing. (standing, λ was. leaves_it terminals room was standing)))
 
 -- a fixed answer that was written, or some first bytes of it
 all_of : (r : Refusal) (head_only : Bool) → IsWant r → (tail : List ℕ) → tail ≡ fixed_bytes r head_only → IsWantTail tail
@@ -86,33 +105,41 @@ some_of : (r : Refusal) (head_only : Bool) → IsWant r → (tail : List ℕ) �
 some_of r head_only want tail is = inr (r, want, head_only, is)
 
 -- ---- one arrival
-module _ (zone : Zone) (held holds given gives : Option (List ℕ)) (write_failed was_none : Bool) (trusted : Type 0) (stood stands : List Terminal → Room → Type 0)
+module _ (zone : Zone) (held holds given gives : Option (List ℕ)) (write_failed was_none : Bool) (was_kept trusted : Type 0) (stood stands : List Terminal → Room → Type 0) (leaves : List Terminal → List Room → Type 0)
     (fit : (terminals : List Terminal) (room : Room) → stood terminals room → AreTerminals room terminals) (o : Arrival) where
   abbrev KeptOne : Type 0
-  KeptOne = KeepsPromises zone (IsAtMost o given gives) held holds trusted stood stands
+  KeptOne = KeepsPromises zone (IsAtMost o given gives) held holds trusted was_kept stood stands leaves
 
-  none_answered : (tells : List ℕ → Type 0) → ((tail : List ℕ) → tells tail → IsWantTail tail)
-      → Talks machine zone trusted stood held holds [] (λ terminals after tail. stands terminals after × tells tail) → KeptOne
-  none_answered tells wants talk = kept_whole zone (IsAtMost o given gives) held holds trusted stood stands fit [] tells tt wants talk
+  abbrev AnswersHere : Step → Result (Unit {0}) ServeEnd → Type 0
+  AnswersHere step result = Answers step zone held holds given gives write_failed was_none trusted stood (Stays was_kept stands leaves) (Wants step zone was_kept stands leaves) o result
 
-  kept_one : (result : Result (Unit {0}) ServeEnd) → Answers machine zone held holds given gives write_failed was_none trusted stood stands o result → KeptOne
+  none_answered : (says : List Terminal → Room → Type 0) (tells : List ℕ → Type 0) → ((terminals : List Terminal) (room : Room) → says terminals room → IsLeft zone (IsAtMost o given gives) was_kept stands leaves [] terminals room)
+      → ((tail : List ℕ) → tells tail → IsWantTail tail)
+      → Talks machine zone trusted stood held holds [] (λ terminals after tail. says terminals after × tells tail) → KeptOne
+  none_answered says tells left wants talk = kept_whole zone (IsAtMost o given gives) held holds was_kept stands leaves trusted stood fit [] says tells tt left wants talk
+
+  kept_one : (result : Result (Unit {0}) ServeEnd) → AnswersHere machine result → KeptOne
   kept_one (Ok done) a =
-      kept_whole zone (IsAtMost o given gives) held holds trusted stood stands fit ((o, a.0) ∷ []) (λ tail. tail ≡ []) (refl, ([], a.1.1)) (λ tail is. inl is) a.3
-  kept_one (Err Closed) a = none_answered (λ tail. tail ≡ fixed_bytes a.2.0 (is_head_only o)) (all_of a.2.0 (is_head_only o) a.2.1) a.2.2
+      kept_whole zone (IsAtMost o given gives) held holds was_kept stands leaves trusted stood fit ((o, a.0) ∷ []) (Stays was_kept stands leaves) (λ tail. tail ≡ []) (refl, ([], a.1.1))
+      (alone zone (IsAtMost o given gives) was_kept stands leaves ((o, a.0) ∷ [])) (λ tail is. inl is) a.3
+  kept_one (Err Closed) a =
+      none_answered (Wants machine zone was_kept stands leaves (o, a.0)) (λ tail. tail ≡ fixed_bytes a.2.0 (is_head_only o)) (wanting zone (IsAtMost o given gives) was_kept stands leaves [] (o, a.0) (refl, ([], a.1.1)))
+      (all_of a.2.0 (is_head_only o) a.2.1) a.2.2
   kept_one (Err WriteFault) a = elim a.3 [
-    | inl talk ↦ kept_short zone (IsAtMost o given gives) held holds trusted stood stands fit [] (o, a.0) (refl, ([], a.1.1)) talk
-    | inr want ↦ none_answered (λ tail. IsFront tail (fixed_bytes want.0 (is_head_only o))) (some_of want.0 (is_head_only o) want.1) want.2
+    | inl talk ↦ kept_short zone (IsAtMost o given gives) held holds was_kept stands leaves trusted stood fit [] (o, a.0) (refl, ([], a.1.1)) talk
+    | inr want ↦
+        none_answered (Wants machine zone was_kept stands leaves (o, a.0)) (λ tail. IsFront tail (fixed_bytes want.0 (is_head_only o))) (wanting zone (IsAtMost o given gives) was_kept stands leaves [] (o, a.0) (refl, ([], a.1.1)))
+        (some_of want.0 (is_head_only o) want.1) want.2
   ]
-  kept_one (Err ClockFault) a = none_answered (λ tail. tail ≡ []) (λ tail is. inl is) a.1
+  kept_one (Err ClockFault) a =
+      none_answered (Stays was_kept stands leaves) (λ tail. tail ≡ []) (alone zone (IsAtMost o given gives) was_kept stands leaves []) (λ tail is. inl is) a.1
   kept_one (Err Cut) a = absurd a
   kept_one (Err ReadFault) a = absurd a
   kept_one (Err ReadsSpent) a = absurd a
   kept_one (Err Memory) a = absurd a
 
-  pub one_promised : (step : Step) (result : Result (Unit {0}) ServeEnd) → Answers step zone held holds given gives write_failed was_none trusted stood stands o result
-      → step ≡ machine → KeptOne
-  one_promised step result a same =
-      kept_one result (subst (λ (s : Step). Answers s zone held holds given gives write_failed was_none trusted stood stands o result) same a)
+  pub one_promised : (step : Step) (result : Result (Unit {0}) ServeEnd) → AnswersHere step result → step ≡ machine → KeptOne
+  one_promised step result a same = kept_one result (subst (λ (s : Step). AnswersHere s result) same a)
 
 -- ---- a connection
 -- what the stream begins with, whatever follows
@@ -131,38 +158,46 @@ no_moment : (given gives : Option (List ℕ)) (was_none : Bool) (outs : List Tim
 no_moment given gives was_none outs (inl none) = no_more given gives outs none.1
 no_moment given gives was_none outs (inr late) = (late.0 ∷ [], late.2)
 
-module _ (zone : Zone) (old : Sides) (new : Finish) (trusted : Type 0) (stood stands : List Terminal → Room → Type 0)
+module _ (zone : Zone) (old : Sides) (new : Finish) (was_kept trusted : Type 0) (stood stands : List Terminal → Room → Type 0) (leaves : List Terminal → List Room → Type 0)
     (fit : (terminals : List Terminal) (room : Room) → stood terminals room → AreTerminals room terminals) where
   abbrev AreFirstHere : List Timed → Type 0
   AreFirstHere outs = AreFirst old.left old.given new.given outs
 
-  abbrev Kept : Type 0
-  Kept = KeepsPromises zone (AreFirst old.left old.given new.given) old.held new.held trusted stood stands
+  abbrev StaysHere : List Terminal → Room → Type 0
+  StaysHere = Stays was_kept stands leaves
 
-  kept_answered : (outs : List Timed) (follows : List ℕ → Type 0) → Answered machine zone old new trusted stood stands outs follows → Kept
-  kept_answered outs follows a =
-      kept_whole zone AreFirstHere old.held new.held trusted stood stands fit outs (λ tail. tail ≡ [])
-      (firsts old.left old.given new.given outs follows a.begins (no_more old.given new.given outs a.timed.1)) (λ tail is. inl is) a.talk
+  abbrev ServeHere : Step → ℕ → ServeEnd → Type 0
+  ServeHere step = ServeIs step zone old new trusted stood StaysHere (Wants step zone was_kept stands leaves)
+
+  abbrev Kept : Type 0
+  Kept = KeepsPromises zone (AreFirst old.left old.given new.given) old.held new.held trusted was_kept stood stands leaves
+
+  kept_all : (outs : List Timed) → AreFirstHere outs → Talks machine zone trusted stood old.held new.held outs (λ terminals after tail. StaysHere terminals after × (tail ≡ [])) → Kept
+  kept_all outs first talk =
+      kept_whole zone AreFirstHere old.held new.held was_kept stands leaves trusted stood fit outs StaysHere (λ tail. tail ≡ []) first (alone zone AreFirstHere was_kept stands leaves outs) (λ tail is. inl is) talk
+
+  kept_answered : (outs : List Timed) (follows : List ℕ → Type 0) → Answered machine zone old new trusted stood StaysHere outs follows → Kept
+  kept_answered outs follows a = kept_all outs (firsts old.left old.given new.given outs follows a.begins (no_more old.given new.given outs a.timed.1)) a.talk
 
   kept_unserved : (outs : List Timed) (x : Timed) (so_much : List ℕ → List ℕ → Type 0)
       → ((r : Refusal) (head_only : Bool) → IsWant r → (tail : List ℕ) → so_much tail (fixed_bytes r head_only) → IsWantTail tail)
-      → Unserved machine zone old new trusted stood stands outs x so_much → Kept
+      → Unserved machine zone old new trusted stood StaysHere (Wants machine zone was_kept stands leaves) outs x so_much → Kept
   kept_unserved outs x so_much wants u =
-      kept_whole zone AreFirstHere old.held new.held trusted stood stands fit outs (λ tail. so_much tail (fixed_bytes u.refusal (is_head_only x.0)))
-      (firsts old.left old.given new.given outs (HasNext x.0) u.begins (one_more old.given new.given outs x u.timed.1)) (wants u.refusal (is_head_only x.0) u.want) u.talk
+      kept_whole zone AreFirstHere old.held new.held was_kept stands leaves trusted stood fit outs (Wants machine zone was_kept stands leaves x) (λ tail. so_much tail (fixed_bytes u.refusal (is_head_only x.0)))
+      (firsts old.left old.given new.given outs (HasNext x.0) u.begins (one_more old.given new.given outs x u.timed.1))
+      (wanting zone AreFirstHere was_kept stands leaves outs x (firsts old.left old.given new.given (outs ++ x ∷ []) (λ rest. ⊤) u.next (no_more old.given new.given (outs ++ x ∷ []) u.timed.1)))
+      (wants u.refusal (is_head_only x.0) u.want) u.talk
 
-  kept_untimed : (outs : List Timed) (o : Arrival) → Untimed machine zone old new trusted stood stands outs o → Kept
-  kept_untimed outs o u =
-      kept_whole zone AreFirstHere old.held new.held trusted stood stands fit outs (λ tail. tail ≡ [])
-      (firsts old.left old.given new.given outs (HasNext o) u.begins (no_moment old.given new.given new.was_none outs u.clock)) (λ tail is. inl is) u.talk
+  kept_untimed : (outs : List Timed) (o : Arrival) → Untimed machine zone old new trusted stood StaysHere outs o → Kept
+  kept_untimed outs o u = kept_all outs (firsts old.left old.given new.given outs (HasNext o) u.begins (no_moment old.given new.given new.was_none outs u.clock)) u.talk
 
-  kept_broken : (outs : List Timed) (x : Timed) → Broken machine zone old new trusted stood stands outs x → Kept
+  kept_broken : (outs : List Timed) (x : Timed) → Broken machine zone old new trusted stood StaysHere outs x → Kept
   kept_broken outs x b =
-      kept_short zone AreFirstHere old.held new.held trusted stood stands fit outs x
+      kept_short zone AreFirstHere old.held new.held was_kept stands leaves trusted stood fit outs x
       (firsts old.left old.given new.given (outs ++ x ∷ []) (λ rest. ⊤) b.begins (no_more old.given new.given (outs ++ x ∷ []) b.timed.1)) b.talk
 
   -- however serving ended
-  kept : (budget : ℕ) (end : ServeEnd) → ServeIs machine zone old new trusted stood stands budget end → Kept
+  kept : (budget : ℕ) (end : ServeEnd) → ServeHere machine budget end → Kept
   kept budget Closed (inl ended) = kept_answered ended.0 (λ rest. rest ≡ []) ended.1
   kept budget Closed (inr (inl closed)) = kept_answered closed.0 (λ rest. ⊤) closed.1
   kept budget Closed (inr (inr want)) = kept_unserved want.0 want.1 (λ tail fixed. tail ≡ fixed) all_of want.2
@@ -176,6 +211,5 @@ module _ (zone : Zone) (old : Sides) (new : Finish) (trusted : Type 0) (stood st
   kept budget ReadsSpent used = kept_answered used.0 (λ rest. ⊤) used.1
   kept budget Memory refused = kept_answered [] (λ rest. ⊤) refused.0
 
-  pub promised : (step : Step) (budget : ℕ) (end : ServeEnd) → ServeIs step zone old new trusted stood stands budget end → step ≡ machine
-      → Kept
-  promised step budget end is same = kept budget end (subst (λ (s : Step). ServeIs s zone old new trusted stood stands budget end) same is)
+  pub promised : (step : Step) (budget : ℕ) (end : ServeEnd) → ServeHere step budget end → step ≡ machine → Kept
+  promised step budget end is same = kept budget end (subst (λ (s : Step). ServeHere s budget end) same is)

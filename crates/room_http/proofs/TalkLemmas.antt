@@ -32,9 +32,18 @@ joined a b c first none second tail is one two =
     rw append_assoc (Appends-more a b c first (second ++ tail) whole two)
 
 module _ (step : Step) (zone : Zone) where
-  pub Talks-none : (trusted : Type 0) (stood : List Terminal → Room → Type 0) (held : Option (List ℕ))
-      → Talks step zone trusted stood held held [] (λ terminals after tail. stood terminals after × (tail ≡ []))
-  Talks-none trusted stood held = λ _ terminals room stands. (room, [], [], (refl, refl), (stands, refl), Appends-none held)
+  pub Talks-none : (trusted : Type 0) (stood stands : List Terminal → Room → Type 0) (held : Option (List ℕ)) → ((terminals : List Terminal) (room : Room) → stood terminals room → stands terminals room)
+      → Talks step zone trusted stood held held [] (λ terminals after tail. stands terminals after × (tail ≡ []))
+  Talks-none trusted stood stands held is = λ _ terminals room standing. (room, [], [], (refl, refl), (is terminals room standing, refl), Appends-none held)
+
+  -- a talk of which less is known before, and less is said
+  pub Talks-as : (trusted : Type 0) (stood knows : List Terminal → Room → Type 0) (held holds : Option (List ℕ)) (outs : List Timed) (says less : List Terminal → Room → List ℕ → Type 0)
+      → ((terminals : List Terminal) (room : Room) → knows terminals room → stood terminals room)
+      → (trusted → (terminals : List Terminal) (room : Room) (tail : List ℕ) → says terminals room tail → less terminals room tail)
+      → Talks step zone trusted stood held holds outs says → Talks step zone trusted knows held holds outs less
+  Talks-as trusted stood knows held holds outs says less is tells talk trust terminals room standing =
+      let x = talk trust terminals room (is terminals room standing) in
+      (x.0, x.1, x.2, x.3, tells trust terminals x.0 x.2 x.4, x.5)
 
   -- a talk goes on where another one ended
   pub Talks-append : (early late : Type 0) (stood stays : List Terminal → Room → Type 0) (a b c : Option (List ℕ)) (outs more : List Timed)

@@ -12,7 +12,7 @@ use Rattle.room_http.specs.Arrivals.{Arrival, is_head_only}
 use Rattle.room_http_time.specs.Moments.{HasNoMoment}
 use Rattle.room_http_answers.specs.Replies.{fixed_bytes}
 use Rattle.room_http_time.specs.declared.zones.Zone.{Zone}
-use Rattle.room_http.specs.Talk.{Talks, IsFront, BreaksOff}
+use Rattle.room_http.specs.Talk.{Timed, Talks, IsFront, BreaksOff}
 
 -- serving ends with an answer in one of these ways
 abbrev pub EndsAnswering : ServeEnd → Type 0
@@ -25,7 +25,7 @@ EndsAnswering ReadsSpent = ⊥
 EndsAnswering Memory = ⊥
 
 module _ (step : Step) (zone : Zone) (held holds given gives : Option (List ℕ)) (write_failed was_none : Bool)
-    (trusted : Type 0) (stood stands : List Terminal → Room → Type 0) (o : Arrival) where
+    (trusted : Type 0) (stood stands : List Terminal → Room → Type 0) (wants : Timed → List Terminal → Room → Type 0) (o : Arrival) where
   -- the arrival had a moment
   abbrev pub IsAt : ℕ → Type 0
   IsAt at = (at ≤ LAST_MOMENT) × Appends given gives (at ∷ [])
@@ -35,10 +35,10 @@ module _ (step : Step) (zone : Zone) (held holds given gives : Option (List ℕ)
   Answers (Ok done) = (at : ℕ) × IsAt at × (write_failed ≡ false)
       × Talks step zone trusted stood held holds ((o, at) ∷ []) (λ terminals after tail. stands terminals after × (tail ≡ []))
   Answers (Err Closed) = (at : ℕ) × IsAt at × ((r : Refusal) × IsWant r
-      × Talks step zone trusted stood held holds [] (λ terminals after tail. stands terminals after × (tail ≡ fixed_bytes r (is_head_only o))))
+      × Talks step zone trusted stood held holds [] (λ terminals after tail. wants (o, at) terminals after × (tail ≡ fixed_bytes r (is_head_only o))))
   Answers (Err WriteFault) = (at : ℕ) × IsAt at × (write_failed ≡ true)
       × (Talks step zone trusted stood held holds [] (λ terminals after tail. BreaksOff step zone terminals stands after (o, at) tail)
-      ⊎ ((r : Refusal) × IsWant r × Talks step zone trusted stood held holds [] (λ terminals after tail. stands terminals after × IsFront tail (fixed_bytes r (is_head_only o)))))
+      ⊎ ((r : Refusal) × IsWant r × Talks step zone trusted stood held holds [] (λ terminals after tail. wants (o, at) terminals after × IsFront tail (fixed_bytes r (is_head_only o)))))
   Answers (Err ClockFault) = HasNoMoment given gives was_none [] × Talks step zone trusted stood held holds [] (λ terminals after tail. stands terminals after × (tail ≡ []))
   Answers (Err Cut) = ⊥
   Answers (Err ReadFault) = ⊥

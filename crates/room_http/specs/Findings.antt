@@ -1,5 +1,5 @@
 -- What is found of the event that a request asks for.
-use Rattle.std.specs.Prelude.{◌≡◌, ◌⊎◌, ℕ, List, Option, Some, None, true, Result, Ok, Err, MatchResult}
+use Rattle.std.specs.Prelude.{◌≡◌, ◌⊎◌, ℕ, List, [], ◌∷◌, Option, Some, None, true, Result, Ok, Err, MatchResult}
 use Rattle.room_types.specs.declared.asks.Ask.{Ask}
 use Rattle.room_types.specs.declared.asks.Event.{Event}
 use Rattle.room_types.specs.declared.asks.Who.{Who}
@@ -43,6 +43,11 @@ pub record FindsBy {M : Type 0} (is_trusted : M → Type 0) (stands : M → List
   pub same : is_trusted new → (terminals : List Terminal) (room : Room) → stands old terminals room → stands new terminals room
   pub says : is_trusted new → (terminals : List Terminal) (room : Room) → stands old terminals room
       → MatchResult result (λ event. finds terminals (Ok event) × IsAddressed event room) (λ refusal. IsWant refusal ⊎ finds terminals (Err refusal))
+
+-- What was held is still kept, unless memory or storage was wanting; and even then a stop leaves the room that it was.
+pub record LooksOnly {M T : Type 0} (is_trusted is_kept : M → Type 0) (stands : M → List Terminal → Room → Type 0) (leaves : M → List Terminal → List Room → Type 0) (old new : M) (result : Result T Refusal) : Type 0 where
+  pub kept : is_trusted new → is_kept old → MatchResult result (λ _. is_kept new) (λ refusal. IsWant refusal ⊎ is_kept new)
+  pub left : is_trusted new → is_kept old → (terminals : List Terminal) (room : Room) → stands old terminals room → leaves new terminals (room ∷ [])
 
 -- of a message
 abbrev pub FindsMessage : {M : Type 0} → (M → Type 0) → (M → List Terminal → Room → Type 0) → M → M → Zone → Message → ℕ → Result Event Refusal → Type 0

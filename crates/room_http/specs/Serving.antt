@@ -60,15 +60,6 @@ module _ (step : Step) (zone : Zone) (old : Sides) (new : Finish) (trusted : Typ
     pub timed : AreTimed outs
     pub talk : Spoke outs (λ terminals after tail. stands terminals after × (tail ≡ []))
 
-  -- The arrivals were answered. For the next one memory or storage was wanting: the room stayed as
-  -- it was, and of the fixed answer so much was written.
-  pub record Unserved (outs : List Timed) (x : Timed) (so_much : List ℕ → List ℕ → Type 0) : Type 0 where
-    pub begins : Reaches outs (HasNext x.0)
-    pub timed : AreTimed (outs ++ x ∷ [])
-    pub refusal : Refusal
-    pub want : IsWant refusal
-    pub talk : Spoke outs (λ terminals after tail. stands terminals after × so_much tail (fixed_bytes refusal (is_head_only x.0)))
-
   -- The arrivals were answered. The next one was acted on, and its answer was not written, or not wholly.
   pub record Broken (outs : List Timed) (x : Timed) : Type 0 where
     pub begins : Reaches (outs ++ x ∷ []) (λ rest. ⊤)
@@ -82,19 +73,31 @@ module _ (step : Step) (zone : Zone) (old : Sides) (new : Finish) (trusted : Typ
     pub clock : HasNoMoment old.given new.given new.was_none (map (λ x. x.1) outs)
     pub talk : Spoke outs (λ terminals after tail. stands terminals after × (tail ≡ []))
 
-  -- How serving ended, which was granted so many reads. Closed: the stream ended between messages,
-  -- an answer closed, or memory or storage was wanting and its fixed answer closed.
-  abbrev pub ServeIs : ℕ → ServeEnd → Type 0
-  ServeIs budget Closed =
-      ((outs : List Timed) × Answered outs (λ rest. rest ≡ []) × (new.read_ended ≡ true))
-      ⊎ ((outs : List Timed) × Answered outs (λ rest. ⊤) × EndsClosing outs)
-      ⊎ ((outs : List Timed) × (x : Timed) × Unserved outs x (λ tail fixed. tail ≡ fixed))
-  ServeIs budget Cut = (outs : List Timed) × Answered outs IsCut × (new.read_ended ≡ true)
-  ServeIs budget ReadFault = (outs : List Timed) × Answered outs (λ rest. ⊤) × (new.read_failed ≡ true)
-  ServeIs budget WriteFault = ((outs : List Timed) × (x : Timed) × (Broken outs x ⊎ Unserved outs x IsFront)) × (new.write_failed ≡ true)
-  ServeIs budget ClockFault = (outs : List Timed) × (o : Arrival) × Untimed outs o
-  ServeIs budget ReadsSpent = (outs : List Timed) × Answered outs (λ rest. ⊤) × CountsBy budget old.reads new.reads
-  ServeIs budget Memory = Answered [] (λ rest. ⊤) × CountsBy 0 old.reads new.reads
+  -- where memory or storage was wanting for an arrival, so much holds of the room
+  module _ (wants : Timed → List Terminal → Room → Type 0) where
+    -- The arrivals were answered. For the next one memory or storage was wanting: the room stayed as
+    -- it was, and of the fixed answer so much was written.
+    pub record Unserved (outs : List Timed) (x : Timed) (so_much : List ℕ → List ℕ → Type 0) : Type 0 where
+      pub begins : Reaches outs (HasNext x.0)
+      pub next : Reaches (outs ++ x ∷ []) (λ rest. ⊤)
+      pub timed : AreTimed (outs ++ x ∷ [])
+      pub refusal : Refusal
+      pub want : IsWant refusal
+      pub talk : Spoke outs (λ terminals after tail. wants x terminals after × so_much tail (fixed_bytes refusal (is_head_only x.0)))
+
+    -- How serving ended, which was granted so many reads. Closed: the stream ended between messages,
+    -- an answer closed, or memory or storage was wanting and its fixed answer closed.
+    abbrev pub ServeIs : ℕ → ServeEnd → Type 0
+    ServeIs budget Closed =
+        ((outs : List Timed) × Answered outs (λ rest. rest ≡ []) × (new.read_ended ≡ true))
+        ⊎ ((outs : List Timed) × Answered outs (λ rest. ⊤) × EndsClosing outs)
+        ⊎ ((outs : List Timed) × (x : Timed) × Unserved outs x (λ tail fixed. tail ≡ fixed))
+    ServeIs budget Cut = (outs : List Timed) × Answered outs IsCut × (new.read_ended ≡ true)
+    ServeIs budget ReadFault = (outs : List Timed) × Answered outs (λ rest. ⊤) × (new.read_failed ≡ true)
+    ServeIs budget WriteFault = ((outs : List Timed) × (x : Timed) × (Broken outs x ⊎ Unserved outs x IsFront)) × (new.write_failed ≡ true)
+    ServeIs budget ClockFault = (outs : List Timed) × (o : Arrival) × Untimed outs o
+    ServeIs budget ReadsSpent = (outs : List Timed) × Answered outs (λ rest. ⊤) × CountsBy budget old.reads new.reads
+    ServeIs budget Memory = Answered [] (λ rest. ⊤) × CountsBy 0 old.reads new.reads
 
 -- the clock gave a moment for each of these arrivals
 abbrev pub HasMoments : Option (List ℕ) → Option (List ℕ) → List Arrival → Type 0

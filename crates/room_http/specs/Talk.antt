@@ -1,5 +1,5 @@
 -- A talk: what is answered to arrivals at their moments, one after another.
-use Rattle.std.specs.Prelude.{◌≡◌, ℕ, List, [], ◌∷◌, ◌++◌, Option, Result, Ok, Err}
+use Rattle.std.specs.Prelude.{◌≡◌, ◌⊎◌, ℕ, List, [], ◌∷◌, ◌++◌, Option, Result, Ok, Err}
 use Rattle.std.specs.Io.KnownBytes.{Appends}
 use Rattle.room_types.specs.declared.answers.Answer.{Answer}
 use Rattle.room_types.specs.declared.asks.Event.{Event}
@@ -38,6 +38,19 @@ module _ (step : Step) (zone : Zone) (terminals : List Terminal) where
   IsTalk room [] after bytes = (after ≡ room) × (bytes ≡ [])
   IsTalk room (x ∷ more) after bytes =
       (next : Room) × (first : List ℕ) × (others : List ℕ) × (bytes ≡ first ++ others) × IsReplyTo room x next first × IsTalk next more after others
+
+-- The room is this one. Where what was held at the beginning was kept, a stop leaves this room alone.
+abbrev pub Stays : Type 0 → (List Terminal → Room → Type 0) → (List Terminal → List Room → Type 0) → List Terminal → Room → Type 0
+Stays was_kept stands leaves terminals room = stands terminals room × (was_kept → leaves terminals (room ∷ []))
+
+-- A stop leaves this room or that after the event that an arrival asked for.
+abbrev pub LeavesNext : Step → Zone → (List Terminal → List Room → Type 0) → Timed → List Terminal → Room → Type 0
+LeavesNext step zone leaves x terminals room =
+    (event : Event) × Finds zone terminals x (Ok event) × leaves terminals (room ∷ (step event room).0 ∷ [])
+
+-- For this arrival memory or storage was wanting, and the room is as before. A stop may leave the one after it.
+abbrev pub Wants : Step → Zone → Type 0 → (List Terminal → Room → Type 0) → (List Terminal → List Room → Type 0) → Timed → List Terminal → Room → Type 0
+Wants step zone was_kept stands leaves x terminals room = stands terminals room × (was_kept → leaves terminals (room ∷ []) ⊎ LeavesNext step zone leaves x terminals room)
 
 -- some of the first bytes
 abbrev pub IsFront : List ℕ → List ℕ → Type 0

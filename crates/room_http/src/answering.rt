@@ -1,8 +1,9 @@
 //! What arrives, answered.
-ghost use Rattle.std.specs.Prelude.{◌≡◌, false, IfErr};
+ghost use Rattle.std.specs.Prelude.{◌≡◌, false, IfErr, OnOk};
 ghost use Rattle.room_http.specs.Arrivals.{Arrival, IsShown};
 ghost use Rattle.room_http.specs.Answering.{Answers, EndsAnswering};
 ghost use Rattle.room_http.specs.Served.{IsAtMost, KeepsPromises};
+ghost use Rattle.room_http.specs.Talk.{Stays, Wants};
 ghost use Rattle.room_service.specs.Rooms.{machine};
 
 use crate::arrivals::Arrived;
@@ -35,11 +36,17 @@ pub fn answer<W: Sink, M: Room, C: Clock>(
     ensures answers { (o : Arrival) → IsShown arrived.now o → Answers M.step zone.now
         (W.held writer.old) (W.held writer.new) (C.given clock.old) (C.given clock.new)
         (W.has_failed writer.new) (C.was_none clock.new)
-        (M.is_trusted room.new) (M.stands room.old) (M.stands room.new) o result }
+        (M.is_trusted room.new) (M.stands room.old)
+        (Stays (M.is_kept room.old) (M.stands room.new) (M.leaves_one_of room.new))
+        (Wants M.step zone.now (M.is_kept room.old) (M.stands room.new) (M.leaves_one_of room.new))
+        o result }
+    ensures kept { M.is_trusted room.new → OnOk result (M.is_kept room.old
+        → M.is_kept room.new) }
     ensures promised { M.step ≡ machine → (o : Arrival) → IsShown arrived.now o
         → KeepsPromises zone.now (IsAtMost o (C.given clock.old) (C.given clock.new))
         (W.held writer.old) (W.held writer.new)
-        (M.is_trusted room.new) (M.stands room.old) (M.stands room.new) }
+        (M.is_trusted room.new) (M.is_kept room.old)
+        (M.stands room.old) (M.stands room.new) (M.leaves_one_of room.new) }
 {
     let Some(at) = moment(clock) else {
         return Err(ServeEnd::ClockFault);

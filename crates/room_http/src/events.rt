@@ -4,7 +4,13 @@ ghost use Rattle.std.specs.Option.{option_map, option_copied};
 ghost use Rattle.room_http_requests.specs.Asking.{request_by};
 ghost use Rattle.room_http_requests.specs.declared.asking.Request.TheVariants as request;
 ghost use Rattle.room_http.specs.Events.{IsAskFor, token_of};
-ghost use Rattle.room_http.specs.Findings.{FindsAsk, FindsEvent, FindsMessage, FindsTerminal};
+ghost use Rattle.room_http.specs.Findings.{
+  FindsAsk,
+  FindsEvent,
+  FindsMessage,
+  FindsTerminal,
+  LooksOnly,
+};
 
 use crate::arrivals::Arrived;
 use room_http_messages::messages::Message;
@@ -38,6 +44,8 @@ fn terminal<M: Room>(alloc: Global, room: &mut M, message: &Message) -> Result<W
     ensures ready { M.is_ready room.new }
     ensures terminal { FindsTerminal M.is_trusted M.stands room.old room.new (option_map (λ text.
         text.now) message.now.terminal) result }
+    ensures looks { LooksOnly M.is_trusted M.is_kept M.stands M.leaves_one_of room.old room.new
+        result }
 {
     let Some(token) = token(message.terminal) else {
         return Err(Refusal::NoTerminal);
@@ -91,6 +99,8 @@ fn asked<M: Room>(
     ensures ready { M.is_ready room.new }
     ensures event { FindsMessage M.is_trusted M.stands room.old room.new zone.now message.now at
         result }
+    ensures looks { LooksOnly M.is_trusted M.is_kept M.stands M.leaves_one_of room.old room.new
+        result }
 {
     let target = match routes.route(message.method, message.target) {
         Ok(target) => target,
@@ -121,6 +131,8 @@ pub fn event_of<M: Room>(
     requires { M.is_ready room.old }
     ensures ready { M.is_ready room.new }
     ensures event { FindsEvent M.is_trusted M.stands room.old room.new zone.now arrived.now at
+        result }
+    ensures looks { LooksOnly M.is_trusted M.is_kept M.stands M.leaves_one_of room.old room.new
         result }
 {
     match arrived {

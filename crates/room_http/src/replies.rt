@@ -1,6 +1,6 @@
 //! The answer to what has arrived, and what becomes of the room.
 ghost use Rattle.std.specs.Prelude.{◌≡◌};
-ghost use Rattle.room_http.specs.Replies.{Replies};
+ghost use Rattle.room_http.specs.Replies.{KeepsReply, Replies};
 
 use crate::arrivals::Arrived;
 use crate::events::event_of;
@@ -26,6 +26,8 @@ pub fn reply<M: Room>(
     ensures ready { M.is_ready room.new }
     ensures reply { Replies M.step M.is_trusted M.stands room.old room.new zone.now arrived.now at
         result }
+    ensures keeps { KeepsReply M.step M.is_trusted M.is_kept M.stands M.leaves_one_of
+        room.old room.new zone.now arrived.now at result }
 {
     let (head_only, closing) = (arrived.head_only(), arrived.is_closing());
     match event_of(alloc, routes, zone, room, arrived, at) {

@@ -3,6 +3,7 @@ ghost use Rattle.std.specs.Prelude.{◌≡◌, false};
 ghost use Rattle.room_service.specs.Rooms.{machine};
 ghost use Rattle.room_http.specs.Served.{AreFirst, KeepsPromises};
 ghost use Rattle.room_http.specs.Serving.{MissesNone, ReadsAtMost, ServeIs};
+ghost use Rattle.room_http.specs.Talk.{Stays, Wants};
 
 use crate::answering::answer;
 use crate::arrivals::Arrived;
@@ -39,7 +40,7 @@ pub enum ServeEnd {
 /// Answers the messages of a stream, until it ends or an answer closes the connection, or until
 /// something fails. It makes at most `budget` reads, and reads the clock once for each message,
 /// after the message is whole or refused. Where the room is the dispatch machine's, what is served
-/// keeps the room's promises.
+/// keeps the room's promises, and a stop leaves the room after every answer that was written.
 pub fn serve<R: Source, W: Sink, M: Room, C: Clock>(
     alloc: Global,
     reader: &mut R,
@@ -71,11 +72,15 @@ pub fn serve<R: Source, W: Sink, M: Room, C: Clock>(
           write_failed = W.has_failed writer.new;
           was_none = C.was_none clock.new;
         })
-        (M.is_trusted room.new) (M.stands room.old) (M.stands room.new) budget result }
+        (M.is_trusted room.new) (M.stands room.old)
+        (Stays (M.is_kept room.old) (M.stands room.new) (M.leaves_one_of room.new))
+        (Wants M.step zone.now (M.is_kept room.old) (M.stands room.new) (M.leaves_one_of room.new))
+        budget result }
     ensures promised { M.step ≡ machine → KeepsPromises zone.now
         (AreFirst (R.left reader.old) (C.given clock.old) (C.given clock.new))
         (W.held writer.old) (W.held writer.new)
-        (M.is_trusted room.new) (M.stands room.old) (M.stands room.new) }
+        (M.is_trusted room.new) (M.is_kept room.old)
+        (M.stands room.old) (M.stands room.new) (M.leaves_one_of room.new) }
     ensures none_missed { MissesNone (R.left reader.old) (R.left reader.new) (C.given clock.old)
         (C.given clock.new) result }
 {

@@ -77,10 +77,10 @@ module _ (s : Room) (p : VehicleRows) (x : FleetRow) (h : Agrees s (record p { v
   }
 
 -- ---- what a row that is added means
-record IsAdded (r : Room) (ts : List Terminal) (x : FleetRow) : Type 0 where
-  planned : has_division r.plan x.division ≡ true
-  new_callsign : row_at callsign_cmp vehicle_key r.vehicles x.callsign ≡ None
-  new_token : terminal_at x.token ts ≡ None
+pub record IsAdded (r : Room) (ts : List Terminal) (x : FleetRow) : Type 0 where
+  pub planned : has_division r.plan x.division ≡ true
+  pub new_callsign : row_at callsign_cmp vehicle_key r.vehicles x.callsign ≡ None
+  pub new_token : terminal_at x.token ts ≡ None
 
 added_by : (v : Option Vehicle) (t : Option Terminal) (x : FleetRow) → fate_by v t x ≡ Added → (v ≡ None) × (t ≡ None)
 added_by None None x e = (refl, refl)
@@ -90,7 +90,7 @@ added_by (Some v) t x e = (elim (is_same_vehicle v t x) as (λ (b : Bool). cond 
   | false ↦ λ f. absurd cc
 ]) e
 
-is_added : (r : Room) (ts : List Terminal) (x : FleetRow) → fate_of r ts x ≡ Added → IsAdded r ts x
+pub is_added : (r : Room) (ts : List Terminal) (x : FleetRow) → fate_of r ts x ≡ Added → IsAdded r ts x
 is_added r ts x = (elim (has_division r.plan x.division) as (λ (b : Bool). has_division r.plan x.division ≡ b → cond b (fate_by (row_at callsign_cmp vehicle_key r.vehicles x.callsign) (terminal_at x.token ts) x) (Refused refusal.NoSuchDivision) ≡ Added → IsAdded r ts x) [
   | true ↦ λ planned e. let f = added_by _ _ x e in record { planned = planned; new_callsign = f.0; new_token = f.1 }
   | false ↦ λ planned e. absurd cc
@@ -101,14 +101,14 @@ same_kind_itself Ambulance = refl
 same_kind_itself Car = refl
 same_kind_itself Support = refl
 
-tokens_total : IsTotalOrder token_cmp
+pub tokens_total : IsTotalOrder token_cmp
 tokens_total = callsigns_total
 
-exact_tokens : CmpEqualImpliesEq token_cmp
+pub exact_tokens : CmpEqualImpliesEq token_cmp
 exact_tokens = exact_callsigns
 
 -- what is found at each token, after a terminal was put
-terminals_put : (P : Token → Option Terminal → Type 0) (ts : List Terminal) (t : Terminal) → P t.token (Some t) → ((k : Token) → is_eq (token_cmp k t.token) ≡ false → P k (terminal_at k ts)) → (k : Token) → P k (terminal_at k (put_row token_cmp terminal_key ts t))
+pub terminals_put : (P : Token → Option Terminal → Type 0) (ts : List Terminal) (t : Terminal) → P t.token (Some t) → ((k : Token) → is_eq (token_cmp k t.token) ≡ false → P k (terminal_at k ts)) → (k : Token) → P k (terminal_at k (put_row token_cmp terminal_key ts t))
 terminals_put = put_rows token_cmp terminal_key tokens_total exact_tokens
 
 module _ (r : Room) (ts : List Terminal) (x : FleetRow) where

@@ -261,7 +261,7 @@ plan_run [] r = refl
 plan_run (e ∷ es) r = plan_run es (room_after e r) ∙ plan_stays r (changes_of (decided e r))
 
 -- a fate looks at the plan, the fleet and the terminals alone
-fate_alike : (v u : Option Vehicle) (t : Option Terminal) (x : FleetRow) → option_map home_and_kind v ≡ option_map home_and_kind u → fate_by v t x ≡ fate_by u t x
+pub fate_alike : (v u : Option Vehicle) (t : Option Terminal) (x : FleetRow) → option_map home_and_kind v ≡ option_map home_and_kind u → fate_by v t x ≡ fate_by u t x
 fate_alike None None t x e = refl
 fate_alike None (Some u) t x e = cc
 fate_alike (Some v) None t x e = cc

@@ -7,6 +7,7 @@ pub mod CrewLaws
 pub mod CrewSliceLaws
 pub mod DecisionLaws
 pub mod EnrolLaws
+pub mod FleetAgain
 pub mod FleetStays
 pub mod Foreign
 pub mod Handed
@@ -27,6 +28,7 @@ pub mod OwnDesk
 pub mod OwnRequests
 pub mod ProposalLaws
 pub mod QueueLaws
+pub mod RefusalLaws
 pub mod RepeatLaws
 pub mod ReportsApart
 pub mod Runs

@@ -1,7 +1,7 @@
 -- Any event, and runs of events, seen by one division.
 use Rattle.std.proofs.Common.{ap, eqb-true, subst, sym, ◌∙◌}
 use Rattle.std.specs.List.{list_all}
-use Rattle.std.specs.Prelude.{Bool, List, None, Option, Some, [], cond, false, is_ok, map, not, option_map, refl, true, ℕ, ◌&&◌, ◌++◌, ◌==◌, ◌∷◌, ◌≡◌}
+use Rattle.std.specs.Prelude.{Bool, Err, List, None, Ok, Option, Some, [], cond, false, is_err, is_ok, map, not, option_map, refl, true, ℕ, ◌&&◌, ◌++◌, ◌==◌, ◌||◌, ◌∷◌, ◌≡◌}
 use Rattle.room_place.specs.Plans.{division_of}
 use Rattle.room_types.specs.Keyed.{row_at}
 use Rattle.room_types.specs.Keys.{callsign_cmp, loan_key}
@@ -25,7 +25,7 @@ use Rattle.room_model.proofs.Tests.{both_true}
 use Rattle.room_model.specs.Alone.{alone, share_by, told_alone, told_by}
 use Rattle.room_model.specs.Crossing.{Arrive, CallIn, Crossing, Declined, Left, OfferIn, Recalled, ReportIn, Withdrawn, cross, cross_call, cross_crew, cross_other, cross_own, cross_position, cross_report, cross_who, crossings, is_division_of, is_held_by, is_loan_ended, is_local, is_offered_by, is_offered_to, newly_recalled}
 use Rattle.room_model.specs.Events.{AreAddressed, AreLocal, is_everyday, received}
-use Rattle.room_model.specs.Decisions.{changes_of}
+use Rattle.room_model.specs.Decisions.{Verdict, answer_of, changes_of}
 use Rattle.room_model.specs.Queries.{kept_call, kept_report, lent, loan_at, offer_at, vehicle_at}
 use Rattle.room_model.specs.Room.{Room, apply}
 use Rattle.room_model.specs.Run.{is_desk, room_run, told}
@@ -154,10 +154,20 @@ everyday_if : (b : Bool) (x y : Option Crossing) → is_everyday x ≡ true → 
 everyday_if true x y e f = e
 everyday_if false x y e f = f
 
+-- what is done is not refused
+not_refused : (b : Bool) (x : Verdict) → b || is_err (answer_of x) ≡ true → is_ok x ≡ true → b ≡ true
+not_refused true x l h = refl
+not_refused false (Ok x) l h = l
+not_refused false (Err e) l h = h
+
 module _ (d : ℕ) (r : Room) where
   everyday_own : (b : Bool) (e : Event) (a : Ask) → is_local a ≡ true → is_everyday (Some (cross_own b e a r)) ≡ true
   everyday_own b e (ask.Accept c) l = cc
   everyday_own b e a l = refl
+
+  everyday_refused : (e : Event) (a : Ask) → is_everyday (Some (cross_own false e a r)) ≡ true
+  everyday_refused e (ask.Accept c) = refl
+  everyday_refused e a = refl
 
   everyday_other : (h : ℕ) (a : Ask) (after : Room) → is_local a ≡ true → is_everyday (cross_other d h a r after) ≡ true
   everyday_other h (ask.Lend c to until) after l = cc
@@ -187,11 +197,15 @@ module _ (d : ℕ) (r : Room) where
   everyday_crew c e (ask.Report p) same = everyday_report e c (kept_report c p.number r) (room_after e r) same
   everyday_crew c e a same = refl
 
-  everyday_who : (who : Who) (e : Event) → is_local e.ask ≡ true → (room_after e r).loans ≡ r.loans → is_everyday (cross_who d e who r) ≡ true
-  everyday_who (Desk h) e l same = everyday_if (h == d) (Some (cross_own (is_ok (decided e r)) e e.ask r)) (cond (is_ok (decided e r)) (cross_other d h e.ask r (room_after e r)) None) (everyday_own (is_ok (decided e r)) e e.ask l) (everyday_if (is_ok (decided e r)) (cross_other d h e.ask r (room_after e r)) None (everyday_other h e.ask (room_after e r) l) refl)
+  everyday_desk : (h : ℕ) (e : Event) (done : Bool) → (done ≡ true → is_local e.ask ≡ true) → is_everyday (cond (h == d) (Some (cross_own done e e.ask r)) (cond done (cross_other d h e.ask r (room_after e r)) None)) ≡ true
+  everyday_desk h e true l = everyday_if (h == d) _ _ (everyday_own true e e.ask (l refl)) (everyday_other h e.ask (room_after e r) (l refl))
+  everyday_desk h e false l = everyday_if (h == d) _ None (everyday_refused e e.ask) refl
+
+  everyday_who : (who : Who) (e : Event) → is_local e.ask || is_err (answer_of (decided e r)) ≡ true → (room_after e r).loans ≡ r.loans → is_everyday (cross_who d e who r) ≡ true
+  everyday_who (Desk h) e l same = everyday_desk h e (is_ok (decided e r)) (not_refused (is_local e.ask) (decided e r) l)
   everyday_who (Position p) e l same = everyday_position p e e.ask
   everyday_who (Crew c) e l same = everyday_crew c e e.ask same
 
 pub run_everyday : (d : ℕ) (es : List Event) (r : Room) → AreLocal es r → list_all is_everyday (crossings d es r) ≡ true
 run_everyday d [] r l = refl
-run_everyday d (e ∷ es) r l = both_true _ _ (everyday_who d r e.who e l.0 l.1) (run_everyday d es (room_after e r) l.2)
+run_everyday d (e ∷ es) r l = both_true _ _ (everyday_who d r e.who e l.0.0 l.0.1) (run_everyday d es (room_after e r) l.1)

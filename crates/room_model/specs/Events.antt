@@ -1,5 +1,5 @@
 -- Events: who sends them, which reach a room, and what holds of those of a run.
-use Rattle.std.specs.Prelude.{Bool, List, None, Option, Result, Some, [], false, true, ℕ, ◌∷◌, ◌≡◌, ◌≤◌}
+use Rattle.std.specs.Prelude.{Bool, List, None, Option, Result, Some, [], false, is_err, true, ℕ, ◌||◌, ◌∷◌, ◌≡◌, ◌≤◌}
 use Rattle.room_types.specs.Texts.{Callsign}
 use Rattle.room_types.specs.declared.answers.Answer.{Answer}
 use Rattle.room_types.specs.declared.asks.Ask.{Ask}
@@ -33,11 +33,15 @@ abbrev pub AreAddressed : List Event → Room → Type 0
 AreAddressed [] r = Unit {0}
 AreAddressed (e ∷ es) r = IsAddressed e r × IsNumbered e.ask × AreAddressed es r
 
--- none offers a vehicle, answers an offer, recalls or gives back, and no loan changes
+-- it doesn't offer a vehicle, answer an offer, recall or give back, or that is refused; and no loan
+-- changes
+abbrev pub IsLocal : Event → Room → Type 0
+IsLocal e r =
+    (is_local e.ask || is_err (answer_to e r) ≡ true) × ((room_after e r).loans ≡ r.loans)
+
 abbrev pub AreLocal : List Event → Room → Type 0
 AreLocal [] r = Unit {0}
-AreLocal (e ∷ es) r =
-    (is_local e.ask ≡ true) × ((room_after e r).loans ≡ r.loans) × AreLocal es (room_after e r)
+AreLocal (e ∷ es) r = IsLocal e r × AreLocal es (room_after e r)
 
 -- what a division is handed, without the events that hand it nothing
 abbrev pub received : List (Option Crossing) → List Crossing

@@ -19,8 +19,9 @@ pub mod Alone
 -- ---- what the other laws speak of
 -- what always holds of a room
 pub mod WellFormed
--- what becomes of a row of a fleet
+-- what becomes of a row of a fleet, and of a whole fleet
 pub mod Enrol
+pub mod Fleets
 -- the few rows that a request reads
 pub mod Working
 pub mod InHand

@@ -27,29 +27,32 @@ use Rattle.room_types.specs.declared.codes.Button.TheVariants as button
 use Rattle.room_types.specs.declared.refusals.Refusal.TheVariants as refusal
 
 -- ---- the table
--- the outcome of one button, out of those of all seven in their order
-abbrev pub of_button : Button →
-    Outcome → Outcome → Outcome → Outcome → Outcome → Outcome → Outcome → Outcome
-of_button button.Position position mobile scene leave hospital back home = position
-of_button button.Mobile position mobile scene leave hospital back home = mobile
-of_button button.Scene position mobile scene leave hospital back home = scene
-of_button button.Leave position mobile scene leave hospital back home = leave
-of_button button.Hospital position mobile scene leave hospital back home = hospital
-of_button button.Return position mobile scene leave hospital back home = back
-of_button button.Home position mobile scene leave hospital back home = home
-
--- what a button comes to, by the status, and for Scene by whether the turn is acknowledged:
--- a line gives the outcomes of Position, Mobile, Scene, Leave, Hospital, Return and Home
+-- what a button comes to at each status, by the first line that holds: those that are normal or
+-- skipped stand here, and the rest is wrong. Scene at a mobilised vehicle asks whether the order is
+-- acknowledged.
 abbrev pub press : Status → Button → Bool → Outcome
-press OffDuty b seen = of_button b Wrong Wrong Wrong Wrong Wrong Wrong Wrong
-press Available b seen = of_button b Normal Wrong Wrong Wrong Wrong Wrong Normal
-press Mobilised b seen =
-    of_button b Normal Normal (cond seen Normal Skipped) Skipped Skipped Skipped Skipped
-press AtScene b seen = of_button b Normal Wrong Normal Normal Skipped Normal Skipped
-press Leaving b seen = of_button b Normal Wrong Wrong Normal Normal Skipped Skipped
-press AtHospital b seen = of_button b Normal Wrong Wrong Wrong Normal Normal Skipped
-press Returning b seen = of_button b Normal Wrong Wrong Wrong Wrong Normal Normal
-press Offered b seen = of_button b Normal Wrong Wrong Wrong Wrong Wrong Normal
+press OffDuty b seen = Wrong
+press s button.Position seen = Normal
+press Available button.Home seen = Normal
+press Mobilised button.Mobile seen = Normal
+press Mobilised button.Scene seen = cond seen Normal Skipped
+press Mobilised b seen = Skipped
+press AtScene button.Scene seen = Normal
+press AtScene button.Leave seen = Normal
+press AtScene button.Hospital seen = Skipped
+press AtScene button.Return seen = Normal
+press AtScene button.Home seen = Skipped
+press Leaving button.Leave seen = Normal
+press Leaving button.Hospital seen = Normal
+press Leaving button.Return seen = Skipped
+press Leaving button.Home seen = Skipped
+press AtHospital button.Hospital seen = Normal
+press AtHospital button.Return seen = Normal
+press AtHospital button.Home seen = Skipped
+press Returning button.Return seen = Normal
+press Returning button.Home seen = Normal
+press Offered button.Home seen = Normal
+press s b seen = Wrong
 
 -- the status after a button that acts; Position and, where it sets none, Home keep it
 abbrev pub status_after : Status → Button → Status

@@ -1,5 +1,5 @@
 -- What the room decides, and the room after it.
-use Rattle.std.specs.Prelude.{Bool, Err, Result, false, is_some, true, ℕ, ◌&&◌, ◌≡◌}
+use Rattle.std.specs.Prelude.{Bool, Err, Result, false, is_some, nat_le, true, ℕ, ◌&&◌, ◌==◌, ◌||◌, ◌≡◌}
 use Rattle.room_place.specs.Plans.{has_division}
 use Rattle.room_types.specs.declared.answers.Answer.{Answer}
 use Rattle.room_types.specs.declared.asks.Ask.{Ask}
@@ -7,6 +7,7 @@ use Rattle.room_types.specs.declared.asks.Event.{Event}
 use Rattle.room_types.specs.declared.asks.Who.{Who}
 use Rattle.room_types.specs.declared.asks.Who.TheVariants.{Crew, Desk, Position}
 use Rattle.room_types.specs.declared.refusals.Refusal.{Refusal}
+use Rattle.room_types.specs.Refusals.{refusal_number}
 use Rattle.room_types.specs.Texts.{Callsign}
 use Rattle.room_model.specs.Calls.{new_call, take_call}
 use Rattle.room_model.specs.DayTimes.{show_times}
@@ -91,6 +92,12 @@ abbrev pub is_positions : Ask → Bool
 is_positions (ask.Call f) = true
 is_positions a = false
 
+-- the ask is one that the role of who asks may ask
+abbrev pub is_of_role : Who → Ask → Bool
+is_of_role (Desk d) a = is_desks a
+is_of_role (Crew c) a = is_crews a
+is_of_role (Position p) a = is_positions a
+
 abbrev pub is_for : Who → Ask → Room → Bool
 is_for (Desk d) a r = is_desks a && has_division r.plan d
 is_for (Crew c) a r = is_crews a && is_some (vehicle_at c r)
@@ -99,3 +106,9 @@ is_for (Position p) a r = is_positions a
 -- the ask is of the role of who asks, who is known
 abbrev pub IsAddressed : Event → Room → Type 0
 IsAddressed e r = is_for e.who e.ask r ≡ true
+
+-- ---- refusals
+-- the refusals of what a role may ask are those of number 1 to 19, and 22; 20 and 21 are a fleet
+-- row's, and what is above isn't the machine's
+abbrev pub is_of_the_room : Refusal → Bool
+is_of_the_room why = nat_le (refusal_number why) 19 || refusal_number why == 22

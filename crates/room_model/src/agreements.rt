@@ -10,6 +10,7 @@ ghost use Rattle.room_types.specs.declared.tables.Turn.{Turn};
 ghost use Rattle.room_model.specs.Room.{IsInOrder, Room};
 ghost use Rattle.room_model.specs.Events.{AreAddressed, IsNumbered};
 ghost use Rattle.room_model.specs.Enrol.{AreTerminals, fate_again, fate_of, fleet_at, room_enrolled, terminals_enrolled};
+ghost use Rattle.room_model.specs.Fleets.{AreAgain, Reaching, enrolled, fates_of, since};
 ghost use Rattle.room_model.specs.Run.{room_run};
 ghost use Rattle.room_model.specs.Step.{IsAddressed, room_after};
 ghost use Rattle.room_model.specs.WellFormed.{AssignmentsAgree, AssignmentsStand, IsWellFormed, StatusTellsAssignments, StatusTellsTurns, TurnsAgree, TurnsStand};
@@ -95,4 +96,14 @@ pub fn enrolling_again_changes_nothing()
     ensures { (r : Room) (ts : List Terminal) (row : FleetRow) →
         fate_of (room_enrolled r ts row) (terminals_enrolled r ts row) row
         ≡ fate_again (fate_of r ts row) }
+{}
+
+/// A fleet that is imported again changes neither the room nor the terminals, whatever events and
+/// rows came in between: a row that was added or the same is the same; one that was refused is
+/// refused as before, or as `CallsignTaken` where its token was another's.
+pub fn a_fleet_imported_again_changes_nothing()
+    ensures { (xs : List FleetRow) (between : List Reaching) (r : Room) (ts : List Terminal) →
+        AreTerminals r ts →
+        let first = enrolled xs r ts in
+        AreAgain xs (fates_of xs r ts) (since between first.0 first.1) }
 {}

@@ -57,9 +57,9 @@ pub fn equal_shares_get_equal_answers()
         own d (room_run es r) ≡ own d (room_run fs s) }
 {}
 
-/// Where nobody offers, answers an offer, recalls or gives back, and no loan ends, a division is
-/// handed its own requests, calls placed in it and reports of vehicles that it holds, and nothing
-/// else.
+/// Where nobody offers, answers an offer, recalls or gives back, or only so that it is refused, and
+/// no loan ends, a division is handed its own requests, calls placed in it and reports of vehicles
+/// that it holds, and nothing else.
 pub fn without_loans_divisions_share_nothing()
     ensures { (d : ℕ) (es : List Event) (r : Room) →
         AreLocal es r →

@@ -11,6 +11,9 @@ pub mod isolation;
 // What always holds of a room.
 pub mod agreements;
 
+// Which refusals there are.
+pub mod refusals;
+
 // What changes nothing: a refusal, and a message that is sent again.
 pub mod repeats;
 

@@ -1,5 +1,5 @@
 //! What a connection is served with: a room that events act on, and who its terminals are.
-ghost use Rattle.std.specs.Prelude.{◌≡◌, List, Result, Ok, IfOk, IfErr, OnOk, OnErr};
+ghost use Rattle.std.specs.Prelude.{◌≡◌, List, [], ◌∷◌, Result, Ok, IfOk, IfErr, OnOk, OnErr};
 ghost use Rattle.std.specs.Fn.{FnOnceReturnsAt};
 ghost use Rattle.room_types.specs.declared.answers.Answer.{Answer as Told};
 ghost use Rattle.room_types.specs.declared.fleet.Terminal.{Terminal};
@@ -27,6 +27,12 @@ pub trait Room {
     // It stands for this room, with these terminals.
     ghost stands: { Self → List Terminal → Held → Type 0 };
 
+    // What it stands for is kept: a stop at this moment leaves that and nothing else.
+    ghost is_kept: { Self → Type 0 };
+
+    // A stop at this moment leaves one of these rooms, with these terminals.
+    ghost leaves_one_of: { Self → List Terminal → List Held → Type 0 };
+
     // What it does with an event of a known terminal.
     ghost step: { Step };
 
@@ -40,11 +46,16 @@ pub trait Room {
             → stands self.old terminals room → who ≡ who_at terminals token.now) }
         ensures same { is_trusted self.new → (terminals : List Terminal) (room : Held)
             → stands self.old terminals room → stands self.new terminals room }
+        ensures kept { is_trusted self.new → OnOk result (is_kept self.old → is_kept self.new) }
+        ensures left { is_trusted self.new → is_kept self.old → (terminals : List Terminal)
+            (room : Held) → stands self.old terminals room
+            → leaves_one_of self.new terminals (room ∷ []) }
         ensures wants { IfErr result IsWant };
 
     /// Acts on an event of a known terminal. Gives what `render` makes of the answer, and `render`
-    /// is called before anything is kept. A refusal is want of memory or of storage; it changes
-    /// nothing.
+    /// is called before anything is kept. An answer tells that the room after the event is kept. A
+    /// refusal is want of memory or of storage; it changes nothing, but a stop may leave the room
+    /// after the event in place of the one before it.
     fn act<F: FnOnce(&Result<Answer, Refusal>) -> Result<Vec<u8>, Refusal>>(
         &mut self,
         alloc: Global,
@@ -66,9 +77,18 @@ pub trait Room {
             → stands self.new terminals (step event.now room).0) }
         ensures same { is_trusted self.new → OnErr result ((terminals : List Terminal) (room : Held)
             → stands self.old terminals room → stands self.new terminals room) }
+        ensures kept { is_trusted self.new → OnOk result (is_kept self.new) }
+        ensures left { is_trusted self.new → OnErr result (is_kept self.old
+            → (terminals : List Terminal) (room : Held) → stands self.old terminals room
+            → IsAddressed event.now room
+            → leaves_one_of self.new terminals (room ∷ (step event.now room).0 ∷ [])) }
         ensures wants { IfErr result IsWant };
 
     // The terminals fit the room that it stands for.
     ghost fits: { (held : Self) (terminals : List Terminal) (room : Held)
         → stands held terminals room → AreTerminals room terminals };
+
+    // Where what it stands for is kept, a stop leaves the room that this is.
+    ghost leaves_it: { (held : Self) (terminals : List Terminal) (room : Held) → is_kept held
+        → stands held terminals room → leaves_one_of held terminals (room ∷ []) };
 }

@@ -1,5 +1,6 @@
 -- Fleet rows enrolled: one whose fate was found by reads and then written, one in a store, and one more after others.
-use Rattle.std.proofs.Common.{IsTrue, List, [], ap, arith, refl, subst, sym, take, ℕ, ◌++◌, ◌+◌, ◌∙◌, ◌∷◌, ◌≡◌}
+use Rattle.std.proofs.Common.{IsTrue, List, [], ap, arith, inl, inr, refl, subst, sym, take, ℕ, ◌++◌, ◌+◌, ◌∙◌, ◌∷◌, ◌≡◌}
+use Rattle.std.specs.Prelude.{◌⊎◌}
 use Rattle.std.proofs.lemmas.List.{append_assoc}
 use Rattle.sqlite.specs.Held.{state}
 use Rattle.sqlite.specs.State.{HasCleanDisk, IsUnchanged, State, Survives}
@@ -17,8 +18,10 @@ use Rattle.room_model.specs.Room.{Room}
 use Rattle.room_tables.specs.Stands.{House, Stands}
 use Rattle.room_tables.proofs.RoomReads.{kept}
 use Rattle.room_store_writes.specs.Enrolling.{Enrols, StandsAfter}
-use Rattle.room_store.specs.Enrolling.{MayBeEnrolled, StandsInPlan, enrolled, fate_in, fates_of, room_after_rows, terminals_after_rows}
-use Rattle.room_store.specs.Keeping.{IsRoom}
+use Rattle.room_model.specs.Fleets.{enrolled, fates_of}
+use Rattle.room_store.specs.Enrolling.{MayBeEnrolled, StandsAfterRows, StandsInPlan, fate_in, room_after_rows, terminals_after_rows}
+use Rattle.room_store.specs.Keeping.{IsKept, IsRoom}
+use Rattle.room_store.proofs.StoreLaws.{kept_stands}
 use Rattle.room_store_writes.specs.Houses.{house_of}
 use Rattle.room_store.specs.declared.store.Store.{Store}
 
@@ -103,3 +106,15 @@ module _ (rows : List FleetRow) (i : ℕ) (row : FleetRow) (more : take (i + 1) 
       let there = left (still early is_open) (terminals_after_rows (take i rows) r ts) (room_after_rows (take i rows) r ts) (done early ts r is) in
       (i + 1, subst (λ (p : Room × List Terminal). Stands db (house_of first.plan p.1) p.0) (sym (enrolled_more r ts)) (rw same at there)))
       before last
+
+  -- What a stop leaves in that row, where what the first ones made was kept.
+  pub rows_left : {S : Type 0} (g : Ghosts S) (first mid new : Store S) (ts : List Terminal) (r : Room) → mid.plan ≡ first.plan → IsKept g mid
+      → IsRoom g mid (terminals_after_rows (take i rows) r ts) (room_after_rows (take i rows) r ts) → HasCleanDisk (state g new.conn)
+      → Survives (state g mid.conn) (state g new.conn) (λ db. IsTrue (state g mid.conn).is_open → (ts : List Terminal) (r : Room) → IsRoom g mid ts r → Stands db (house_of mid.plan (terminals_enrolled r ts row)) (room_enrolled r ts row))
+      → (db : Trees) → (state g new.conn).may_leave db → StandsAfterRows db first.plan rows ts r i ⊎ StandsAfterRows db first.plan rows ts r (i + 1)
+  rows_left g first mid new ts r same kept is clean last db left = elim (last.crash clean db left) [
+    | inl before ↦ inl (rw same at (kept_stands g mid (terminals_after_rows (take i rows) r ts) (room_after_rows (take i rows) r ts) kept is db before))
+    | inr after ↦
+        inr (subst (λ (p : Room × List Terminal). Stands db (house_of first.plan p.1) p.0) (sym (enrolled_more r ts))
+        (rw same at (after kept.is_open (terminals_after_rows (take i rows) r ts) (room_after_rows (take i rows) r ts) is)))
+  ]

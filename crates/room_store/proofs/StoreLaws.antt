@@ -1,7 +1,10 @@
 -- A store's room, before and after an event.
-use Rattle.std.proofs.Common.{IsTrue, List, [], subst, sym, ◌∙◌, ◌∷◌, ◌≡◌}
+use Rattle.std.proofs.Common.{Err, IsTrue, List, Ok, Result, [], ap, inl, inr, subst, sym, ◌∙◌, ◌∷◌, ◌≡◌}
+use Rattle.std.specs.Prelude.{OnOk}
 use Rattle.sqlite.specs.Effect.{Database}
 use Rattle.sqlite.specs.Held.{state}
+use Rattle.sqlite.specs.State.{HasCleanDisk, Survives}
+use Rattle.sqlite_trees.specs.Tree.{Trees}
 use Rattle.sqlite_trees.specs.declared.store.Store.{Ghosts}
 use Rattle.room_types.specs.declared.asks.Event.{Event}
 use Rattle.room_types.specs.declared.fleet.Terminal.{Terminal}
@@ -11,9 +14,9 @@ use Rattle.room_model.specs.Events.{IsNumbered}
 use Rattle.room_model.specs.Room.{Room}
 use Rattle.room_model.specs.Step.{IsAddressed, room_after}
 use Rattle.room_tables.specs.Stands.{Stands}
-use Rattle.room_store_writes.specs.Writing.{Commits, Leaves}
+use Rattle.room_store_writes.specs.Writing.{Commits, IsSettled, Leaves}
 use Rattle.room_store.specs.Acting.{IsFor}
-use Rattle.room_store.specs.Keeping.{IsRoom}
+use Rattle.room_store.specs.Keeping.{IsKept, IsRoom, LeavesOneOf}
 use Rattle.room_store_writes.specs.Houses.{house_of}
 use Rattle.room_store.specs.declared.store.Store.{Store}
 
@@ -39,3 +42,46 @@ module _ {S : Type 0} (g : Ghosts S) (old new : Store S) (event : Event) (termin
     plan = rw same (plan_run (event ∷ []) room ∙ is.plan);
     tables = λ _. rw same (wrote.stands (house_of old.plan terminals) room (for_room wrote.was_open));
   }
+
+-- what is kept of a settled connection
+pub kept_settled : {S T E : Type 0} (g : Ghosts S) (held : Store S) (r : Result T E) → OnOk r (IsSettled (state g held.conn))
+    → OnOk r ((db : Trees) → (state g held.conn).may_leave db → db ≡ (state g held.conn).now.trees) → OnOk r (IsKept g held)
+kept_settled g held (Ok x) settled alone = record { is_open = settled.is_open; alone = alone }
+kept_settled g held (Err e) settled alone = tt
+
+-- a settled connection keeps what it holds, since a stop of an open one leaves what was committed
+pub settled_kept : {S : Type 0} (g : Ghosts S) (held : Store S) → ((db : Trees) → IsTrue (state g held.conn).is_open → (state g held.conn).may_leave db → db ≡ (state g held.conn).committed.trees)
+    → IsSettled (state g held.conn) → IsKept g held
+settled_kept g held leaves settled = record { is_open = settled.is_open; alone = λ db left. leaves db settled.is_open left ∙ ap (λ (b : Database). b.trees) settled.committed }
+
+-- what is kept, a stop leaves
+pub kept_stands : {S : Type 0} (g : Ghosts S) (held : Store S) (terminals : List Terminal) (room : Room) → IsKept g held → IsRoom g held terminals room
+    → (db : Trees) → (state g held.conn).may_leave db → Stands db (house_of held.plan terminals) room
+kept_stands g held terminals room kept is db left = subst (λ (trees : Trees). Stands trees (house_of held.plan terminals) room) (sym (kept.alone db left)) (is.tables kept.is_open)
+
+module _ {S : Type 0} (g : Ghosts S) (old new : Store S) (same : new.plan ≡ old.plan) (clean : HasCleanDisk (state g new.conn)) (kept : IsKept g old) where
+  -- A call that looked leaves what is kept as it was,
+  pub looked_kept : Leaves (state g old.conn) (state g new.conn) → Survives (state g old.conn) (state g new.conn) (λ _. ⊥) → IsTrue (state g new.conn).is_open → IsKept g new
+  looked_kept looked survives is_open = record {
+    is_open = is_open;
+    alone = λ db left. elim (survives.crash clean db left) [
+      | inl before ↦ kept.alone db before ∙ sym (ap (λ (b : Database). b.trees) (looked.now_is is_open))
+      | inr none ↦ absurd none
+    ];
+  }
+
+  -- and also where it fails, a stop leaves the room as it was.
+  pub looked_left : (terminals : List Terminal) (room : Room) → IsRoom g old terminals room → Survives (state g old.conn) (state g new.conn) (λ _. ⊥) → LeavesOneOf g new terminals (room ∷ [])
+  looked_left terminals room is survives db left =
+      let before : (state g old.conn).may_leave db = elim (survives.crash clean db left) [ inl before ↦ before | inr none ↦ absurd none ] in
+      inl (rw same (kept_stands g old terminals room kept is db before))
+
+  -- Where an event was acted on, a stop leaves the room before it or after it.
+  pub acted_left : (event : Event) (terminals : List Terminal) (room : Room) → IsRoom g old terminals room → IsAddressed event room
+      → Survives (state g old.conn) (state g new.conn) (λ db. IsTrue (state g old.conn).is_open → (terminals : List Terminal) (room : Room) → IsRoom g old terminals room → IsAddressed event room
+      → Stands db (house_of old.plan terminals) (room_after event room)) → LeavesOneOf g new terminals (room ∷ room_after event room ∷ [])
+  acted_left event terminals room is addressed survives db left =
+      elim (survives.crash clean db left) [
+        | inl before ↦ inl (rw same (kept_stands g old terminals room kept is db before))
+        | inr after ↦ inr (inl (rw same (after kept.is_open terminals room is addressed)))
+      ]

@@ -1,5 +1,5 @@
 -- What the enrolment of fleet rows makes of the tables, and of a store.
-use Rattle.std.specs.Prelude.{IsTrue, List, [], length, take, ℕ, ◌++◌, ◌∷◌, ◌≡◌, ◌≤◌}
+use Rattle.std.specs.Prelude.{IsTrue, List, length, take, ℕ, ◌+◌, ◌++◌, ◌≡◌, ◌≤◌, ◌⊎◌}
 use Rattle.sqlite.specs.Held.{state}
 use Rattle.sqlite_trees.specs.Tree.{Trees}
 use Rattle.sqlite_trees.specs.declared.store.Store.{Ghosts}
@@ -7,10 +7,11 @@ use Rattle.room_place.specs.Plans.{Layout}
 use Rattle.room_types.specs.declared.fleet.FleetRow.{FleetRow}
 use Rattle.room_types.specs.declared.fleet.RowFate.{RowFate}
 use Rattle.room_types.specs.declared.fleet.Terminal.{Terminal}
-use Rattle.room_model.specs.Enrol.{fate_of, room_enrolled, terminals_enrolled}
+use Rattle.room_model.specs.Enrol.{fate_of}
+use Rattle.room_model.specs.Fleets.{enrolled, fates_of}
 use Rattle.room_model.specs.Room.{Room}
 use Rattle.room_tables.specs.Stands.{House, Stands}
-use Rattle.room_store.specs.Keeping.{IsRoom}
+use Rattle.room_store.specs.Keeping.{IsKept, IsRoom}
 use Rattle.room_store_writes.specs.Houses.{house_of}
 use Rattle.room_store.specs.declared.store.Store.{Store}
 
@@ -23,16 +24,6 @@ pub record StandsInPlan (trees : Trees) (layout : Layout) (house : House) (room 
 abbrev pub fate_in : FleetRow → House → Room → RowFate
 fate_in row house room = fate_of room house.terminals row
 
--- the room and its terminals after these rows, enrolled in order
-abbrev pub enrolled : List FleetRow → Room → List Terminal → Room × List Terminal
-enrolled [] room terminals = (room, terminals)
-enrolled (row ∷ rows) room terminals = enrolled rows (room_enrolled room terminals row) (terminals_enrolled room terminals row)
-
--- what becomes of each of these rows, enrolled in order
-abbrev pub fates_of : List FleetRow → Room → List Terminal → List RowFate
-fates_of [] room terminals = []
-fates_of (row ∷ rows) room terminals = fate_of room terminals row ∷ fates_of rows (room_enrolled room terminals row) (terminals_enrolled room terminals row)
-
 -- the room after these rows
 abbrev pub room_after_rows : List FleetRow → Room → List Terminal → Room
 room_after_rows rows room terminals = (enrolled rows room terminals).0
@@ -41,14 +32,21 @@ room_after_rows rows room terminals = (enrolled rows room terminals).0
 abbrev pub terminals_after_rows : List FleetRow → Room → List Terminal → List Terminal
 terminals_after_rows rows room terminals = (enrolled rows room terminals).1
 
+-- the tables stand for the room and the terminals after so many of the rows
+abbrev pub StandsAfterRows : Trees → Layout → List FleetRow → List Terminal → Room → ℕ → Type 0
+StandsAfterRows trees layout rows terminals room count =
+    Stands trees (house_of layout (terminals_after_rows (take count rows) room terminals)) (room_after_rows (take count rows) room terminals)
+
 -- So many of the rows, the first ones, were enrolled: their fates were added, and the store stands for the room and the terminals after them.
-pub record HasEnrolled {S : Type 0} (g : Ghosts S) (new : Store S) (rows : List FleetRow) (was is : List RowFate) (terminals : List Terminal) (room : Room) : Type 0 where
+-- Where what it held was kept, a stop leaves what is there after these rows, or after one more.
+pub record HasEnrolled {S : Type 0} (g : Ghosts S) (old new : Store S) (rows : List FleetRow) (was is : List RowFate) (terminals : List Terminal) (room : Room) : Type 0 where
   pub count : ℕ
   pub within : count ≤ length rows
   pub told : is ≡ was ++ fates_of (take count rows) room terminals
   pub stands : IsRoom g new (terminals_after_rows (take count rows) room terminals) (room_after_rows (take count rows) room terminals)
+  pub left : IsKept g old → (db : Trees) → (state g new.conn).may_leave db → StandsAfterRows db old.plan rows terminals room count ⊎ StandsAfterRows db old.plan rows terminals room (count + 1)
 
 -- What a stop may leave of an enrolment, beside what it could before: the room and the terminals after some of the rows, the first ones.
 abbrev pub MayBeEnrolled : {S : Type 0} → Ghosts S → Store S → List FleetRow → Trees → Type 0
 MayBeEnrolled g old rows trees = IsTrue (state g old.conn).is_open → (terminals : List Terminal) (room : Room) → IsRoom g old terminals room
-    → (count : ℕ) × Stands trees (house_of old.plan (terminals_after_rows (take count rows) room terminals)) (room_after_rows (take count rows) room terminals)
+    → (count : ℕ) × StandsAfterRows trees old.plan rows terminals room count

@@ -57,7 +57,7 @@ impl<S: Alter> Store<S> {
     ghost use Rattle.room_store_writes.specs.Writing.{IsSettled, Leaves};
     ghost use Rattle.room_store.specs.Creating.{Explains, MayBegin};
     ghost use Rattle.room_store_writes.specs.Filling.{StandsNew, in_order, new_room};
-    ghost use Rattle.room_store.specs.Keeping.{IsReady, IsRoom};
+    ghost use Rattle.room_store.specs.Keeping.{IsKept, IsReady, IsRoom};
 
     /// Creates a room of the plan with these terminals in a file that has nothing: the areas, a row
     /// for each division of the plan, the terminals, and no other rows. The terminals are of
@@ -76,6 +76,8 @@ impl<S: Alter> Store<S> {
             → IsRoom S.Store store (in_order terminals.now) (new_room plan.now)) }
         ensures settled { IfOk result (λ store. HasCleanDisk (state S.Store store.conn)
             → IsSettled (state S.Store store.conn)) }
+        ensures kept { IfOk result (λ store. HasCleanDisk (state S.Store store.conn)
+            → IsKept S.Store store) }
         ensures begun { OnOk result (MayBegin
             (state S.Store conn).now.schema plan.now terminals.now) }
 

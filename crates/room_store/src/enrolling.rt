@@ -2,6 +2,7 @@
 ghost use Rattle.std.specs.Prelude.{◌≡◌, ◌++◌, ◌∷◌, [], List, false, IsTrue, IfOk, IfErr, OnOk, OnErr, length};
 ghost use Rattle.sqlite.specs.Held.{state};
 ghost use Rattle.sqlite.specs.State.{HasCleanDisk, Survives};
+ghost use Rattle.sqlite_trees.specs.Tree.{Trees};
 ghost use Rattle.room_tables_schema.specs.Connections.{HasRoomSchema};
 ghost use Rattle.room_tables_sql.specs.Outcomes.{ReadsOnly};
 ghost use Rattle.room_types.specs.declared.fleet.RowFate.TheVariants as told;
@@ -43,8 +44,8 @@ impl<S: Alter> Store<S> {
         ensures plan { self.new.plan ≡ self.old.plan }
         ensures enrolled { HasCleanDisk (state S.Store self.new.conn)
             → (terminals : List Known) (room : Room) → IsRoom S.Store self.old terminals room
-            → (done : HasEnrolled S.Store self.new rows.now out.old.items out.new.items terminals
-            room) × OnOk result (done.count ≡ length rows.now) }
+            → (done : HasEnrolled S.Store self.old self.new rows.now out.old.items out.new.items
+            terminals room) × OnOk result (done.count ≡ length rows.now) }
         ensures wants { IfErr result IsWant }
         ensures survives { Survives (state S.Store self.old.conn) (state S.Store self.new.conn)
             (MayBeEnrolled S.Store self.old rows.now) }
@@ -73,6 +74,9 @@ impl<S: Alter> Store<S> {
             (room_enrolled room terminals row.now)) }
         ensures settled { HasCleanDisk (state S.Store self.new.conn)
             → OnOk result (IsSettled (state S.Store self.new.conn)) }
+        ensures alone { HasCleanDisk (state S.Store self.new.conn)
+            → OnOk result ((db : Trees) → (state S.Store self.new.conn).may_leave db
+            → db ≡ (state S.Store self.new.conn).now.trees) }
         ensures err { HasCleanDisk (state S.Store self.new.conn)
             → OnErr result (Leaves (state S.Store self.old.conn) (state S.Store self.new.conn)) }
         ensures kept { OnErr result (out.new.items ≡ out.old.items) }

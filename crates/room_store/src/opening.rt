@@ -4,9 +4,20 @@ ghost use Rattle.sqlite.specs.Held.{state};
 ghost use Rattle.sqlite.specs.State.{HasCleanDisk, Survives};
 ghost use Rattle.room_types.specs.declared.fleet.Terminal.{Terminal};
 ghost use Rattle.room_model.specs.Room.{Room};
-ghost use Rattle.room_store.specs.Keeping.{IsReady, IsRoom};
-ghost use Rattle.room_store_opening.specs.Opening.{HasTables, HoldsRoom, IsOldRoom, KeepsRoom, StandsAs};
-ghost use Rattle.room_store_opening.specs.declared.opening.OpenFault.TheVariants.{NotARoom, OldRoom};
+ghost use Rattle.room_tables_schema.specs.Schema.{room_schema};
+ghost use Rattle.room_store.specs.Keeping.{IsKept, IsReady, IsRoom};
+ghost use Rattle.room_store_opening.specs.Opening.{
+  HasTables,
+  HoldsRoom,
+  IsOldRoom,
+  KeepsFile,
+  MayBeIndexed,
+  WritesNothing,
+};
+ghost use Rattle.room_store_opening.specs.declared.opening.OpenFault.TheVariants.{
+  NotARoom,
+  OldRoom,
+};
 
 use crate::store::Store;
 use room_store_opening::opening::{OpenFault, open_in};
@@ -14,8 +25,10 @@ use sqlite::{Alter, Connection};
 use std::alloc::Global;
 
 impl<S: Alter> Store<S> {
-    /// Opens the room that a file holds, and reads all its rows for that. Where the indexes of a
-    /// room's tables are missing, they are made. A fault leaves the rows as they were.
+    /// Opens the room that a file holds, and reads all its rows for that. Where the file has just
+    /// a room's tables without their indexes, these are made; in every other file nothing is
+    /// written. All rows of all tables stay, also where the file is no room, or where memory or
+    /// storage fails.
     pub fn open(
         alloc: Global,
         mut conn: Connection<S>,
@@ -24,8 +37,12 @@ impl<S: Alter> Store<S> {
         ensures ready { IfOk result (IsReady S.Store) }
         ensures room { IfOk result (λ store. HasCleanDisk (state S.Store store.conn)
             → (terminals : List Terminal) × (room : Room) × IsRoom S.Store store terminals room) }
+        ensures schema { IfOk result (λ store. HasCleanDisk (state S.Store store.conn)
+            → (state S.Store store.conn).now.schema ≡ room_schema) }
+        ensures kept { IfOk result (λ store. HasCleanDisk (state S.Store store.conn)
+            → IsKept S.Store store) }
         ensures same { IfOk result (λ store. HasCleanDisk (state S.Store store.conn)
-            → KeepsRoom (state S.Store conn) (state S.Store store.conn)) }
+            → KeepsFile (state S.Store conn) (state S.Store store.conn)) }
         ensures not_old { IfOk result (λ store. HasCleanDisk (state S.Store store.conn)
             → ¬ IsOldRoom (state S.Store conn).now) }
         ensures old_room { IfErr result (λ e. HasCleanDisk (state S.Store e.1)
@@ -35,13 +52,16 @@ impl<S: Alter> Store<S> {
             → HasTables (state S.Store conn).now.schema
             → ¬ HoldsRoom (state S.Store conn).now.trees) }
         ensures same_fault { IfErr result (λ e. HasCleanDisk (state S.Store e.1)
-            → KeepsRoom (state S.Store conn) (state S.Store e.1)) }
+            → KeepsFile (state S.Store conn) (state S.Store e.1)) }
+        ensures old_same { IfErr result (λ e. e.0 ≡ OldRoom
+            → WritesNothing (state S.Store conn) (state S.Store e.1)) }
         ensures ended { IfErr result (λ e. e.1.in_transaction ≡ false) }
         ensures survives { IfOk result (λ store.
             Survives (state S.Store conn) (state S.Store store.conn)
-            (StandsAs (state S.Store conn))) }
+            (MayBeIndexed (state S.Store conn).now)) }
         ensures survives_fault { IfErr result (λ e.
-            Survives (state S.Store conn) (state S.Store e.1) (StandsAs (state S.Store conn))) }
+            Survives (state S.Store conn) (state S.Store e.1)
+            (MayBeIndexed (state S.Store conn).now)) }
     {
         match open_in(alloc, &mut conn) {
             Ok(plan) => Ok(Store {

@@ -1,5 +1,5 @@
 //! A room that is kept in the tables of a connection.
-ghost use Rattle.std.specs.Prelude.{◌≡◌, List, Result, Ok, IsTrue, IfOk, IfErr, OnOk, OnErr, option_map};
+ghost use Rattle.std.specs.Prelude.{◌≡◌, ◌↔◌, List, Result, Ok, IsTrue, IfOk, IfErr, OnOk, OnErr, option_map};
 ghost use Rattle.std.specs.Fn.{FnOnceReturnsAt};
 ghost use Rattle.sqlite.specs.Held.{state};
 ghost use Rattle.sqlite.specs.State.{HasCleanDisk, Survives};
@@ -48,10 +48,14 @@ impl<S: Alter> Store<S> {
         &self.plan
     }
 
-    /// Whether a later call may succeed. A failed call may have shut the connection for good; then
-    /// every later call is refused as `Storage`, and the file has to be opened again.
+    /// Whether a later call may succeed: exactly where the connection shows a room. A failed call
+    /// may have shut it for good; then every later call is refused as `Storage`, and the file has to
+    /// be opened again.
     pub fn is_sound(&self) -> bool
-        ensures { result ≡ self.now.is_sound }
+        requires { IsReady S.Store self.now }
+        ensures value { result ≡ self.now.is_sound }
+        ensures usable { HasCleanDisk (state S.Store self.now.conn)
+            → (IsTrue result ↔ ((state S.Store self.now.conn).now.schema ≡ room_schema)) }
     {
         self.is_sound
     }
@@ -78,6 +82,8 @@ impl<S: Alter> Store<S> {
             → IsRoom S.Store self.old terminals room → who ≡ who_at terminals token.now) }
         ensures leaves { HasCleanDisk (state S.Store self.new.conn)
             → Leaves (state S.Store self.old.conn) (state S.Store self.new.conn) }
+        ensures stays_open { HasCleanDisk (state S.Store self.new.conn)
+            → OnOk result (IsTrue (state S.Store self.new.conn).is_open) }
         ensures wants { IfErr result IsWant }
         ensures survives { Survives (state S.Store self.old.conn) (state S.Store self.new.conn)
             (λ _. ⊥) }
@@ -150,7 +156,7 @@ impl<S: Alter> Store<S> {
     // After a fault the connection may be shut, and then it shows another schema or none.
     pub(crate) fn test_file(&mut self)
         ensures sound { IsTrue self.new.is_sound
-            → (state S.Store self.new.conn).now.schema ≡ room_schema }
+            ↔ ((state S.Store self.new.conn).now.schema ≡ room_schema) }
         ensures conn { self.new.conn ≡ self.old.conn }
         ensures plan { self.new.plan ≡ self.old.plan }
     {

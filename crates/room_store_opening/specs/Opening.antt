@@ -1,7 +1,8 @@
 -- What a file holds that is opened.
-use Rattle.std.specs.Prelude.{IsTrue, List, ℕ, ◌≡◌, ◌⊎◌, ◌∷◌, []}
+use Rattle.std.specs.Prelude.{IsTrue, List, ℕ, ◌≡◌, ◌≢◌, ◌⊎◌, ◌∷◌, []}
 use Rattle.sqlite.specs.Effect.{Database}
-use Rattle.sqlite.specs.State.{State}
+use Rattle.sqlite.specs.State.{HasCleanDisk, State, Survives}
+use Rattle.sqlite_catalog.specs.Change.{KeepsRows}
 use Rattle.sqlite_schema.specs.declared.schema.Schema.{Schema}
 use Rattle.sqlite_trees.specs.Tree.{Trees}
 use Rattle.room_place.specs.Plans.{Layout}
@@ -28,9 +29,10 @@ use Rattle.room_tables_schema.specs.Schema.{areas_table, assignments_table, call
 use Rattle.room_tables_schema.specs.Versions.{BeginsAsRoom}
 use Rattle.room_tables_schema.specs.declared.faults.Fault.{Fault}
 use Rattle.room_tables_schema.specs.declared.faults.Fault.TheVariants as fault
-use Rattle.room_tables.specs.Stands.{House, Stands, StandsFor, numbered}
+use Rattle.room_tables.specs.Stands.{Stands, StandsFor, numbered}
 use Rattle.room_tables.specs.Versions.{IsOfFirstVersion}
 use Rattle.room_store_writes.specs.Houses.{house_of}
+use Rattle.room_store_writes.specs.Writing.{IsSettled, Leaves}
 use Rattle.room_store_opening.specs.declared.opening.OpenFault.{OpenFault}
 use Rattle.room_store_opening.specs.declared.opening.OpenFault.TheVariants.{Memory, Storage}
 
@@ -52,13 +54,34 @@ pub record HoldsRoom (trees : Trees) : Type 0 where
   pub formed : IsWellFormed room
   pub fits : AreTerminals room terminals
 
--- Whatever room the tables stood for, such tables stand for.
-abbrev pub StandsAs : State → Trees → Type 0
-StandsAs old trees = (house : House) (room : Room) → Stands old.now.trees house room → Stands trees house room
+-- Every table that the file had is there, with all the rows that it had.
+pub record KeepsAllRows (before after : Database) : Type 0 where
+  pub tables : after.schema.tables ≡ before.schema.tables
+  pub rows : KeepsRows before.schema.tables before.trees after.trees
 
--- The tables stand for the room that they stood for, unless the connection is shut.
-abbrev pub KeepsRoom : State → State → Type 0
-KeepsRoom old new = IsTrue new.is_open → StandsAs old new.now.trees
+-- A stop may leave such tables while the indexes are made of a file that has a room's tables alone: they have all the rows that they had.
+pub record MayBeIndexed (before : Database) (trees : Trees) : Type 0 where
+  pub alone : before.schema ≡ tables_schema
+  pub rows : KeepsRows before.schema.tables before.trees trees
+
+-- The indexes of a room were made of a file that had its tables alone. All rows stayed, and this is committed.
+pub record AddsIndexes (old new : State) : Type 0 where
+  pub was_open : IsTrue old.is_open
+  pub settled : IsSettled new
+  pub schema : new.now.schema ≡ room_schema
+  pub rows : KeepsAllRows old.now new.now
+
+-- What opening a file does to it, unless the connection is shut: all rows of all tables stay, and where it has not just a room's tables without their indexes, nothing is written.
+pub record KeepsFile (old new : State) : Type 0 where
+  pub was_open : IsTrue new.is_open → IsTrue old.is_open
+  pub rows : IsTrue new.is_open → KeepsAllRows old.now new.now
+  pub committed_rows : IsTrue new.is_open → KeepsAllRows old.committed new.committed
+  pub untouched : old.now.schema ≢ tables_schema → Leaves old new
+
+-- The call wrote nothing: all is as it was, unless the connection is shut, and a stop leaves what it could before.
+pub record WritesNothing (old new : State) : Type 0 where
+  pub left : HasCleanDisk new → Leaves old new
+  pub survives : Survives old new (λ _. ⊥)
 
 -- how a failing machine is told
 abbrev pub open_fault : Fault → OpenFault

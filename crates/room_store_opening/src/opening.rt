@@ -9,10 +9,23 @@ ghost use Rattle.room_model.specs.Slices.{room_of};
 ghost use Rattle.room_model.specs.WellFormed.{IsWellFormed};
 ghost use Rattle.room_tables_schema.specs.Schema.{room_schema, tables_schema};
 ghost use Rattle.room_tables.specs.Stands.{Stands};
-ghost use Rattle.room_store_writes.specs.Writing.{Commits, Leaves};
+ghost use Rattle.room_store_writes.specs.Writing.{IsSettled, Leaves};
 ghost use Rattle.room_store_writes.specs.Houses.{house_of};
-ghost use Rattle.room_store_opening.specs.Opening.{HasTables, HoldsRoom, IsOldRoom, KeepsRoom, StandsAs};
-ghost use Rattle.room_store_opening.specs.declared.opening.OpenFault.TheVariants.{Memory, NotARoom, OldRoom};
+ghost use Rattle.room_store_opening.specs.Opening.{
+  AddsIndexes,
+  HasTables,
+  HoldsRoom,
+  IsOldRoom,
+  KeepsAllRows,
+  KeepsFile,
+  MayBeIndexed,
+  WritesNothing,
+};
+ghost use Rattle.room_store_opening.specs.declared.opening.OpenFault.TheVariants.{
+  Memory,
+  NotARoom,
+  OldRoom,
+};
 
 use crate::whole::{RoomFile, read_whole};
 use room_place::plans::Plan;
@@ -66,6 +79,8 @@ pub fn open_in<S: Alter>(alloc: Global, conn: &mut Connection<S>) -> Result<Plan
         × Stands (state S.Store conn.new).now.trees (house_of plan terminals) room) }
     ensures schema { HasCleanDisk (state S.Store conn.new)
         → OnOk result ((state S.Store conn.new).now.schema ≡ room_schema) }
+    ensures settled { HasCleanDisk (state S.Store conn.new)
+        → OnOk result (IsSettled (state S.Store conn.new)) }
     ensures not_old { HasCleanDisk (state S.Store conn.new)
         → OnOk result (¬ IsOldRoom (state S.Store conn.old).now) }
     ensures old_room { HasCleanDisk (state S.Store conn.new)
@@ -75,10 +90,12 @@ pub fn open_in<S: Alter>(alloc: Global, conn: &mut Connection<S>) -> Result<Plan
         → IfErr result (λ e. e ≡ NotARoom → HasTables (state S.Store conn.old).now.schema
         → ¬ HoldsRoom (state S.Store conn.old).now.trees) }
     ensures kept { HasCleanDisk (state S.Store conn.new)
-        → KeepsRoom (state S.Store conn.old) (state S.Store conn.new) }
+        → KeepsFile (state S.Store conn.old) (state S.Store conn.new) }
+    ensures old_kept { IfErr result (λ e. e ≡ OldRoom
+        → WritesNothing (state S.Store conn.old) (state S.Store conn.new)) }
     ensures ended { conn.new.in_transaction ≡ false }
     ensures survives { Survives (state S.Store conn.old) (state S.Store conn.new)
-        (StandsAs (state S.Store conn.old)) }
+        (MayBeIndexed (state S.Store conn.old).now) }
 {
     if is_old(conn)? {
         return Err(OpenFault::OldRoom);
@@ -93,10 +110,8 @@ fn is_old<S: Alter>(conn: &mut Connection<S>) -> Result<bool, Fault>
         → IfOk result (λ yes. IsTrue yes ↔ IsOldRoom (state S.Store conn.old).now) }
     ensures ok { HasCleanDisk (state S.Store conn.new)
         → OnOk result ((state S.Store conn.new).now ≡ (state S.Store conn.old).now) }
-    ensures err { HasCleanDisk (state S.Store conn.new)
-        → OnErr result (KeepsRoom (state S.Store conn.old) (state S.Store conn.new)) }
+    ensures nothing { WritesNothing (state S.Store conn.old) (state S.Store conn.new) }
     ensures ended { conn.new.in_transaction ≡ false }
-    ensures survives { Survives (state S.Store conn.old) (state S.Store conn.new) (λ _. ⊥) }
 {
     // Outside a transaction the tables are as they were committed.
     let _ = conn.is_autocommit();
@@ -115,15 +130,17 @@ fn read_room<S: Alter>(alloc: Global, conn: &mut Connection<S>) -> Result<Plan, 
         × Stands (state S.Store conn.new).now.trees (house_of plan terminals) room) }
     ensures schema { HasCleanDisk (state S.Store conn.new)
         → OnOk result ((state S.Store conn.new).now.schema ≡ room_schema) }
+    ensures settled { HasCleanDisk (state S.Store conn.new)
+        → OnOk result (IsSettled (state S.Store conn.new)) }
     ensures no_room { HasCleanDisk (state S.Store conn.new)
         → IfErr result (λ e. e ≡ NotARoom → HasTables (state S.Store conn.old).now.schema
         → ¬ HoldsRoom (state S.Store conn.old).now.trees) }
     ensures kept { HasCleanDisk (state S.Store conn.new)
-        → KeepsRoom (state S.Store conn.old) (state S.Store conn.new) }
+        → KeepsFile (state S.Store conn.old) (state S.Store conn.new) }
     ensures this_version { IfErr result (λ e. e ≢ OldRoom) }
     ensures ended { conn.new.in_transaction ≡ false }
     ensures survives { Survives (state S.Store conn.old) (state S.Store conn.new)
-        (StandsAs (state S.Store conn.old)) }
+        (MayBeIndexed (state S.Store conn.old).now) }
 {
     have_indexes(conn)?;
     // Outside a transaction the tables are as they were committed.
@@ -179,15 +196,15 @@ fn have_indexes<S: Alter>(conn: &mut Connection<S>) -> Result<(), OpenFault>
     ensures schema { HasCleanDisk (state S.Store conn.new)
         → OnOk result ((state S.Store conn.new).now.schema ≡ room_schema) }
     ensures ok { HasCleanDisk (state S.Store conn.new)
-        → OnOk result (StandsAs (state S.Store conn.old) (state S.Store conn.new).now.trees) }
-    ensures err { HasCleanDisk (state S.Store conn.new)
-        → OnErr result (Leaves (state S.Store conn.old) (state S.Store conn.new)) }
+        → OnOk result (KeepsAllRows (state S.Store conn.old).now (state S.Store conn.new).now) }
+    ensures kept { HasCleanDisk (state S.Store conn.new)
+        → KeepsFile (state S.Store conn.old) (state S.Store conn.new) }
     ensures no_room { IfErr result (λ e. e ≡ NotARoom
         → ¬ HasTables (state S.Store conn.old).now.schema) }
     ensures this_version { IfErr result (λ e. e ≢ OldRoom) }
     ensures ended { conn.new.in_transaction ≡ false }
     ensures survives { Survives (state S.Store conn.old) (state S.Store conn.new)
-        (StandsAs (state S.Store conn.old)) }
+        (MayBeIndexed (state S.Store conn.old).now) }
 {
     let _ = conn.is_autocommit();
     if is_room(conn.schema()) {
@@ -206,13 +223,12 @@ fn add_indexes<S: Alter>(conn: &mut Connection<S>) -> Result<(), Fault>
     requires committed { IsTrue (state S.Store conn.old).is_open
         → (state S.Store conn.old).now ≡ (state S.Store conn.old).committed }
     ensures ok { HasCleanDisk (state S.Store conn.new)
-        → OnOk result (Commits (state S.Store conn.old) (state S.Store conn.new)
-        (Stands (state S.Store conn.old).now.trees) (λ room. room)) }
+        → OnOk result (AddsIndexes (state S.Store conn.old) (state S.Store conn.new)) }
     ensures err { HasCleanDisk (state S.Store conn.new)
         → OnErr result (Leaves (state S.Store conn.old) (state S.Store conn.new)) }
     ensures ended { conn.new.in_transaction ≡ false }
     ensures survives { Survives (state S.Store conn.old) (state S.Store conn.new)
-        (StandsAs (state S.Store conn.old)) }
+        (MayBeIndexed (state S.Store conn.old).now) }
 {
     let mut tx = conn.transaction();
     let done = make_indexes(&mut tx);

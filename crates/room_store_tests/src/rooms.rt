@@ -5,10 +5,10 @@ use crate::scripts::{
     FATES, House, OF_A_LOAN, OF_AN_ORDER, Script, a_loan, an_order, fleet, new_house,
 };
 use room_place::plans::DivisionNumber;
-use room_tables::incidents::active_incidents;
+use room_store_reads::working::load_working;
 use room_tables_schema::faults::Fault;
 use room_tables_schema::testing::is_room;
-use room_types::asks::Event;
+use room_types::asks::{Ask, Event};
 use room_types::fleet::FleetRow;
 use sqlite::{Alter, Connection};
 use std::alloc::{AllocError, Global};
@@ -81,20 +81,21 @@ fn a_loan_and_its_recall_are_answered(rt: HostRuntime) -> Result<(), Fail> {
     test_answers(&rt, &events, &OF_A_LOAN)
 }
 
-// How many active incidents a division reads, none where there is no room.
+// How many active incidents are read for a division's desk, none where there is no room.
 fn active<S: Alter>(
     alloc: Global,
     conn: &mut Connection<S>,
     division: DivisionNumber,
 ) -> Result<usize, Fault> {
     if is_room(conn.schema()) {
-        Ok(active_incidents(alloc, conn, division)?.len())
+        let rows = load_working(alloc, conn, division, &Ask::Incidents)?;
+        Ok(rows.incidents.len())
     } else {
         Ok(0)
     }
 }
 
-// Another program puts incidents into a new room: how many are read then of both divisions. Gives
+// Another program puts incidents into a new room: how many are read then for either desk. Gives
 // the connection again.
 fn active_in_both<S: Alter>(
     rt: &(impl AllocGlobal + Abort),

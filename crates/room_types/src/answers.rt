@@ -118,7 +118,7 @@ pub struct PointLine {
     pub number: PointNumber,
     pub place: Place,
     pub cover: Cover,
-    pub held: u32,
+    pub held: u64,
 }
 
 /// Something that needs an eye. Entries stand in the order of their fields, none before any

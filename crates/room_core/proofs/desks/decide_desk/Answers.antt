@@ -1,4 +1,5 @@
-use Rattle.std.proofs.Common.{ap, subst, sym, ◌∙◌}
+use Rattle.std.proofs.Common.{ap, inl, inr, subst, sym, ◌∙◌, ◌≡◌}
+use Rattle.room_model.proofs.OwnDesk.{desk_own}
 use Rattle.room_model.proofs.WorkingLaw.{desk_working}
 use Rattle.room_model.specs.Slices.{room_of}
 use Rattle.room_model.specs.Step.{desk_asks}
@@ -6,9 +7,13 @@ use Rattle.room_core.specs.Deciding.{Decides}
 use Rattle.room_core.proofs.desks.decide_desk.Goals as goal
 
 pub returns : goal.returns
-returns c r formed planned same =
+returns c r formed planned read =
     let d = c.args.slice.now.division in
     let a = c.args.ask.now in
     let at = c.args.at in
-    let here = ap (λ plan. room_of plan c.args.slice.now.rows) (sym planned) ∙ same in
-    subst (λ decided. Decides decided c.decide.result) (ap (desk_asks d a at) here ∙ desk_working d r formed.order formed.active a at) c.decide.ensures
+    let here = ap (λ plan. desk_asks d a at (room_of plan c.args.slice.now.rows)) (sym planned) in
+    let told : desk_asks d a at (room_of r.plan c.args.slice.now.rows) ≡ desk_asks d a at r = elim read [
+      | inl e ↦ ap (desk_asks d a at) e ∙ desk_working d r formed.order formed.active a at
+      | inr e ↦ ap (desk_asks d a at) e ∙ desk_own d r formed.order a at
+    ] in
+    subst (λ decided. Decides decided c.decide.result) (here ∙ told) c.decide.ensures

@@ -14,7 +14,7 @@ returns-in-Ok-write_all-clause-answers g c o shown =
       wrote.1,
       λ trust terminals room stood.
           let says = c.in-Ok.ensures.reply.says trust terminals room stood o shown in
-          (says.0, c.in-Ok.bytes.items, [], IsTalk-one _ _ _ _ _ _ _ says.1, (says.2, refl), rw (append-nil, ← c.as_slice.ensures.value) wrote.0),
+          (says.0, c.in-Ok.bytes.items, [], IsTalk-one _ _ _ _ _ _ _ says.1, ((says.2, λ was. g.met.M.Room.leaves_it _ terminals says.0 (c.in-Ok.ensures.keeps.kept trust was) says.2), refl), rw (append-nil, ← c.as_slice.ensures.value) wrote.0),
     )
 
 pub returns-in-Ok-clause-answers : goal.returns-in-Ok-clause-answers
@@ -25,7 +25,7 @@ returns-in-Ok-clause-answers g c o shown =
       cut.4,
       inl (λ trust terminals room stood.
           let says = c.in-Ok.ensures.reply.says trust terminals room stood o shown in
-          (room, [], cut.0, (refl, refl), (says.0, c.in-Ok.bytes.items, says.1, says.2, (cut.1, sym c.as_slice.ensures.value ∙ cut.2)), cut.3)),
+          (room, [], cut.0, (refl, refl), (says.0, c.in-Ok.bytes.items, says.1, (says.2, λ was. g.met.M.Room.leaves_it _ terminals says.0 (c.in-Ok.ensures.keeps.kept trust was) says.2), (cut.1, sym c.as_slice.ensures.value ∙ cut.2)), cut.3)),
     )
 
 pub returns-clause-answers : goal.returns-clause-answers
@@ -38,7 +38,7 @@ returns-clause-answers g c o shown =
         c.in-Err.refusal,
         c.in-Err.ensures.reply.wants,
         λ trust terminals room stood.
-            (room, [], cut.0, (refl, refl), (c.in-Err.ensures.reply.says trust terminals room stood, (cut.1, ap (fixed_bytes c.in-Err.refusal) (sym (c.head_only.ensures o shown)) ∙ sym c.fixed.ensures ∙ cut.2)), cut.3),
+            (room, [], cut.0, (refl, refl), ((c.in-Err.ensures.reply.says trust terminals room stood, λ was. c.in-Err.ensures.keeps.left trust was terminals room stood o shown), (cut.1, ap (fixed_bytes c.in-Err.refusal) (sym (c.head_only.ensures o shown)) ∙ sym c.fixed.ensures ∙ cut.2)), cut.3),
       ),
     )
 
@@ -51,21 +51,21 @@ returns-in-Ok-write_all-2-clause-answers g c o shown =
         c.in-Err.refusal,
         c.in-Err.ensures.reply.wants,
         λ trust terminals room stood.
-            (room, [], fixed_bytes c.in-Err.refusal (is_head_only o), (refl, refl), (c.in-Err.ensures.reply.says trust terminals room stood, refl), rw (← c.head_only.ensures o shown, ← c.fixed.ensures) wrote.0),
+            (room, [], fixed_bytes c.in-Err.refusal (is_head_only o), (refl, refl), ((c.in-Err.ensures.reply.says trust terminals room stood, λ was. c.in-Err.ensures.keeps.left trust was terminals room stood o shown), refl), rw (← c.head_only.ensures o shown, ← c.fixed.ensures) wrote.0),
       ),
     )
 
 pub returns-in_default-clause-promised : goal.returns-in_default-clause-promised
-returns-in_default-clause-promised g c same o shown = none_served _ _ _ _ _ (g.met.M.Room.fits _) tt
+returns-in_default-clause-promised g c same o shown = none_served _ _ _ _ _ _ _ (g.met.M.Room.fits _) (g.met.M.Room.leaves_it _) tt
 
 pub returns-in-Ok-write_all-clause-promised : goal.returns-in-Ok-write_all-clause-promised
-returns-in-Ok-write_all-clause-promised g c same o shown = one_promised _ _ _ _ _ _ false _ _ _ (g.met.M.Room.fits _) o _ (Ok tt) (returns-in-Ok-write_all-clause-answers g c o shown) same
+returns-in-Ok-write_all-clause-promised g c same o shown = one_promised _ _ _ _ _ _ false _ _ _ _ _ (g.met.M.Room.fits _) o _ (Ok tt) (returns-in-Ok-write_all-clause-answers g c o shown) same
 
 pub returns-in-Ok-clause-promised : goal.returns-in-Ok-clause-promised
-returns-in-Ok-clause-promised g c same o shown = one_promised _ _ _ _ _ _ false _ _ _ (g.met.M.Room.fits _) o _ (Err WriteFault) (returns-in-Ok-clause-answers g c o shown) same
+returns-in-Ok-clause-promised g c same o shown = one_promised _ _ _ _ _ _ false _ _ _ _ _ (g.met.M.Room.fits _) o _ (Err WriteFault) (returns-in-Ok-clause-answers g c o shown) same
 
 pub returns-in-Ok-write_all-2-clause-promised : goal.returns-in-Ok-write_all-2-clause-promised
-returns-in-Ok-write_all-2-clause-promised g c same o shown = one_promised _ _ _ _ _ false false _ _ _ (g.met.M.Room.fits _) o _ (Err Closed) (returns-in-Ok-write_all-2-clause-answers g c o shown) same
+returns-in-Ok-write_all-2-clause-promised g c same o shown = one_promised _ _ _ _ _ false false _ _ _ _ _ (g.met.M.Room.fits _) o _ (Err Closed) (returns-in-Ok-write_all-2-clause-answers g c o shown) same
 
 pub returns-clause-promised : goal.returns-clause-promised
-returns-clause-promised g c same o shown = one_promised _ _ _ _ _ _ false _ _ _ (g.met.M.Room.fits _) o _ (Err WriteFault) (returns-clause-answers g c o shown) same
+returns-clause-promised g c same o shown = one_promised _ _ _ _ _ _ false _ _ _ _ _ (g.met.M.Room.fits _) o _ (Err WriteFault) (returns-clause-answers g c o shown) same

@@ -14,8 +14,9 @@ pub messages-init : goal.messages-init
 messages-init g c =
     let none : c.args.budget - c.args.budget ≡ 0 = omega arith in
     record {
-      going = ([], Going-kept _ _ _ _ _ _ _ _ _ _ _ (Going-none g.M.Room.step c.args.zone.now _ _ _) (Keeps-prepend _ _ c.in-Ok-new.ensures));
+      going = ([], Going-kept _ _ _ _ _ _ _ _ _ _ _ (Going-none g.M.Room.step c.args.zone.now _ _ _ _ (λ terminals room standing. (standing, λ was. g.met.M.Room.leaves_it _ terminals room was standing))) (Keeps-prepend _ _ c.in-Ok-new.ensures));
       trusted = λ trust. trust;
+      kept = λ trust was. was;
       spent = omega arith;
       reads = rw none (CountsBy-none _);
       reader = c.requires.reader;
@@ -34,7 +35,7 @@ returns-in-Err-clause-talk g c =
     let left = g.R.Source.left c.read_message.new.reader in
     let going = c.messages.invariant.going in
     let kept = Going-kept _ _ _ _ _ _ _ _ _ _ _ going.1 c.read_message.ensures.read.same in
-    ends _ _ _ _ _ _ _ _ _ going.0 kept _ _ _ c.in-Err.ensures.trusted (prepend_known (drop end bytes) left) (message whole.0)
+    ends _ _ _ _ _ _ _ (g.M.Room.leaves_one_of c.messages.room) _ _ _ going.0 kept _ _ _ _ (g.M.Room.leaves_one_of c.answer.new.room) c.in-Err.ensures.trusted (λ trust. c.messages.invariant.kept (c.in-Err.ensures.trusted trust)) (prepend_known (drop end bytes) left) (message whole.0)
     (message_passes bytes (drop end bytes) left whole.0 end whole.1 refl) _ _ (c.in-Err.ensures.answers (message whole.0) (c.message.ensures whole.0 whole.2))
 
 pub returns-then-layout-clause-reads : goal.returns-then-layout-clause-reads
@@ -48,7 +49,7 @@ returns-then-layout-clause-talk g c =
     let left = g.R.Source.left c.read_message.new.reader in
     let going = c.messages.invariant.going in
     let kept = Going-kept _ _ _ _ _ _ _ _ _ _ _ going.1 c.read_message.ensures.read.same in
-    closes _ _ _ _ _ _ _ _ _ going.0 kept _ _ _ c.in_default-answer.ensures.trusted (prepend_known (drop end bytes) left) (message whole.0)
+    closes _ _ _ _ _ _ _ (g.M.Room.leaves_one_of c.messages.room) _ _ _ going.0 kept _ _ _ _ (g.M.Room.leaves_one_of c.answer.new.room) c.in_default-answer.ensures.trusted (λ trust. c.messages.invariant.kept (c.in_default-answer.ensures.trusted trust)) (prepend_known (drop end bytes) left) (message whole.0)
     (message_passes bytes (drop end bytes) left whole.0 end whole.1 refl) c.args.budget (c.in_default-answer.ensures.answers (message whole.0) (c.message.ensures whole.0 whole.2))
     (sym whole.2.closing ∙ c.if-layout.true)
 
@@ -71,9 +72,11 @@ messages-preserved g c =
       was_none = g.C.Clock.was_none c.answer.new.clock;
     } in
     record {
-      going = Going-more _ _ _ _ _ _ _ _ _ going.0 kept new _ _ c.in_default-answer.ensures.trusted (prepend_known c.remove.new.self left) (message whole.0)
+      going = Going-more _ _ _ _ _ _ _ (g.M.Room.leaves_one_of c.messages.room) _ _ _ going.0 kept new _ _ (g.M.Room.stands c.answer.new.room) (g.M.Room.leaves_one_of c.answer.new.room) c.in_default-answer.ensures.trusted
+          (λ trust. c.messages.invariant.kept (c.in_default-answer.ensures.trusted trust)) (prepend_known c.remove.new.self left) (message whole.0)
           (message_passes bytes c.remove.new.self left whole.0 end whole.1 c.remove.ensures) answers (sym whole.2.closing ∙ c.if-layout.false);
       trusted = λ trust. c.messages.invariant.trusted (c.in_default-answer.ensures.trusted trust);
+      kept = λ trust was. c.in_default-answer.ensures.kept trust (c.messages.invariant.kept (c.in_default-answer.ensures.trusted trust) was);
       spent = omega (arith, c.messages.invariant.spent, c.read_message.ensures.read.spent);
       reads = reads_by _ _ _ _ _ _ c.messages.invariant.spent c.read_message.ensures.read.spent c.messages.invariant.reads c.read_message.ensures.read.count;
       reader = c.in-Ok-read_message.ensures.says.1;
@@ -94,10 +97,10 @@ returns-in-Err-Refused-clause-talk g c =
     let kept = Going-kept _ _ _ _ _ _ _ _ _ _ _ going.1 c.read_message.ensures.read.same in
     let says = (rw c.in-Err-Refused.field-0-is at c.in-Err-Refused.ensures.says) in
     elim c.match-answer-2.branch [
-      | in-Ok-answer w ↦ rw w.result-is (closes _ _ _ _ _ _ _ _ _ going.0 kept _ _ _ w.in-Ok-answer.ensures.trusted (prepend_known bytes left) (refused r head_only)
+      | in-Ok-answer w ↦ rw w.result-is (closes _ _ _ _ _ _ _ (g.M.Room.leaves_one_of c.messages.room) _ _ _ going.0 kept _ _ _ _ (g.M.Room.leaves_one_of c.answer-in-Err-Refused.new.room) w.in-Ok-answer.ensures.trusted (λ trust. c.messages.invariant.kept (w.in-Ok-answer.ensures.trusted trust)) (prepend_known bytes left) (refused r head_only)
           (refusal_passes bytes left r head_only says.0) c.args.budget (w.in-Ok-answer.ensures.answers (refused r head_only) ((cc), (cc))) refl)
-      | in-Err-answer w ↦ rw w.result-is (ends _ _ _ _ _ _ _ _ _ going.0 kept _ _ _ w.in-Err-answer.ensures.trusted (prepend_known bytes left) (refused r head_only)
-          (refusal_passes bytes left r head_only says.0) _ _ (w.in-Err-answer.ensures.answers (refused r head_only) ((cc), (cc))))
+      | in-Err-answer w ↦ rw w.result-is (ends _ _ _ _ _ _ _ (g.M.Room.leaves_one_of c.messages.room) _ _ _ going.0 kept _ _ _ _ (g.M.Room.leaves_one_of c.answer-in-Err-Refused.new.room) w.in-Err-answer.ensures.trusted (λ trust. c.messages.invariant.kept (w.in-Err-answer.ensures.trusted trust)) (prepend_known bytes left) (refused r head_only)
+          (refusal_passes bytes left r head_only says.0) c.args.budget _ (w.in-Err-answer.ensures.answers (refused r head_only) ((cc), (cc))))
     ]
 
 pub returns-in-Err-End-clause-reads : goal.returns-in-Err-End-clause-reads
@@ -165,28 +168,28 @@ returns-in-Err-Refused-clause-none_missed g c =
     ]
 
 pub returns-in-Err-clause-promised : goal.returns-in-Err-clause-promised
-returns-in-Err-clause-promised g c = promised _ _ _ _ _ _ (g.met.M.Room.fits _) _ _ _ (returns-in-Err-clause-talk g c)
+returns-in-Err-clause-promised g c = promised _ _ _ _ _ _ _ _ (g.met.M.Room.fits _) _ _ _ (returns-in-Err-clause-talk g c)
 
 pub returns-then-layout-clause-promised : goal.returns-then-layout-clause-promised
-returns-then-layout-clause-promised g c = promised _ _ _ _ _ _ (g.met.M.Room.fits _) _ c.args.budget Closed (returns-then-layout-clause-talk g c)
+returns-then-layout-clause-promised g c = promised _ _ _ _ _ _ _ _ (g.met.M.Room.fits _) _ c.args.budget Closed (returns-then-layout-clause-talk g c)
 
 pub returns-in-Err-Refused-clause-promised : goal.returns-in-Err-Refused-clause-promised
-returns-in-Err-Refused-clause-promised g c = promised _ _ _ _ _ _ (g.met.M.Room.fits _) _ _ _ (returns-in-Err-Refused-clause-talk g c)
+returns-in-Err-Refused-clause-promised g c = promised _ _ _ _ _ _ _ _ (g.met.M.Room.fits _) _ _ _ (returns-in-Err-Refused-clause-talk g c)
 
 pub returns-in-Err-End-clause-promised : goal.returns-in-Err-End-clause-promised
-returns-in-Err-End-clause-promised g c = promised _ _ _ _ _ _ (g.met.M.Room.fits _) _ c.args.budget Closed (returns-in-Err-End-clause-talk g c)
+returns-in-Err-End-clause-promised g c = promised _ _ _ _ _ _ _ _ (g.met.M.Room.fits _) _ c.args.budget Closed (returns-in-Err-End-clause-talk g c)
 
 pub returns-in-Err-Cut-clause-promised : goal.returns-in-Err-Cut-clause-promised
-returns-in-Err-Cut-clause-promised g c = promised _ _ _ _ _ _ (g.met.M.Room.fits _) _ c.args.budget Cut (returns-in-Err-Cut-clause-talk g c)
+returns-in-Err-Cut-clause-promised g c = promised _ _ _ _ _ _ _ _ (g.met.M.Room.fits _) _ c.args.budget Cut (returns-in-Err-Cut-clause-talk g c)
 
 pub returns-in-Err-ReadFault-clause-promised : goal.returns-in-Err-ReadFault-clause-promised
-returns-in-Err-ReadFault-clause-promised g c = promised _ _ _ _ _ _ (g.met.M.Room.fits _) _ c.args.budget ReadFault (returns-in-Err-ReadFault-clause-talk g c)
+returns-in-Err-ReadFault-clause-promised g c = promised _ _ _ _ _ _ _ _ (g.met.M.Room.fits _) _ c.args.budget ReadFault (returns-in-Err-ReadFault-clause-talk g c)
 
 pub returns-in-Err-ReadsSpent-clause-promised : goal.returns-in-Err-ReadsSpent-clause-promised
-returns-in-Err-ReadsSpent-clause-promised g c = promised _ _ _ _ _ _ (g.met.M.Room.fits _) _ c.args.budget ReadsSpent (returns-in-Err-ReadsSpent-clause-talk g c)
+returns-in-Err-ReadsSpent-clause-promised g c = promised _ _ _ _ _ _ _ _ (g.met.M.Room.fits _) _ c.args.budget ReadsSpent (returns-in-Err-ReadsSpent-clause-talk g c)
 
 pub returns-in_default-clause-promised : goal.returns-in_default-clause-promised
-returns-in_default-clause-promised g c same = none_served _ _ _ _ _ (g.met.M.Room.fits _) ((λ stream known. (stream, refl)), ([], Appends-none _))
+returns-in_default-clause-promised g c same = none_served _ _ _ _ _ _ _ (g.met.M.Room.fits _) (g.met.M.Room.leaves_it _) ((λ stream known. (stream, refl)), ([], Appends-none _))
 
 pub returns-in_default-new-clause-promised : goal.returns-in_default-new-clause-promised
-returns-in_default-new-clause-promised g c same = none_served _ _ _ _ _ (g.met.M.Room.fits _) ((λ stream known. (stream, refl)), ([], Appends-none _))
+returns-in_default-new-clause-promised g c same = none_served _ _ _ _ _ _ _ (g.met.M.Room.fits _) (g.met.M.Room.leaves_it _) ((λ stream known. (stream, refl)), ([], Appends-none _))

@@ -2,7 +2,7 @@ use Rattle.std.proofs.Common.{◌≡◌, ◌≤◌, false, ◌+◌, ◌-◌, ◌
 use Rattle.std.specs.Io.KnownBytes.{prepend_known}
 use Rattle.room_http_messages.specs.declared.limits.TheConstants.{INBOX_ROOM}
 use Rattle.room_http_messages.specs.Streams.{CountsBy}
-use Rattle.room_http.specs.Talk.{Timed}
+use Rattle.room_http.specs.Talk.{Stays, Timed}
 use Rattle.room_http.proofs.ServeLemmas.{Going}
 use Rattle.room_http.proofs.serving.serve.Given as goal
 
@@ -11,8 +11,9 @@ invariant-messages g l = record {
   going : (outs : List Timed) × Going g.M.Room.step l.zone
       (record { left = g.R.Source.left l.initial.reader; reads = g.R.Source.reads l.initial.reader; held = g.W.Sink.held l.initial.writer; given = g.C.Clock.given l.initial.clock })
       (prepend_known l.inbox (g.R.Source.left l.reader)) (g.W.Sink.held l.writer) (g.C.Clock.given l.clock)
-      (g.M.Room.is_trusted l.room) (g.M.Room.stands l.initial.room) (g.M.Room.stands l.room) outs;
+      (g.M.Room.is_trusted l.room) (g.M.Room.stands l.initial.room) (Stays (g.M.Room.is_kept l.initial.room) (g.M.Room.stands l.room) (g.M.Room.leaves_one_of l.room)) outs;
   trusted : g.M.Room.is_trusted l.room → g.M.Room.is_trusted l.initial.room;
+  kept : g.M.Room.is_trusted l.room → g.M.Room.is_kept l.initial.room → g.M.Room.is_kept l.room;
   spent : l.left ≤ l.budget;
   reads : CountsBy (l.budget - l.left) (g.R.Source.reads l.initial.reader) (g.R.Source.reads l.reader);
   reader : g.R.Source.has_failed l.reader ≡ false;

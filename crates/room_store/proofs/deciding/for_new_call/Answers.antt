@@ -1,4 +1,4 @@
-use Rattle.std.proofs.Common.{refl}
+use Rattle.std.proofs.Common.{inl, refl}
 use Rattle.std.proofs.lemmas.Result.{IfOk-weaker}
 use Rattle.room_model.specs.Calls.{take_call}
 use Rattle.room_tables_sql.proofs.ReadLaws.{fails, looked, told, told_any, wants}
@@ -8,7 +8,7 @@ pub returns-in-Some-clause-decided : goal.returns-in-Some-clause-decided
 returns-in-Some-clause-decided g c clean = IfOk-weaker c.machines.result _ _ (λ x told house room h formed same none placed.
     let rows = c.in_ok-rows.ensures.rows clean house room h formed.order in
     let decided = rw (c.in-Some.ensures.rows.0, c.in-Some.ensures.rows.1) at c.decide_call-decision.ensures room c.args.form.now formed same none placed in
-    told (take_call c.args.new.now room) (decided rows)) c.machines.ensures
+    told (take_call c.args.new.now room) (decided (inl rows))) c.machines.ensures
 
 pub returns-in_err-rows-clause-reads : goal.returns-in_err-rows-clause-reads
 returns-in_err-rows-clause-reads g c = fails c.from_residual.ensures.0 c.in_err-rows.ensures.reads

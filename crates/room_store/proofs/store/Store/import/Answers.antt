@@ -1,11 +1,11 @@
-use Rattle.std.proofs.Common.{List, [], arith, length, subst, sym, take, ◌++◌, ◌+◌, ◌∙◌, ◌∷◌, ◌≡◌}
+use Rattle.std.proofs.Common.{List, [], arith, inl, length, subst, sym, take, ◌++◌, ◌+◌, ◌∙◌, ◌∷◌, ◌≡◌}
 use Rattle.std.proofs.lemmas.List.{take_more}
 use Rattle.sqlite.specs.Held.{state}
 use Rattle.sqlite.specs.State.{HasCleanDisk}
 use Rattle.room_types.specs.declared.fleet.Terminal.{Terminal}
 use Rattle.room_model.specs.Room.{Room}
-use Rattle.room_store.proofs.EnrolledLaws.{enrolled_more, rows_survive, told_more}
-use Rattle.room_store.proofs.StoreLaws.{room_left}
+use Rattle.room_store.proofs.EnrolledLaws.{enrolled_more, rows_left, rows_survive, told_more}
+use Rattle.room_store.proofs.StoreLaws.{kept_stands, room_left}
 use Rattle.room_store.specs.Enrolling.{room_after_rows, terminals_after_rows}
 use Rattle.room_store.specs.Keeping.{IsRoom}
 use Rattle.room_store.proofs.store.Store.import.Goals as goal
@@ -25,6 +25,7 @@ loop-row-preserved g c =
       ready = c.enrol.ensures.ready;
       plan = c.enrol.ensures.plan ∙ before.plan;
       still_open = λ clean is_open. (c.in-Ok.ensures.settled clean).is_open;
+      kept = λ clean kept. record { is_open = (c.in-Ok.ensures.settled clean).is_open; alone = c.in-Ok.ensures.alone clean };
       done = λ clean terminals room is.
           let done = before.done (early clean) terminals room is in
           let now = terminals_after_rows (take i rows) room terminals in
@@ -38,12 +39,17 @@ loop-row-preserved g c =
 pub returns-in-Err-clause-enrolled : goal.returns-in-Err-clause-enrolled
 returns-in-Err-clause-enrolled g c clean terminals room is =
     let early : HasCleanDisk (state g.S.Store c.loop-row.self.conn) = omega (arith, c.enrol.ensures.survives.clean) in
-    let done = c.loop-row.invariant.done early terminals room is in (
+    let done = c.loop-row.invariant.done early terminals room is in
+    let rows = c.args.rows.now in
+    let i = c.loop-row.row-index in
+    let row = c.row-item.result in
+    let more : take (i + 1) rows ≡ take i rows ++ row ∷ [] = rw c.row-item.is (take_more rows i _ c.loop-row-test.true) in (
       record {
         count = c.loop-row.row-index;
         within = omega (arith, c.loop-row-test.true);
         told = c.in-Err.ensures.kept ∙ done.1;
         stands = room_left g.S.Store c.loop-row.self c.enrol.new.self _ _ (c.in-Err.ensures.err clean) c.enrol.ensures.plan done.0;
+        left = λ kept. rows_left rows i row more g.S.Store c.args.self.now c.loop-row.self c.enrol.new.self terminals room c.loop-row.invariant.plan (c.loop-row.invariant.kept early kept) done.0 clean c.enrol.ensures.survives;
       },
       tt,
     )
@@ -66,6 +72,7 @@ returns-clause-enrolled g c clean terminals room is =
         within = omega (arith, whole);
         told = done.1;
         stands = done.0;
+        left = λ kept db left. inl (rw (sym c.loop-row.invariant.plan) (kept_stands g.S.Store c.loop-row.self _ _ (c.loop-row.invariant.kept clean kept) done.0 db left));
       },
       whole,
     )

@@ -1,0 +1,45 @@
+-- How a command ends: what its words and its file are to the program.
+use Rattle.std.specs.Prelude.{Bool, Err, Ok, Result, false, true, ℕ, ◌⊎◌, ◌≡◌}
+use Rattle.clap.specs.declared.error.ErrorKind.{ErrorKind}
+use Rattle.clap.specs.declared.error.ErrorKind.TheVariants as kind
+use Rattle.sqlite.specs.declared.error.Error.{Error}
+use Rattle.sqlite.specs.declared.error.Error.TheVariants.{SqliteFailure}
+use Rattle.sqlite.specs.declared.error.ErrorCode.TheVariants.{OutOfMemory}
+use Rattle.dispatch_room_endings.specs.Endings.{status_done, status_of}
+use Rattle.dispatch_room_endings.specs.declared.endings.Done.{Done}
+use Rattle.dispatch_room_endings.specs.declared.endings.Done.TheVariants.{Whole}
+use Rattle.dispatch_room_endings.specs.declared.endings.Failure.{Failure}
+use Rattle.dispatch_room_endings.specs.declared.endings.Failure.TheVariants.{Memory, Network, Storage}
+
+-- the exit status of a command by what it did
+abbrev pub status_after : Result Done Failure → ℕ
+status_after (Ok done) = status_done done
+status_after (Err fault) = status_of fault
+
+-- what the database's errors are: want of memory, and else a file that failed
+abbrev pub fault_of : Error → Failure
+fault_of (SqliteFailure OutOfMemory) = Memory
+fault_of other = Storage
+
+-- a database's file fails for memory or for storage
+abbrev pub IsFileFault : Failure → Type 0
+IsFileFault fault = (fault ≡ Memory) ⊎ (fault ≡ Storage)
+
+-- the words have a mistake: they neither ask for help nor want memory
+abbrev pub is_mistake : ErrorKind → Bool
+is_mistake kind.DisplayHelp = false
+is_mistake kind.DisplayVersion = false
+is_mistake kind.OutOfMemory = false
+is_mistake other = true
+
+-- what comes of help that is asked for: it is written, unless the output fails or memory is wanting
+abbrev pub IsHelpDone : ErrorKind → Result Done Failure → Type 0
+IsHelpDone kind.OutOfMemory done = done ≡ Err Memory
+IsHelpDone other done = (done ≡ Ok Whole) ⊎ (done ≡ Err Network)
+
+-- the exit status of words that are no command: 2 exactly where they have a mistake, else that of help
+abbrev pub IsWordsStatus : ErrorKind → ℕ → Type 0
+IsWordsStatus kind.OutOfMemory status = status ≡ 5
+IsWordsStatus kind.DisplayHelp status = (status ≡ 0) ⊎ (status ≡ 4)
+IsWordsStatus kind.DisplayVersion status = (status ≡ 0) ⊎ (status ≡ 4)
+IsWordsStatus other status = status ≡ 2

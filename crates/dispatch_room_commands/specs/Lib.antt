@@ -1,0 +1,2 @@
+-- how a command ends
+pub mod Ends

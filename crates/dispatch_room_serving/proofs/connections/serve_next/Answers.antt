@@ -1,0 +1,42 @@
+use Rattle.std.proofs.Common.{◌≡◌, refl, None, Some}
+use Rattle.dispatch_room_serving.specs.Connections.{Conversation}
+use Rattle.dispatch_room_serving.proofs.ConnectionLaws.{attended_nothing, attended_one}
+use Rattle.dispatch_room_serving.proofs.connections.serve_next.Goals as goal
+
+pub returns-in_default-clause-attended : goal.returns-in_default-clause-attended
+returns-in_default-clause-attended g c = record {
+  call = None;
+  attended = attended_nothing g.S.Store c.args.zone.now _ _ _ c.in_default.ensures.heard c.in_default.ensures.told;
+  ends = refl;
+}
+
+pub returns-clause-attended : goal.returns-clause-attended
+returns-clause-attended g c =
+    let talk : Conversation g.row.S.Denot = record {
+      before = record {
+        left = g.P.Reader.Source.left c.in-Some.reader;
+        reads = g.P.Reader.Source.reads c.in-Some.reader;
+        held = g.P.Writer.Sink.held c.in-Some.writer;
+        given = g.C.Clock.given c.args.clock.now;
+      };
+      after = record {
+        reads = g.P.Reader.Source.reads c.serve-end.new.reader;
+        held = g.P.Writer.Sink.held c.serve-end.new.writer;
+        given = g.C.Clock.given c.serve-end.new.clock;
+        read_failed = g.P.Reader.Source.has_failed c.serve-end.new.reader;
+        read_ended = g.P.Reader.Source.has_ended c.serve-end.new.reader;
+        write_failed = g.P.Writer.Sink.has_failed c.serve-end.new.writer;
+        was_none = g.C.Clock.was_none c.serve-end.new.clock;
+      };
+      unread = g.P.Reader.Source.left c.serve-end.new.reader;
+      end = c.serve-end.result;
+      from = c.args.room.now;
+      store = c.serve-end.new.room;
+    } in
+    record {
+      call = Some talk;
+      attended = attended_one g.S.Store c.args.zone.now talk _ _ _ (rw c.done.ensures.heard c.in-Some.ensures.heard) (rw c.in-Some.ensures.told at c.done.ensures.told)
+          (record { same = refl; moments = refl; reads = c.serve-end.ensures.reads; talk = c.serve-end.ensures.talk; none_missed = c.serve-end.ensures.none_missed })
+          c.serve-end.ensures.trusted (c.serve-end.ensures.promised refl);
+      ends = rw c.is_sound.ensures.value at c.goes_on.ensures;
+    }

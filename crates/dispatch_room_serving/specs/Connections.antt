@@ -1,0 +1,149 @@
+-- What is served on connections, one after another.
+use Rattle.std.specs.Prelude.{◌≡◌, ◌≤◌, ⊤, ℕ, List, [], ◌∷◌, ◌++◌, Bool, true, false, All, filter_map, flat_map, length, map, option_and_then, option_map, Option, None, Some, Result, Ok, Err}
+use Rattle.sqlite.specs.Held.{state}
+use Rattle.sqlite.specs.State.{HasCleanDisk}
+use Rattle.sqlite_trees.specs.declared.store.Store.{Ghosts}
+use Rattle.room_types.specs.declared.fleet.Terminal.{Terminal}
+use Rattle.room_model.specs.Room.{Room}
+use Rattle.room_http_time.specs.declared.zones.Zone.{Zone}
+use Rattle.room_service.specs.Rooms.{machine}
+use Rattle.room_store.specs.Keeping.{IsKept, IsRoom, LeavesOneOf}
+use Rattle.room_store.specs.declared.store.Store.{Store}
+use Rattle.room_http.specs.Promises.{Promises}
+use Rattle.room_http.specs.Runs.{Exchange, IsRun, room_by}
+use Rattle.room_http.specs.Served.{AreFirst, Served}
+use Rattle.room_http.specs.Serving.{Finish, MissesNone, ReadsAtMost, ServeIs, Sides}
+use Rattle.room_http.specs.Talk.{Stays, Wants}
+use Rattle.room_http.specs.declared.serving.ServeEnd.{ServeEnd}
+use Rattle.room_http.specs.declared.serving.ServeEnd.TheVariants as end
+use Rattle.dispatch_room_endings.specs.declared.endings.Done.{Done}
+use Rattle.dispatch_room_endings.specs.declared.endings.Done.TheVariants.{Whole}
+use Rattle.dispatch_room_endings.specs.declared.endings.Failure.{Failure}
+use Rattle.dispatch_room_endings.specs.declared.endings.Failure.TheVariants.{Memory, Storage}
+use Rattle.dispatch_room_serving.specs.declared.connections.TheConstants.{MOST_READS}
+use Rattle.dispatch_room_serving.specs.Calls.{Grows, Opening}
+
+-- A connection that was served: its sides before and after, what was left unread, how serving it ended, and the store before and after it.
+pub record Conversation (S : Type 0) : Type 0 where
+  pub before : Sides
+  pub after : Finish
+  pub unread : Option (List ℕ)
+  pub end : ServeEnd
+  pub from : Store S
+  pub store : Store S
+
+-- what is known of all that is served, at one moment: the calls that came, what they were told, the moments given, and the store
+pub record Service (S : Type 0) : Type 0 where
+  pub heard : Option (List (Option Opening))
+  pub told : Option (List (Option (List ℕ)))
+  pub given : Option (List ℕ)
+  pub store : Store S
+
+-- a store that is not sound any longer serves no more
+abbrev pub fault_of_store : Bool → Option Failure
+fault_of_store true = None
+fault_of_store false = Some Storage
+
+-- why no more is served after a connection that ended so, if it is so, with a store that is sound or is not
+abbrev pub fault_by : ServeEnd → Bool → Option Failure
+fault_by end.Memory is_sound = Some Memory
+fault_by end.Closed is_sound = fault_of_store is_sound
+fault_by end.Cut is_sound = fault_of_store is_sound
+fault_by end.ReadFault is_sound = fault_of_store is_sound
+fault_by end.WriteFault is_sound = fault_of_store is_sound
+fault_by end.ClockFault is_sound = fault_of_store is_sound
+fault_by end.ReadsSpent is_sound = fault_of_store is_sound
+
+module _ {S : Type 0} where
+  -- what a connection began with
+  abbrev pub opening_of : Conversation S → Opening
+  opening_of c = record { left = c.before.left; held = c.before.held }
+
+  -- why no more is served after it, if it is so
+  abbrev pub fault_after : Conversation S → Option Failure
+  fault_after c = fault_by c.end c.store.is_sound
+
+  -- the calls of which a connection came
+  abbrev pub connected : List (Option (Conversation S)) → List (Conversation S)
+  connected calls = filter_map (λ call. call) calls
+
+  -- more is served after it
+  abbrev pub GoesOn : Conversation S → Type 0
+  GoesOn c = fault_after c ≡ None
+
+  -- and after each of these
+  abbrev pub GoOn : List (Option (Conversation S)) → Type 0
+  GoOn calls = All GoesOn (connected calls)
+
+  -- How serving so many calls ended. Well: all came, and after each more was served. With a fault: it is that after which no more is served, of the last.
+  abbrev pub EndsAs : List (Option (Conversation S)) → ℕ → Result Done Failure → Type 0
+  EndsAs calls most (Ok done) = (done ≡ Whole) × (length calls ≡ most) × GoOn calls
+  EndsAs calls most (Err fault) =
+      (before : List (Option (Conversation S))) × (last : Conversation S) × (calls ≡ before ++ Some last ∷ []) × (length calls ≤ most) × GoOn before × (fault_after last ≡ Some fault)
+
+-- all that was exchanged, one after another
+abbrev pub together : List (List Exchange) → List Exchange
+together talks = flat_map (λ xs. xs) talks
+
+module _ {S : Type 0} (g : Ghosts S) (zone : Zone) where
+  -- it was served as one connection is, from this store and the moments that were given before it
+  pub record IsNext (store : Store S) (given : Option (List ℕ)) (c : Conversation S) : Type 0 where
+    pub same : c.from ≡ store
+    pub moments : c.before.given ≡ given
+    pub reads : ReadsAtMost MOST_READS c.before.reads c.after.reads
+    pub talk : ServeIs machine zone c.before c.after (HasCleanDisk (state g c.store.conn)) (IsRoom g store)
+        (Stays (IsKept g store) (IsRoom g c.store) (LeavesOneOf g c.store)) (Wants machine zone (IsKept g store) (IsRoom g c.store) (LeavesOneOf g c.store)) MOST_READS c.end
+    pub none_missed : MissesNone c.before.left c.unread c.before.given c.after.given c.end
+
+  -- each was served from the store and the moments that the one before left; these are left at the end
+  abbrev pub AreNext : List (Conversation S) → Store S → Option (List ℕ) → Store S → Option (List ℕ) → Type 0
+  AreNext [] store given last gives = (last ≡ store) × (gives ≡ given)
+  AreNext (c ∷ cs) store given last gives = IsNext store given c × AreNext cs c.store c.after.given last gives
+
+  module _ (terminals : List Terminal) where
+    -- on the connection these exchanges were served, from this room
+    pub record IsServed (c : Conversation S) (xs : List Exchange) (room : Room) : Type 0 where
+      pub served : Served zone (AreFirst c.before.left c.before.given c.after.given) c.before.held c.after.held (IsKept g c.from) (IsRoom g c.store) (LeavesOneOf g c.store) terminals room
+      pub exchanged : served.exchanges ≡ xs
+
+    -- on each connection its exchanges were served, from the room that the one before left
+    abbrev pub AreServed : List (Conversation S) → List (List Exchange) → Room → Type 0
+    AreServed [] [] room = ⊤
+    AreServed [] (xs ∷ more) room = ⊥
+    AreServed (c ∷ cs) [] room = ⊥
+    AreServed (c ∷ cs) (xs ∷ more) room = IsServed c xs room × AreServed cs more (room_by xs room)
+
+    -- The connections are joined: all their exchanges, one after another, are one run from this room. It leads to the room
+    -- that the store stands for at the end, and keeps the promises.
+    pub record AreJoined (cs : List (Conversation S)) (last : Store S) (room : Room) : Type 0 where
+      pub talks : List (List Exchange)
+      pub served : AreServed cs talks room
+      pub run : IsRun zone terminals (together talks) room
+      pub after : IsRoom g last terminals (room_by (together talks) room)
+      pub promises : Promises terminals (together talks) room
+
+  -- what was done with these calls: each was heard and told, served in its turn, and joined to the others
+  pub record AreAttended (calls : List (Option (Conversation S))) (old new : Service S) : Type 0 where
+    pub heard : Grows old.heard new.heard (map (option_map opening_of) calls)
+    pub told : Grows old.told new.told (map (λ c. c.after.held) (connected calls))
+    pub in_turn : AreNext (connected calls) old.store old.given new.store new.given
+    pub trusted : HasCleanDisk (state g new.store.conn) → HasCleanDisk (state g old.store.conn)
+    pub joined : HasCleanDisk (state g new.store.conn) → (terminals : List Terminal) (room : Room) → IsRoom g old.store terminals room
+        → AreJoined terminals (connected calls) new.store room
+
+  -- so many calls were served, or those up to one after which no more is served
+  pub record Serves (old new : Service S) (most : ℕ) (result : Result Done Failure) : Type 0 where
+    pub calls : List (Option (Conversation S))
+    pub attended : AreAttended calls old new
+    pub ends : EndsAs calls most result
+
+-- no fault, or this one
+abbrev pub done_or : Option Failure → Result (Unit {0}) Failure
+done_or None = Ok tt
+done_or (Some fault) = Err fault
+
+-- the next call was attended to, and why no more is served after it, if it is so
+pub record AttendsNext {S : Type 0} (g : Ghosts S) (zone : Zone) (old new : Service S) (result : Result (Unit {0}) Failure) : Type 0 where
+  pub call : Option (Conversation S)
+  pub attended : AreAttended g zone (call ∷ []) old new
+  pub ends : result ≡ done_or (option_and_then fault_after call)

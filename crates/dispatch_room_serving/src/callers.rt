@@ -1,0 +1,45 @@
+//! Who calls at a room: what gives its connections, one after another.
+ghost use Rattle.std.specs.Prelude.{◌≡◌, ℕ, List, [], ◌∷◌, Option, Some, IfErr, IfSome, false, option_map};
+ghost use Rattle.dispatch_room_endings.specs.declared.endings.Failure.TheVariants.{Network};
+ghost use Rattle.dispatch_room_serving.specs.Calls.{Grows, Opening};
+
+use dispatch_room_endings::endings::Failure;
+use room_http_messages::sinks::Sink;
+use room_http_messages::sources::Source;
+
+/// What gives the connections of a room, one after another, and takes each back.
+pub trait Callers {
+    /// What is read from.
+    type Reader: Source;
+
+    /// What is written to.
+    type Writer: Sink;
+
+    // The calls that came so far, where they are known: what each began with, or none where no
+    // connection came of it.
+    ghost heard: { Self → Option (List (Option Opening)) };
+
+    // What each writer held that was taken back, where that is known.
+    ghost told: { Self → Option (List (Option (List ℕ))) };
+
+    /// Lets the callers begin. A failure is the network's.
+    fn begin(&mut self) -> Result<(), Failure>
+        ensures heard { heard self.new ≡ heard self.old }
+        ensures told { told self.new ≡ told self.old }
+        ensures fault { IfErr result (λ fault. fault ≡ Network) };
+
+    /// The next connection: none where it came to nothing.
+    fn next(&mut self) -> Option<(Self::Reader, Self::Writer)>
+        ensures heard { Grows (heard self.old) (heard self.new) (option_map (λ sides. record {
+          left = Self.Reader.left sides.0;
+          held = Self.Writer.held sides.1;
+        }) result ∷ []) }
+        ensures told { told self.new ≡ told self.old }
+        ensures reader { IfSome result (λ sides. Self.Reader.has_failed sides.0 ≡ false) }
+        ensures writer { IfSome result (λ sides. Self.Writer.has_failed sides.1 ≡ false) };
+
+    /// Takes a connection back that was served.
+    fn done(&mut self, reader: Self::Reader, writer: Self::Writer)
+        ensures heard { heard self.new ≡ heard self.old }
+        ensures told { Grows (told self.old) (told self.new) (Self.Writer.held writer ∷ []) };
+}

@@ -1,0 +1,103 @@
+//! The connections of a room, served one after another.
+ghost use Rattle.std.specs.Prelude.{◌≡◌};
+ghost use Rattle.room_store.specs.Keeping.{IsReady};
+ghost use Rattle.dispatch_room_serving.specs.Connections.{AttendsNext, Serves, done_or, fault_by};
+
+use crate::callers::Callers;
+use dispatch_room_endings::endings::{Done, Failure};
+use room_http::serving::{ServeEnd, serve};
+use room_http_time::clocks::Clock;
+use room_http_time::zones::Zone;
+use room_store::store::Store;
+use sqlite::Alter;
+use std::alloc::Global;
+
+/// How many reads a connection has at most.
+pub const MOST_READS: u32 = 100_000;
+
+/// Serves a room to so many calls, one after another. A connection that ends badly doesn't end it,
+/// but for want of memory, and where the store is not sound any longer.
+pub fn serve_each<S: Alter, P: Callers, C: Clock>(
+    alloc: Global,
+    callers: &mut P,
+    room: &mut Store<S>,
+    zone: &Zone,
+    clock: &mut C,
+    connections: u16,
+) -> Result<Done, Failure>
+    requires ready { IsReady S.Store room.old }
+    ensures ready { IsReady S.Store room.new }
+    ensures served { Serves S.Store zone.now
+        (record {
+          heard = P.heard callers.old;
+          told = P.told callers.old;
+          given = C.given clock.old;
+          store = room.old;
+        })
+        (record {
+          heard = P.heard callers.new;
+          told = P.told callers.new;
+          given = C.given clock.new;
+          store = room.new;
+        })
+        connections result }
+{
+    for _connection in 0..connections {
+        if let Err(fault) = serve_next(alloc, callers, room, zone, clock) {
+            return Err(fault);
+        }
+    }
+    Ok(Done::Whole)
+}
+
+// Serves the next call.
+fn serve_next<S: Alter, P: Callers, C: Clock>(
+    alloc: Global,
+    callers: &mut P,
+    room: &mut Store<S>,
+    zone: &Zone,
+    clock: &mut C,
+) -> Result<(), Failure>
+    requires ready { IsReady S.Store room.old }
+    ensures ready { IsReady S.Store room.new }
+    ensures attended { AttendsNext S.Store zone.now
+        (record {
+          heard = P.heard callers.old;
+          told = P.told callers.old;
+          given = C.given clock.old;
+          store = room.old;
+        })
+        (record {
+          heard = P.heard callers.new;
+          told = P.told callers.new;
+          given = C.given clock.new;
+          store = room.new;
+        })
+        result }
+{
+    let Some((mut reader, mut writer)) = callers.next() else {
+        return Ok(());
+    };
+    let end = serve(
+        alloc,
+        &mut reader,
+        &mut writer,
+        room,
+        zone,
+        clock,
+        MOST_READS,
+    );
+    callers.done(reader, writer);
+    goes_on(end, room.is_sound())
+}
+
+// Whether more is served after a connection that ended so.
+fn goes_on(end: ServeEnd, is_sound: bool) -> Result<(), Failure>
+    ensures { result ≡ done_or (fault_by end is_sound) }
+{
+    match end {
+        ServeEnd::Memory => Err(Failure::Memory),
+        _ if is_sound => Ok(()),
+        _ => Err(Failure::Storage),
+    }
+}

@@ -1,0 +1,6 @@
+//! The connections of a room, one after another, over any storage.
+#![tactic(auto)]
+
+pub mod callers;
+pub mod connections;
+pub mod serving;

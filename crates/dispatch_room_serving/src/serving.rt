@@ -1,0 +1,79 @@
+//! The room of a database, opened and served to those who call.
+ghost use Rattle.std.specs.Prelude.{◌≡◌, false, IfOk, OnErr};
+ghost use Rattle.room_store.specs.Keeping.{IsReady};
+ghost use Rattle.dispatch_room_serving.specs.Rooms.{Attends, ServesRoom};
+
+use crate::callers::Callers;
+use crate::connections::serve_each;
+use dispatch_room_endings::endings::{Done, Failure};
+use dispatch_room_work::rooms::{Worked, open_room};
+use room_http_time::clocks::Clock;
+use room_http_time::zones::Zone;
+use room_store::store::Store;
+use sqlite::{Alter, Connection};
+use std::alloc::Global;
+
+/// Serves the room of a database to so many calls: it is opened, the callers begin, and each is
+/// served from the room that the one before left, in the zone of the room's plan. Where no room is
+/// opened, none of them is heard.
+pub fn serve_in<S: Alter + Drop, P: Callers, C: Clock>(
+    alloc: Global,
+    conn: Connection<S>,
+    callers: &mut P,
+    clock: &mut C,
+    connections: u16,
+) -> Worked<Done, S>
+    requires outside { conn.in_transaction ≡ false }
+    ensures outside { IfOk result (λ worked. worked.1.in_transaction ≡ false) }
+    ensures served { IfOk result (ServesRoom S.Store conn
+        (λ store. record {
+          heard = P.heard callers.old;
+          told = P.told callers.old;
+          given = C.given clock.old;
+          store = store;
+        })
+        (λ store. record {
+          heard = P.heard callers.new;
+          told = P.told callers.new;
+          given = C.given clock.new;
+          store = store;
+        })
+        connections) }
+    ensures unheard { OnErr result ((callers.new ≡ callers.old) × (clock.new ≡ clock.old)) }
+{
+    let (mut room, zone) = open_room(alloc, conn)?;
+    let served = begin_and_serve(alloc, callers, &mut room, &zone, clock, connections);
+    Ok((served, room.close()))
+}
+
+// Lets the callers begin, and serves so many calls.
+fn begin_and_serve<S: Alter, P: Callers, C: Clock>(
+    alloc: Global,
+    callers: &mut P,
+    room: &mut Store<S>,
+    zone: &Zone,
+    clock: &mut C,
+    connections: u16,
+) -> Result<Done, Failure>
+    requires ready { IsReady S.Store room.old }
+    ensures ready { IsReady S.Store room.new }
+    ensures attends { Attends S.Store zone.now
+        (record {
+          heard = P.heard callers.old;
+          told = P.told callers.old;
+          given = C.given clock.old;
+          store = room.old;
+        })
+        (record {
+          heard = P.heard callers.new;
+          told = P.told callers.new;
+          given = C.given clock.new;
+          store = room.new;
+        })
+        connections result }
+{
+    match callers.begin() {
+        Ok(()) => serve_each(alloc, callers, room, zone, clock, connections),
+        Err(fault) => Err(fault),
+    }
+}

@@ -1,0 +1,4 @@
+pub mod CreatedLemmas
+pub mod DayReportLemmas
+pub mod FateLemmas
+pub mod ImportedLemmas

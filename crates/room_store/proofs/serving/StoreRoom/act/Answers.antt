@@ -1,0 +1,10 @@
+use Rattle.room_store.proofs.StoreLaws.{acted_left, kept_settled}
+use Rattle.room_tables_sql.proofs.ReadLaws.{any_err}
+use Rattle.room_store.proofs.serving.StoreRoom.act.Goals as goal
+
+pub returns-clause-kept : goal.returns-clause-kept
+returns-clause-kept g c clean = kept_settled g.S.Store c.act.new.self c.act.result (c.act.ensures.settled clean) (c.act.ensures.alone clean)
+
+pub returns-clause-left : goal.returns-clause-left
+returns-clause-left g c clean =
+    any_err c.act.result (λ kept terminals room is addressed. acted_left g.S.Store c.args.self.now c.act.new.self c.act.ensures.plan clean kept c.args.event.now terminals room is addressed c.act.ensures.survives)
