@@ -6,7 +6,7 @@ import shutil
 import subprocess
 import tempfile
 
-from room import PROGRAM, TestCase, ask, free_port
+from room import PATIENT, PROGRAM, TestCase, ask, free_port
 
 # Files in memory, where the system has a folder of such, for each deed is done again and again.
 IN_MEMORY = '/dev/shm' if os.path.isdir('/dev/shm') else None
@@ -98,7 +98,7 @@ class Preloaded:
         what was told."""
         port, answers = free_port(), []
         address = f'127.0.0.1:{port}'
-        process = self.start(told, 'serve', room, address, '--connections', 1)
+        process = self.start(told, 'serve', room, address, '--connections', 1, *PATIENT)
         with process:
             if process.stdout.readline() == b'serving\n':
                 with contextlib.suppress(OSError):

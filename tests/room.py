@@ -3,6 +3,7 @@ is served, and what their test cases stand on."""
 import contextlib
 import email.utils
 import io
+import os
 import pathlib
 import random
 import socket
@@ -11,6 +12,9 @@ import tempfile
 import unittest
 
 TOP = pathlib.Path(__file__).resolve().parent.parent
+# What the tests make is their own alone, or the program would tell that others can read a room.
+os.umask(0o077)
+
 PROGRAM = TOP / 'crates' / 'dispatch_room' / 'out' / 'dispatch_room'
 PLAN = TOP / 'examples' / 'plan.csv'
 FLEET = TOP / 'examples' / 'fleet.csv'
@@ -127,12 +131,17 @@ def free_port():
             return port
 
 
+# Of a room that closes no connection where a busy machine keeps a test waiting.
+PATIENT = ['--idle', '20000']
+
+
 @contextlib.contextmanager
 def serving(room, connections, *words):
-    """Serves a room to so many connections; gives the port, and the process."""
+    """Serves a room to so many connections, patiently where nothing is told; gives the port, and
+    the process."""
     port = free_port()
     command = [PROGRAM, 'serve', room, f'127.0.0.1:{port}', '--connections', str(connections)]
-    process = subprocess.Popen([*command, *words], stdin=subprocess.DEVNULL,
+    process = subprocess.Popen([*command, *(words or PATIENT)], stdin=subprocess.DEVNULL,
                                stdout=subprocess.PIPE, stderr=subprocess.PIPE)
     try:
         line = process.stdout.readline()
@@ -169,11 +178,12 @@ def read_dated(stream):
             return None
         head += line
     lines = head.decode().split('\r\n')
-    fields = dict(it.split(': ', 1) for it in lines[1:] if it)
-    body = stream.read(int(fields['Content-Length']))
-    if len(body) != int(fields['Content-Length']):
+    named = (it.split(': ', 1) for it in lines[1:] if it)
+    fields = {name.lower(): value for name, value in named}
+    body = stream.read(int(fields['content-length']))
+    if len(body) != int(fields['content-length']):
         return None
-    date = email.utils.parsedate_to_datetime(fields['Date']) if 'Date' in fields else None
+    date = email.utils.parsedate_to_datetime(fields['date']) if 'date' in fields else None
     return date and int(date.timestamp()), int(lines[0].split(' ')[1]), body.decode()
 
 

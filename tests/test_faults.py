@@ -1,7 +1,8 @@
 """A disk that fails, from outside: each call in turn that changes a file fails, alone or with all
 calls after it. A request gets its answer or 42. After 42 either the room is served on and nothing
 has changed, or it ends as `storage`, and its file holds the room before the request or after it. The
-request, sent again to the room opened again, gets its answer."""
+request, sent again to the room opened again, gets its answer. A room that is told to be created
+stands."""
 # needs: python3 gcc libc6-dev sqlite3
 # builds: dispatch_room
 import contextlib
@@ -9,7 +10,7 @@ import re
 import subprocess
 
 from preloaded import COUNTING, EVERY, PreloadedTestCase
-from room import ask, call, dump, free_port, made
+from room import PATIENT, PLAN, ask, call, dump, free_port, made, run
 
 # What is preloaded into the program.
 FAILING = COUNTING + r"""
@@ -44,6 +45,7 @@ def failing(first, last):
 
 NEVER = failing(0, 0)
 ANSWERED = [(200, '{"division":1,"incident":1,"linked":false}')]
+CREATED = b'created: divisions 2, areas 2, terminals 3\n'
 FAILED = [(503, '{"error":"Storage","number":42}')]
 
 
@@ -59,7 +61,7 @@ class Faults(PreloadedTestCase):
         """Serves a room to connections that send one call; the answers of each, the status, and what
         was told."""
         port, answers = free_port(), []
-        words = ['serve', room, f'127.0.0.1:{port}', '--connections', connections]
+        words = ['serve', room, f'127.0.0.1:{port}', '--connections', connections, *PATIENT]
         with self.program.start(told, *words) as process:
             if process.stdout.readline() == b'serving\n':
                 for _ in range(connections):
@@ -71,6 +73,21 @@ class Faults(PreloadedTestCase):
                 process.kill()
                 raise
         return answers, process.returncode, err
+
+    def test_init(self):
+        """What is told to be created stands, also where the file fails as it is closed."""
+        ends = [(0, CREATED, b''), (3, CREATED, b'storage\n'), (3, b'', b'storage\n')]
+        self.check('init', self.program.run(NEVER, 'init', self.fresh(), PLAN), ends[0])
+        total, met = self.program.total(), set()
+        for first in range(1, total + 1):
+            file = self.fresh()
+            end = self.program.run(failing(first, LAST), 'init', file, PLAN)
+            with self.subTest(f'init, from {first} on'):
+                self.assertIn(end, ends)
+            if end[1]:
+                self.check(f'init, from {first} on, then check', run('check', file)[0], 0)
+            met.add(end)
+        self.check('a fault is told of a room that stands', ends[1] in met, True)
 
     def test_call(self):
         room = made(self.folder / 'served.db')

@@ -7,8 +7,9 @@ again."""
 # builds: dispatch_room
 import re
 
+from first_version import all_rows, old_room
 from preloaded import EVERY, PreloadedTestCase
-from room import FLEET, PLAN, call, dump, free_port, made, message, run, sql, talk
+from room import FLEET, PATIENT, PLAN, call, dump, free_port, made, message, run, sql, talk
 from test_rows import ROWS, answers, messages
 
 # What is preloaded into the program.
@@ -253,6 +254,39 @@ class Memory(MemoryTestCase):
             self.check(f'times without {name} changes nothing', dump(room), before)
         self.check('times after all', self.program.run(NOTHING, *words), ever)
 
+    def test_check(self):
+        room = made(self.folder / 'checked.db')
+        sql(room, INCIDENT)
+        status, told, _ = ever = self.program.run(NOTHING, 'check', room)
+        self.check('check', status, 0)
+        before = dump(room)
+        for refused, name in self.each(80):
+            done = self.program.run(refused, 'check', room)
+            with self.subTest(f'check without {name}'):
+                self.assertIn(done, [NO_MEMORY, (NO_MEMORY[0], told, NO_MEMORY[2]), ever])
+            self.check(f'check without {name} changes nothing', dump(room), before)
+        self.check('check after all', self.program.run(NOTHING, 'check', room), ever)
+
+    def test_migrate(self):
+        """What is told as moved is of version 2. Where memory is wanting, the file is of version 1,
+        or of version 2 where it was wanting as the file was closed."""
+        room = old_room(self.folder / 'old.db')
+        file, before, ever = self.fresh(room), all_rows(room), (0, b'migrated\n', b'')
+        self.check('migrate', self.program.run(NOTHING, 'migrate', file), ever)
+        after = all_rows(file)
+        self.check('migrate changes the room', before != after, True)
+        for refused, name in self.each(80):
+            file = self.fresh(room)
+            done = self.program.run(refused, 'migrate', file)
+            found = all_rows(file)
+            with self.subTest(f'migrate without {name}'):
+                self.assertIn((done, found), [(NO_MEMORY, before), (NO_MEMORY, after),
+                                              (ever, after)])
+            if found == before:
+                again = self.program.run(NOTHING, 'migrate', file)
+                self.check(f'migrate without {name}, then migrate', again, ever)
+                self.check(f'migrate without {name}, then migrate: the room', all_rows(file), after)
+
     def test_serve(self):
         room = made(self.folder / 'served.db')
         file, before = self.fresh(room), rows_of(room)
@@ -302,7 +336,7 @@ class Again(MemoryTestCase):
         """Serves a room to messages, and to so many more. Takes off those that are answered, and
         gives the answers, those that are refused for memory too, and how the room ended."""
         port, got = free_port(), []
-        words = 'serve', file, f'127.0.0.1:{port}', '--connections', len(left) + spare
+        words = 'serve', file, f'127.0.0.1:{port}', '--connections', len(left) + spare, *PATIENT
         with self.program.start(refused | {'MOMENT': self.moment}, *words) as process:
             answer = process.stdout.readline() == b'serving\n'
             while answer and left:

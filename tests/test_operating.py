@@ -14,8 +14,8 @@ import subprocess
 import threading
 import time
 
-from room import (PROGRAM, TOP, TestCase, ask, call, dump, free_port, made, message, run, serving,
-                  sql)
+from room import (PATIENT, PROGRAM, TOP, TestCase, ask, call, dump, free_port, made, message, run,
+                  serving, sql)
 
 ANSWERED = (200, '{"division":1,"incident":1,"linked":false}')
 FAILED = (503, '{"error":"Storage","number":42}')
@@ -272,7 +272,7 @@ class FullDisk(OperatingTestCase):
     def served(self):
         """The room served by a program that goes on where its files can't grow."""
         port = free_port()
-        words = ['serve', self.room, f'127.0.0.1:{port}', '--connections', '1000']
+        words = ['serve', self.room, f'127.0.0.1:{port}', '--connections', '1000', *PATIENT]
         # Python ignores the signal of a file that is too long, and so does what it starts.
         with subprocess.Popen([PROGRAM, *words], stdout=subprocess.PIPE,
                               restore_signals=False) as process:

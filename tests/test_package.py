@@ -18,6 +18,7 @@ DOCUMENTS = 'usr/share/doc/dispatch-room'
 UNIT = 'usr/lib/systemd/system/dispatch-room.service'
 PAGE = 'usr/share/man/man1/dispatch_room.1.gz'
 EXAMPLES = TOP / 'examples'
+SCRIPTS = ['day.sh', 'haproxy/certificates.sh', 'month/month.sh', 'wall/wall.py']
 
 # What a day in the room calls beside the program.
 TOOLS = ['bash', 'curl', 'date', 'dirname', 'sleep']
@@ -117,10 +118,10 @@ class Package(TestCase):
         self.check('modes of folders', {row[0] for row in rows if row[5].endswith('/')},
                    {'drwxr-xr-x'})
         modes = {row[5].removeprefix('./'): row[0] for row in rows if not row[5].endswith('/')}
-        scripts = {f'{DOCUMENTS}/examples/{it}' for it in ('day.sh', 'wall/wall.py')}
+        scripts = {f'{DOCUMENTS}/examples/{it}' for it in SCRIPTS}
         programs = scripts | {'usr/bin/dispatch_room'}
         documents = [TOP / 'README.md', TOP / 'bench' / 'README.md', *EXAMPLES.glob('*.*'),
-                     *EXAMPLES.glob('wall/*.*'), *(TOP / 'docs').iterdir()]
+                     *EXAMPLES.glob('*/*.*'), *(TOP / 'docs').iterdir()]
         others = {f'{DOCUMENTS}/{it.relative_to(TOP)}' for it in documents} | {UNIT, PAGE}
         wanted = dict.fromkeys(programs | others, '-rw-r--r--')
         wanted |= dict.fromkeys(programs, '-rwxr-xr-x')

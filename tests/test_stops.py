@@ -7,6 +7,7 @@ had answered; and what was stopped then ends well."""
 import re
 import time
 
+from first_version import DAY, old_room
 from preloaded import COUNTING, EVERY, PreloadedTestCase
 from room import PLAN, ask, call, drop_indexes, dump, fleet_of, made, message, run, serving
 
@@ -166,12 +167,13 @@ class Stops(PreloadedTestCase):
         return room
 
     def found(self, file):
-        """What the next program finds: all rows, but for the moments of today; none where it finds
-        no room."""
+        """What the next program finds: all rows of either version, but for the moments of today;
+        none where it finds no room."""
         status, _, told = run('times', file, 1, '2026-03-29')
         if (status, told) == (1, 'refused: file\n'):
             return None
-        self.check('a room is found', (status, told), (0, ''))
+        with self.subTest('a room is found'):
+            self.assertIn((status, told), [(0, ''), (1, 'refused: version\n')])
         return re.sub(r'\b\d{10}\b', 'MOMENT', dump(file))
 
     def stop_everywhere(self, what, room, deed, between=()):
@@ -209,6 +211,12 @@ class Stops(PreloadedTestCase):
         between = [self.found(made(self.folder / 'one.db', A1))]
         empty = made(self.folder / 'empty.db')
         self.stop_everywhere('an import', empty, command('import', fleet), between)
+
+    def test_migration(self):
+        for journal in ['delete', 'wal']:
+            for indexed in [True, False]:
+                old = old_room(self.folder / f'{journal}{indexed}.db', DAY, indexed, journal)
+                self.stop_everywhere(f'a migration, {old.stem}', old, command('migrate'))
 
     def test_call(self):
         self.stop_everywhere('a call', self.room(), request(call(1)))

@@ -267,7 +267,7 @@ class Tables(TestCase):
         folder = cls.enterClassContext(tempfile.TemporaryDirectory())
         cls.room = made(pathlib.Path(folder) / 'room.db')
         run('import', cls.room, FLEET)
-        with serving(cls.room, 1, '--patience', '10') as (port, process):
+        with serving(cls.room, 1) as (port, process):
             cls.asked, cls.at = play(port)
             cls.status = process.wait(timeout=30)
 

@@ -15,8 +15,8 @@ import subprocess
 import threading
 
 from preloaded import CLOCK, PreloadedTestCase
-from room import (CLOSE, CUT, PROGRAM, TOP, WELL, TestCase, answer, ask, call, dry_run, dump,
-                  free_port, made, message, refusal, run, serving, sql, talk)
+from room import (CLOSE, CUT, PATIENT, PROGRAM, TOP, WELL, TestCase, answer, ask, call, dry_run,
+                  dump, free_port, made, message, refusal, run, serving, sql, talk)
 
 LAST_MOMENT = 4102444799
 
@@ -557,7 +557,7 @@ class Refusals(TestCase):
         """The disk is full, and a call is refused; it has changed nothing, and is sent again."""
         self.assertTrue(STORAGE.endswith(refusal('Storage', 42).encode()))
         room, port = made(self.folder / 'full.db'), free_port()
-        words = [PROGRAM, 'serve', room, f'127.0.0.1:{port}', '--connections', '2']
+        words = [PROGRAM, 'serve', room, f'127.0.0.1:{port}', '--connections', '2', *PATIENT]
         # A write past the limit fails, and sends no signal that the program would end by.
         process = subprocess.Popen(words, restore_signals=False, stdin=subprocess.DEVNULL,
                                    stdout=subprocess.PIPE)

@@ -7,6 +7,7 @@ import pathlib
 import shutil
 import sys
 import tempfile
+import threading
 import time
 
 TOP = pathlib.Path(__file__).resolve().parent.parent
@@ -14,6 +15,26 @@ TOP = pathlib.Path(__file__).resolve().parent.parent
 
 def say(text):
     print(f'{pathlib.Path(sys.argv[0]).name}: {text}', file=sys.stderr, flush=True)
+
+
+def stamp_once(crate_type):
+    """A crate's stamp is made of those of all crates that it names, and each of them is made anew on every way down: here
+    each is made once in a call."""
+    plain, held = crate_type.stamp, threading.local()
+
+    def stamp(crate):
+        made = getattr(held, 'made', None)
+        if made is None:
+            held.made = {}
+            try:
+                return plain(crate)
+            finally:
+                held.made = None
+        if crate.name not in made:
+            made[crate.name] = plain(crate)
+        return made[crate.name]
+
+    crate_type.stamp = stamp
 
 
 @functools.lru_cache(maxsize=None)
@@ -28,6 +49,7 @@ def rt():
     loader.exec_module(module)
     # What it starts ends when this program does, and of a library the statements alone are kept.
     module.rtlib.guarded()
+    stamp_once(module.Crate)
     module.rtlib.Crate = module.Crate
     module.Crate.cuts_libraries = True
     module.Crate.allowed = module.handles_of(str(TOP))
@@ -71,7 +93,8 @@ def judged(crate, edit, kept=None):
     """Whether the prover refuses an edit of a crate, by the toolchain's own judge, and what is said of it. What was
     proved of the crate as it stands may be kept in a folder."""
     outcome, told = rt().must_fail(crate, str(edit), ['--jobs', '1'], kept)
-    return outcome in (rt().REFUSED, rt().AT_LIMIT), told
+    # some kits name the outcome, others tell whether the edit was refused
+    return outcome in [getattr(rt(), it, True) for it in ('REFUSED', 'AT_LIMIT')], told
 
 
 def build(library, jobs):

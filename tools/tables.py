@@ -494,6 +494,10 @@ pub(crate) const {table.name.upper()}: TableForm = (
         gap = " " if len(head) + len(form) < 99 else "\n    "
         out += f"\n{head}{gap}{form};\n"
     keys = [index_form(f"sqlite_autoindex_{table.name}_1", table.tree + 1, table, table.key, True) for table in keyed]
+    # the first version had the tables before the last one, and its indexes took the trees behind them
+    *first, last = DEFINED.values()
+    first_keys = [key for table, key in zip(keyed, keys) if table is not last]
+    first_indexes = [index_form(name, tree + last.tree - INDEXES[0][1], table, columns, False) for name, tree, table, columns in INDEXES]
     return out + f"""
 /// The tables of a room, in the order in which they are made.
 pub(crate) const TABLES: [TableForm; {len(DEFINED)}] = {listed([name.upper() for name in DEFINED])};
@@ -503,6 +507,15 @@ pub(crate) const INDEXES: [IndexForm; {len(keys) + len(INDEXES)}] = {listed(keys
 
 /// How many of the indexes are those of the keys.
 pub(crate) const KEY_INDEXES: usize = {len(keys)};
+
+/// How many of the tables the first version had: all but the last, `{last.name}`.
+pub(crate) const FIRST_TABLES: usize = {len(first)};
+
+/// The indexes of the first version. Those that find working rows took the trees behind its tables.
+pub(crate) const FIRST_INDEXES: [IndexForm; {len(first_keys) + len(INDEXES)}] = {listed(first_keys + first_indexes)};
+
+/// How many of the first version's indexes are those of the keys.
+pub(crate) const FIRST_KEY_INDEXES: usize = {len(first_keys)};
 """
 
 

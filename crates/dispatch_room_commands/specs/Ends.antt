@@ -43,3 +43,7 @@ IsWordsStatus kind.OutOfMemory status = status ≡ 5
 IsWordsStatus kind.DisplayHelp status = (status ≡ 0) ⊎ (status ≡ 4)
 IsWordsStatus kind.DisplayVersion status = (status ≡ 0) ⊎ (status ≡ 4)
 IsWordsStatus other status = status ≡ 2
+
+-- the exit status of a command line: by what was done, or by what its words are in place of a command
+abbrev pub IsExit : ℕ → Type 0
+IsExit status = ((done : Result Done Failure) × (status ≡ status_after done)) ⊎ ((words : ErrorKind) × IsWordsStatus words status)

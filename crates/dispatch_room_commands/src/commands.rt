@@ -1,10 +1,13 @@
 //! The commands over a room's file: what they write, and the exit status.
 ghost use Rattle.std.specs.Prelude.{◌≡◌};
 ghost use Rattle.clap.specs.Words.{kind_of};
-ghost use Rattle.dispatch_room_commands.specs.Ends.{IsHelpDone, IsWordsStatus, is_mistake, status_after};
+ghost use Rattle.dispatch_room_commands.specs.Ends.{IsExit, IsHelpDone, IsWordsStatus, is_mistake, status_after};
 
+use crate::checking::check;
 use crate::creating::init;
+use crate::files::is_open_to_others;
 use crate::importing::import;
+use crate::migrating::migrate;
 use crate::serving::serve_file;
 use crate::timing::times;
 use clap::Error;
@@ -19,18 +22,35 @@ use std::io::Write;
 pub const USAGE: u8 = 2;
 
 /// Does what the words of a command line ask for, the program's name first. What a command gives
-/// goes to `out`, and why it fails to `err`. Gives the exit status: 0 done, or help asked for; 1
-/// refused input; 2 usage; 3 storage; 4 network; 5 memory.
+/// goes to `out`, and to `err` why it fails, and that others can read the room's file. Gives the
+/// exit status: 0 done, or help asked for; 1 refused input; 2 usage; 3 storage; 4 network; 5
+/// memory.
 pub fn command<O: Write, E: Write>(
     rt: &HostRuntime,
     alloc: Global,
     words: &[String],
     out: &mut O,
     err: &mut E,
-) -> u8 {
+) -> u8
+    ensures { IsExit result }
+{
     match words::read(alloc, words) {
-        Ok(task) => end(perform(rt, alloc, &task, out), err),
+        Ok(task) => {
+            warn(rt, task.file(), err);
+            end(perform(rt, alloc, &task, out), err)
+        }
         Err(error) => refuse(&error, out, err),
+    }
+}
+
+// Tells where others can read the room's file, or write it.
+fn warn<E: Write>(rt: &HostRuntime, file: &str, err: &mut E) {
+    if is_open_to_others(rt, file) {
+        let _ = writeln!(
+            err,
+            "warning: others can read or write {file}, which holds the token of each terminal: \
+             chmod 600 {file}*"
+        );
     }
 }
 
@@ -56,6 +76,8 @@ fn perform<O: Write>(
     match *task {
         Task::Init { file, plan } => init(rt, alloc, file, plan, out),
         Task::Import { file, fleet } => import(rt, alloc, file, fleet, out),
+        Task::Migrate { file } => migrate(rt, alloc, file, out),
+        Task::Check { file } => check(rt, alloc, file, out),
         Task::Serve { file, service } => serve_file(rt, alloc, file, service, out),
         Task::Times {
             file,

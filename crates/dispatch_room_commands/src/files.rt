@@ -6,8 +6,9 @@ ghost use Rattle.dispatch_room_commands.specs.Ends.{IsFileFault, fault_of};
 use dispatch_room_endings::endings::Failure;
 use dispatch_room_work::rooms::Worked;
 use sqlite::{Connection, Error, ErrorCode, File, FileStore};
-use std::fs;
+use std::fs::{self, OpenOptions};
 use std::io::ErrorKind;
+use std::os::unix::fs::{OpenOptionsExt, PermissionsExt};
 
 /// The bytes of a text file.
 pub fn read_text(rt: &HostRuntime, path: &str) -> Result<Vec<u8>, Failure>
@@ -17,6 +18,33 @@ pub fn read_text(rt: &HostRuntime, path: &str) -> Result<Vec<u8>, Failure>
         Ok(text) => Ok(text),
         Err(error) if error.kind() == ErrorKind::OutOfMemory => Err(Failure::Memory),
         Err(_) => Err(Failure::Input),
+    }
+}
+
+// What others than its owner may do with a file: read it, and write it.
+const OTHERS: u32 = 0o066;
+
+/// Makes a file that its owner alone reads and writes, where none is there; its log gets the same
+/// mode. Why it can't be made is told by what opens it.
+pub fn make_private(rt: &HostRuntime, path: &str) -> Result<(), Failure>
+    ensures { IfErr result IsFileFault }
+{
+    match OpenOptions::new()
+        .write(true)
+        .create_new(true)
+        .mode(0o600)
+        .open(rt, path)
+    {
+        Err(error) if error.kind() == ErrorKind::OutOfMemory => Err(Failure::Memory),
+        _ => Ok(()),
+    }
+}
+
+/// Whether others than its owner can read or write a file that is there.
+pub fn is_open_to_others(rt: &HostRuntime, path: &str) -> bool {
+    match fs::metadata(rt, path) {
+        Ok(found) => found.is_file() && found.permissions().mode() & OTHERS != 0,
+        Err(_) => false,
     }
 }
 

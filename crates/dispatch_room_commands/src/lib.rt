@@ -2,9 +2,11 @@
 //! storage, and close it.
 #![tactic(auto)]
 
+mod checking;
 pub mod commands;
 mod creating;
 mod files;
 mod importing;
+mod migrating;
 mod serving;
 mod timing;

@@ -1,19 +1,24 @@
 //! `serve`: a room is served over TCP, one connection after another.
-ghost use Rattle.std.specs.Prelude.{◌≡◌, IfErr, IfSome, None, false};
+ghost use Rattle.std.specs.Prelude.{◌≡◌, None, false};
 ghost use Rattle.dispatch_room_endings.specs.declared.endings.Failure.TheVariants.{Network};
 
 use crate::files::{closed, connect_room};
 use dispatch_room_endings::endings::{Done, Failure};
 use dispatch_room_serving::callers::Callers;
 use dispatch_room_serving::serving::serve_in;
+use dispatch_room_sockets::parting::part;
+use dispatch_room_sockets::readers::SocketReader;
+use dispatch_room_sockets::sides::sides;
+use dispatch_room_sockets::waits::Waits;
+use dispatch_room_sockets::writers::SocketWriter;
 use dispatch_room_words::tasks::Service;
 use dispatch_room_work::rooms::Worked;
-use room_http_messages::wires::Wire;
 use room_http_time::clocks::MachineClock;
 use sqlite::{Alter, Connection};
 use std::alloc::Global;
-use std::io::Write;
+use std::io::{Error, ErrorKind, Write};
 use std::net::{TcpListener, TcpStream};
+use std::thread;
 use std::time::Duration;
 
 /// Serves the room of a file to so many connections. A connection that ends badly doesn't end it,
@@ -22,7 +27,7 @@ pub fn serve_file<O: Write>(
     rt: &HostRuntime,
     alloc: Global,
     file: &str,
-    service: Service<'_>,
+    service: Service,
     out: &mut O,
 ) -> Result<Done, Failure> {
     match connect_room(rt, file) {
@@ -36,7 +41,7 @@ fn serve_room<S: Alter + Drop, O: Write>(
     rt: &HostRuntime,
     alloc: Global,
     conn: Connection<S>,
-    service: Service<'_>,
+    service: Service,
     out: &mut O,
 ) -> Worked<Done, S>
     requires outside { conn.in_transaction ≡ false }
@@ -51,19 +56,27 @@ fn serve_room<S: Alter + Drop, O: Write>(
     serve_in(alloc, conn, &mut callers, &mut clock, service.connections)
 }
 
+// How many milliseconds nobody is heard after a connection that the system could not give, as where
+// too many files are open: it would say the same again at once.
+const PAUSE: u64 = 100;
+
 // Who calls at an address.
 #[derive(Drop)]
 struct TcpCallers<'a, O> {
     rt: &'a HostRuntime,
-    service: Service<'a>,
+    service: Service,
     out: &'a mut O,
     listener: Option<TcpListener>,
 }
 
-impl<'a, O: Write> Callers for TcpCallers<'a, O> {
-    type Reader = Wire<TcpStream>;
+type Reader<'a> = SocketReader<'a, TcpStream, HostRuntime>;
 
-    type Writer = Wire<TcpStream>;
+type Writer<'a> = SocketWriter<'a, TcpStream, HostRuntime>;
+
+impl<'a, O: Write> Callers for TcpCallers<'a, O> {
+    type Reader = Reader<'a>;
+
+    type Writer = Writer<'a>;
 
     ghost heard = { λ _. None };
 
@@ -81,22 +94,32 @@ impl<'a, O: Write> Callers for TcpCallers<'a, O> {
         Ok(())
     }
 
-    fn next(&mut self) -> Option<(Wire<TcpStream>, Wire<TcpStream>)> {
-        let (stream, _) = self.listener.as_ref()?.accept().ok()?;
-        sides(stream, self.service.patience)
+    fn next(&mut self) -> Option<(Reader<'a>, Writer<'a>)> {
+        match self.listener.as_ref()?.accept() {
+            Ok((stream, _)) => sides(stream, self.rt, waits_of(self.service)),
+            Err(error) => {
+                pause_after(self.rt, &error);
+                None
+            }
+        }
     }
 
-    fn done(&mut self, _reader: Wire<TcpStream>, _writer: Wire<TcpStream>) {}
+    fn done(&mut self, reader: Reader<'a>, writer: Writer<'a>) {
+        part(reader, writer);
+    }
 }
 
-// The two sides of a connection, whose reads and writes wait so many seconds at most.
-fn sides(stream: TcpStream, patience: u16) -> Option<(Wire<TcpStream>, Wire<TcpStream>)>
-    ensures reader { IfSome result (λ sides. sides.0.failed ≡ false) }
-    ensures writer { IfSome result (λ sides. sides.1.failed ≡ false) }
-{
-    let wait = Some(Duration::from_secs(u64::from(patience)));
-    stream.set_read_timeout(wait).ok()?;
-    stream.set_write_timeout(wait).ok()?;
-    let reader = stream.try_clone().ok()?;
-    Some((Wire::new(reader), Wire::new(stream)))
+// Waits after a connection that was not to be had, but where it was the peer's doing.
+fn pause_after(rt: &HostRuntime, error: &Error) {
+    if error.kind() != ErrorKind::ConnectionAborted {
+        thread::sleep(rt, Duration::from_millis(PAUSE));
+    }
+}
+
+// How long a connection of a service is waited for.
+fn waits_of(service: Service) -> Waits {
+    Waits {
+        idle: Duration::from_millis(u64::from(service.idle)),
+        patience: Duration::from_secs(u64::from(service.patience)),
+    }
 }

@@ -4,6 +4,8 @@ use Rattle.room_http.specs.declared.serving.ServeEnd.{ServeEnd}
 use Rattle.room_http.specs.declared.serving.ServeEnd.TheVariants as end
 use Rattle.room_store.specs.declared.creating.CreateFault.{CreateFault}
 use Rattle.room_store.specs.declared.creating.CreateFault.TheVariants as create
+use Rattle.room_store_opening.specs.declared.migrating.MigrateFault.{MigrateFault}
+use Rattle.room_store_opening.specs.declared.migrating.MigrateFault.TheVariants as migrating
 use Rattle.room_store_opening.specs.declared.opening.OpenFault.{OpenFault}
 use Rattle.room_store_opening.specs.declared.opening.OpenFault.TheVariants as opening
 use Rattle.dispatch_room_files.specs.declared.plans.PlanFileFault.{PlanFileFault}
@@ -69,6 +71,13 @@ open_fault opening.OldRoom = Version
 open_fault opening.NotARoom = File
 open_fault opening.Memory = Memory
 open_fault opening.Storage = Storage
+
+-- of a file that is moved to this version
+abbrev pub migrate_fault : MigrateFault → Failure
+migrate_fault migrating.NotOld = Version
+migrate_fault migrating.NotARoom = File
+migrate_fault migrating.Memory = Memory
+migrate_fault migrating.Storage = Storage
 
 -- a store refuses for memory or for storage
 abbrev pub refused : Refusal → Failure

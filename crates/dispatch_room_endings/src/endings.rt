@@ -7,6 +7,7 @@ use dispatch_room_files::fleets::FleetFileFault;
 use dispatch_room_files::plans::PlanFileFault;
 use room_http::serving::ServeEnd;
 use room_store::creating::CreateFault;
+use room_store_opening::migrating::MigrateFault;
 use room_store_opening::opening::OpenFault;
 use room_types::refusals::Refusal;
 use std::alloc::AllocFailed;
@@ -49,7 +50,7 @@ pub enum Failure {
     /// not empty.
     #[error("refused: file")]
     File,
-    /// The room's file is of an older version.
+    /// The room's file is of an older version; or of today's, where an old one was to be moved.
     #[error("refused: version")]
     Version,
     /// The division is not in the room's plan.
@@ -157,6 +158,21 @@ impl From<OpenFault> for Failure {
             OpenFault::NotARoom => Failure::File,
             OpenFault::Memory => Failure::Memory,
             OpenFault::Storage => Failure::Storage,
+        }
+    }
+}
+
+impl From<MigrateFault> for Failure {
+    ghost use Rattle.dispatch_room_endings.specs.Endings.{migrate_fault};
+
+    ghost from_gives = { λ fault told. told ≡ migrate_fault fault };
+
+    fn from(fault: MigrateFault) -> Failure {
+        match fault {
+            MigrateFault::NotOld => Failure::Version,
+            MigrateFault::NotARoom => Failure::File,
+            MigrateFault::Memory => Failure::Memory,
+            MigrateFault::Storage => Failure::Storage,
         }
     }
 }

@@ -23,7 +23,7 @@ pub fn serve_each<S: Alter, P: Callers, C: Clock>(
     room: &mut Store<S>,
     zone: &Zone,
     clock: &mut C,
-    connections: u16,
+    connections: u64,
 ) -> Result<Done, Failure>
     requires ready { IsReady S.Store room.old }
     ensures ready { IsReady S.Store room.new }

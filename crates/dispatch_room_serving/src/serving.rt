@@ -1,6 +1,7 @@
 //! The room of a database, opened and served to those who call.
-ghost use Rattle.std.specs.Prelude.{◌≡◌, false, IfOk, OnErr};
+ghost use Rattle.std.specs.Prelude.{◌≡◌, false, IfErr, IfOk, OnErr};
 ghost use Rattle.room_store.specs.Keeping.{IsReady};
+ghost use Rattle.dispatch_room_work.specs.Opened.{IsUnopened};
 ghost use Rattle.dispatch_room_serving.specs.Rooms.{Attends, ServesRoom};
 
 use crate::callers::Callers;
@@ -21,7 +22,7 @@ pub fn serve_in<S: Alter + Drop, P: Callers, C: Clock>(
     conn: Connection<S>,
     callers: &mut P,
     clock: &mut C,
-    connections: u16,
+    connections: u64,
 ) -> Worked<Done, S>
     requires outside { conn.in_transaction ≡ false }
     ensures outside { IfOk result (λ worked. worked.1.in_transaction ≡ false) }
@@ -40,6 +41,7 @@ pub fn serve_in<S: Alter + Drop, P: Callers, C: Clock>(
         })
         connections) }
     ensures unheard { OnErr result ((callers.new ≡ callers.old) × (clock.new ≡ clock.old)) }
+    ensures fault { IfErr result (IsUnopened S.Store conn) }
 {
     let (mut room, zone) = open_room(alloc, conn)?;
     let served = begin_and_serve(alloc, callers, &mut room, &zone, clock, connections);
@@ -53,7 +55,7 @@ fn begin_and_serve<S: Alter, P: Callers, C: Clock>(
     room: &mut Store<S>,
     zone: &Zone,
     clock: &mut C,
-    connections: u16,
+    connections: u64,
 ) -> Result<Done, Failure>
     requires ready { IsReady S.Store room.old }
     ensures ready { IsReady S.Store room.new }

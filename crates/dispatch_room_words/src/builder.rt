@@ -36,10 +36,10 @@ impl<'a> Draft<'a> {
         Draft { command }
     }
 
-    /// The program, once it is whole. Its words have to name a command.
-    pub fn finish(self) -> Result<Command<'a>, AllocError> {
+    /// The program of this version, once it is whole. Its words have to name a command.
+    pub fn finish(self, version: &'a str) -> Result<Command<'a>, AllocError> {
         match self.command {
-            Ok(program) => Ok(program.subcommand_required(true)),
+            Ok(program) => Ok(program.version(version).subcommand_required(true)),
             Err(fault) => Err(fault),
         }
     }

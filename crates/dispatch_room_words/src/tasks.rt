@@ -1,6 +1,7 @@
 //! What a command line asks for. Files are named by their paths.
 
 use room_place::plans::DivisionNumber;
+use std::net::SocketAddr;
 
 /// A command with all that it needs.
 #[derive(Clone, Copy)]
@@ -15,10 +16,18 @@ pub enum Task<'a> {
         file: &'a str,
         fleet: &'a str,
     },
+    /// A room of the first version is moved to this one.
+    Migrate {
+        file: &'a str,
+    },
     /// A room is served at an address.
     Serve {
         file: &'a str,
-        service: Service<'a>,
+        service: Service,
+    },
+    /// What is wrong with a room's file is told.
+    Check {
+        file: &'a str,
     },
     /// The report of a division's day is written.
     Times {
@@ -28,13 +37,34 @@ pub enum Task<'a> {
     },
 }
 
-/// Where a room is served, and how much.
+impl<'a> Task<'a> {
+    ghost use Rattle.std.specs.Prelude.{◌≡◌};
+    ghost use Rattle.dispatch_room_words.specs.Tasks.{file_of};
+
+    /// The room's file.
+    pub fn file(&self) -> &'a str
+        ensures { result.now ≡ file_of self.now }
+    {
+        match *self {
+            Task::Init { file, .. }
+            | Task::Import { file, .. }
+            | Task::Migrate { file }
+            | Task::Check { file }
+            | Task::Serve { file, .. }
+            | Task::Times { file, .. } => file,
+        }
+    }
+}
+
+/// Where a room is served, how much, and how long it waits.
 #[derive(Clone, Copy)]
-pub struct Service<'a> {
-    /// Where it listens.
-    pub address: &'a str,
+pub struct Service {
+    /// Where it listens: an address of this machine alone.
+    pub address: SocketAddr,
     /// How many connections it serves.
-    pub connections: u16,
-    /// How many seconds a read or a write may wait.
+    pub connections: u64,
+    /// How many milliseconds it waits for the first byte of a message.
+    pub idle: u16,
+    /// How many seconds a message has from its first byte, and an answer.
     pub patience: u16,
 }

@@ -1,33 +1,126 @@
 //! The words of a command line: the commands, the words of each, and what reads them.
 
+ghost use Rattle.std.specs.Prelude.{IfOk, IfSome};
+ghost use Rattle.dispatch_room_words.specs.Tasks.{IsHere, IsServedHere};
+
+use crate::addresses::loopback;
 use crate::builder::Draft;
 use crate::tasks::{Service, Task};
+use clap::builder::ValueParser;
 use clap::error::ErrorKind;
 use clap::{Arg, ArgMatches, Command, Error, value_parser};
 use room_place::plans::DivisionNumber;
 use std::alloc::Global;
 
+/// The version of the program, whose first number is that of the rooms that it keeps.
+pub const VERSION: &str = "2.0";
+
+// A division is told by its one digit.
+const DIVISIONS: [&str; 9] = ["1", "2", "3", "4", "5", "6", "7", "8", "9"];
+
+// What is said of an address that reaches more than this machine, or is none.
+const NOT_LOOPBACK: &str = "a room is served at an address of this machine alone, as \
+     127.0.0.1:8080 or [::1]:8080: it speaks plain HTTP, and a token is all that a terminal shows; \
+     terminals on other machines come by a proxy with TLS";
+
+/// Why words that clap takes are no task.
+#[derive(Clone, Copy)]
+enum Mistake {
+    /// They name no command.
+    NoCommand,
+    /// The address is not one of this machine alone.
+    NotLoopback,
+}
+
+impl Mistake {
+    fn kind(self) -> ErrorKind {
+        match self {
+            Mistake::NoCommand => ErrorKind::MissingSubcommand,
+            Mistake::NotLoopback => ErrorKind::ValueValidation,
+        }
+    }
+
+    fn text(self) -> &'static str {
+        match self {
+            Mistake::NoCommand => "a command is missing",
+            Mistake::NotLoopback => NOT_LOOPBACK,
+        }
+    }
+}
+
 /// Reads the words of a command line, the program's name first. An error is help that was asked
-/// for, a mistake in the words, or want of memory.
-pub fn read<'a>(alloc: Global, words: &'a [String]) -> Result<Task<'a>, Error> {
-    let mut program = program(alloc).finish()?;
+/// for, a mistake in the words, or want of memory. A room is served at no address that other
+/// machines reach.
+pub fn read<'a>(alloc: Global, words: &'a [String]) -> Result<Task<'a>, Error>
+    ensures served_here { IfOk result IsServedHere }
+{
+    let mut program = program(alloc).finish(VERSION)?;
     match task_in(&mut program, words) {
-        Ok(Some(task)) => Ok(task),
-        Ok(None) => Err(program.error(ErrorKind::MissingSubcommand, "a command is missing")?),
+        Ok(Ok(task)) => Ok(task),
+        Ok(Err(mistake)) => Err(program.error(mistake.kind(), mistake.text())?),
         Err(error) => Err(error),
     }
 }
 
-fn task_in<'a>(program: &mut Command<'a>, words: &'a [String]) -> Result<Option<Task<'a>>, Error> {
+fn task_in<'a>(
+    program: &mut Command<'a>,
+    words: &'a [String],
+) -> Result<Result<Task<'a>, Mistake>, Error>
+    ensures { IfOk result (λ read. IfOk read IsServedHere) }
+{
     match program.try_get_matches_from_mut(words) {
         Ok(matches) => Ok(task_of(&matches)),
         Err(error) => Err(error),
     }
 }
 
-fn task_of<'a>(matches: &ArgMatches<'a>) -> Option<Task<'a>> {
-    let (name, given) = matches.subcommand()?;
-    let file = text(given, "FILE")?;
+fn task_of<'a>(matches: &ArgMatches<'a>) -> Result<Task<'a>, Mistake>
+    ensures { IfOk result IsServedHere }
+{
+    let Some((name, given)) = matches.subcommand() else {
+        return Err(Mistake::NoCommand);
+    };
+    let Some(file) = text(given, "FILE") else {
+        return Err(Mistake::NoCommand);
+    };
+    if name == "serve" {
+        return serve_of(file, given);
+    }
+    match other_of(name, file, given) {
+        Some(task) => Ok(task),
+        None => Err(Mistake::NoCommand),
+    }
+}
+
+fn serve_of<'a>(file: &'a str, given: &ArgMatches<'a>) -> Result<Task<'a>, Mistake>
+    ensures { IfOk result IsServedHere }
+{
+    match service_of(given) {
+        Some(Ok(service)) => Ok(Task::Serve { file, service }),
+        Some(Err(mistake)) => Err(mistake),
+        None => Err(Mistake::NoCommand),
+    }
+}
+
+// None where a word is missing, which clap doesn't let through.
+fn service_of(given: &ArgMatches<'_>) -> Option<Result<Service, Mistake>>
+    ensures { IfSome result (λ read. IfOk read IsHere) }
+{
+    let Some(address) = loopback(text(given, "ADDRESS")?) else {
+        return Some(Err(Mistake::NotLoopback));
+    };
+    Some(Ok(Service {
+        address,
+        connections: given.get_one::<u64>("connections").unwrap_or(u64::MAX),
+        idle: number(given, "idle")?,
+        patience: number(given, "patience")?,
+    }))
+}
+
+// The commands but `serve`.
+fn other_of<'a>(name: &str, file: &'a str, given: &ArgMatches<'a>) -> Option<Task<'a>>
+    ensures { IfSome result IsServedHere }
+{
     match name {
         "init" => Some(Task::Init {
             file,
@@ -37,14 +130,8 @@ fn task_of<'a>(matches: &ArgMatches<'a>) -> Option<Task<'a>> {
             file,
             fleet: text(given, "FLEET")?,
         }),
-        "serve" => Some(Task::Serve {
-            file,
-            service: Service {
-                address: text(given, "ADDRESS")?,
-                connections: number(given, "connections")?,
-                patience: number(given, "patience")?,
-            },
-        }),
+        "migrate" => Some(Task::Migrate { file }),
+        "check" => Some(Task::Check { file }),
         "times" => Some(Task::Times {
             file,
             division: DivisionNumber::new(u32::from(number(given, "DIVISION")?))?,
@@ -74,6 +161,8 @@ fn program<'a>(alloc: Global) -> Draft<'a> {
     )
     .with_command(init(alloc))
     .with_command(import(alloc))
+    .with_command(migrate(alloc))
+    .with_command(check(alloc))
     .with_command(serve(alloc))
     .with_command(times(alloc))
 }
@@ -96,23 +185,48 @@ fn import<'a>(alloc: Global) -> Draft<'a> {
         alloc,
         "import",
         "Enrols a fleet, and tells what became of each row",
-        "Example: dispatch_room import room.db fleet.csv",
+        "Where it says `refused: file`, `check` tells what is wrong.\n\n\
+         Example: dispatch_room import room.db fleet.csv",
     )
     .with(file(alloc))
     .with(word(alloc, "FLEET", fleet))
 }
 
+fn migrate<'a>(alloc: Global) -> Draft<'a> {
+    Draft::new(
+        alloc,
+        "migrate",
+        "Moves a room of version 1, which had no offers, to this version",
+        "There is no way back but a copy of the file, so make one first.\n\n\
+         Example: dispatch_room migrate room.db",
+    )
+    .with(file(alloc))
+}
+
+fn check<'a>(alloc: Global) -> Draft<'a> {
+    Draft::new(
+        alloc,
+        "check",
+        "Tells how much a room has, or what is wrong first with its file",
+        "No row is written. Its status is 0 where the file is a well-formed room.\n\n\
+         Example: dispatch_room check room.db",
+    )
+    .with(file(alloc))
+}
+
 fn serve<'a>(alloc: Global) -> Draft<'a> {
-    let address = "Where to listen: an address of this machine with a port";
+    let address = "Where to listen: an address of this machine alone, with a port";
     Draft::new(
         alloc,
         "serve",
         "Serves a room over HTTP, one connection after another",
-        "Example: dispatch_room serve room.db 127.0.0.1:8080 --connections 1000",
+        "Where it says `refused: file`, `check` tells what is wrong.\n\n\
+         Example: dispatch_room serve room.db 127.0.0.1:8080",
     )
     .with(file(alloc))
     .with(word(alloc, "ADDRESS", address))
     .with(connections(alloc))
+    .with(idle(alloc))
     .with(patience(alloc))
 }
 
@@ -120,9 +234,17 @@ fn connections<'a>(alloc: Global) -> Arg<'a> {
     Arg::new(alloc, "connections")
         .long("connections")
         .value_name("N")
-        .required(true)
-        .value_parser(value_parser!(u16).range(1..=65535))
-        .help("How many connections to serve, one after another")
+        .value_parser(value_parser!(u64).range(1..))
+        .help("How many connections to serve, one after another; without it there is no end")
+}
+
+fn idle<'a>(alloc: Global) -> Arg<'a> {
+    Arg::new(alloc, "idle")
+        .long("idle")
+        .value_name("MILLISECONDS")
+        .default_value("200")
+        .value_parser(value_parser!(u16).range(1..=60000))
+        .help("How long a connection may be silent between requests, and before the first")
 }
 
 fn patience<'a>(alloc: Global) -> Arg<'a> {
@@ -131,7 +253,7 @@ fn patience<'a>(alloc: Global) -> Arg<'a> {
         .value_name("SECONDS")
         .default_value("2")
         .value_parser(value_parser!(u16).range(1..=3600))
-        .help("How long a silent peer may hold the room")
+        .help("How long a request may take to come, and its answer to be taken")
 }
 
 fn times<'a>(alloc: Global) -> Draft<'a> {
@@ -139,7 +261,8 @@ fn times<'a>(alloc: Global) -> Draft<'a> {
         alloc,
         "times",
         "Writes the activation times of a division's day as CSV",
-        "Example: dispatch_room times room.db 1 2026-03-29",
+        "Where it says `refused: file`, `check` tells what is wrong.\n\n\
+         Example: dispatch_room times room.db 1 2026-03-29",
     )
     .with(file(alloc))
     .with(division(alloc))
@@ -147,7 +270,7 @@ fn times<'a>(alloc: Global) -> Draft<'a> {
 }
 
 fn division<'a>(alloc: Global) -> Arg<'a> {
-    word(alloc, "DIVISION", "The division, 1 to 9").value_parser(value_parser!(u16).range(1..=9))
+    word(alloc, "DIVISION", "The division, 1 to 9").value_parser(ValueParser::Names(&DIVISIONS))
 }
 
 fn file<'a>(alloc: Global) -> Arg<'a> {

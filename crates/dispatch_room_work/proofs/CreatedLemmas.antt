@@ -12,7 +12,7 @@ use Rattle.room_types.specs.declared.fleet.Terminal.{Terminal}
 use Rattle.sqlite.specs.Held.{Held, state}
 use Rattle.sqlite.specs.State.{HasCleanDisk, Survives}
 use Rattle.sqlite_trees.specs.declared.store.Store.{Ghosts}
-use Rattle.std.proofs.Common.{Bool, List, [], ap, cond, filter, length, refl, subst, suc, true, false, vec_len, zero, Ok, ℕ, ◌+◌, ◌++◌, ◌∙◌, ◌≡◌, ◌∷◌}
+use Rattle.std.proofs.Common.{Bool, List, [], ap, cond, filter, length, refl, subst, suc, true, false, vec_len, zero, ℕ, ◌+◌, ◌++◌, ◌∙◌, ◌≡◌, ◌∷◌}
 
 -- the numbers from 1 to this one
 abbrev pub numbers_to : ℕ → List ℕ
@@ -55,9 +55,8 @@ pub created_in : {S : Type 0} (g : Ghosts S) (old : Held S) (store : Store S) (f
     → (HasCleanDisk (state g store.conn) → IsRoom g store (in_order terminals) (new_room file.plan))
     → (HasCleanDisk (state g store.conn) → IsSettled (state g store.conn))
     → MayBegin (state g old).now.schema file.plan terminals → Survives (state g old) (state g store.conn) (StandsNew file.plan terminals)
-    → IsCreated g old store.conn file (Ok tt)
+    → IsCreated g old store.conn file
 created_in g old store file terminals e same room settled begun survives = record {
-  whole = refl;
   begun = rw e at begun;
   settled = settled;
   stands = λ clean.

@@ -1,3 +1,4 @@
+mod CheckedLemmas
 pub mod CreatedLemmas
 pub mod DayReportLemmas
 pub mod FateLemmas

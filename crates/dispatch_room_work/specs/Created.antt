@@ -1,5 +1,6 @@
 -- A room that was created by a plan's file, and what is told of it.
-use Rattle.std.specs.Prelude.{List, Ok, Result, codes, decimal, filter, length, vec_len, ℕ, ◌++◌, ◌≡◌}
+use Rattle.std.specs.Io.KnownBytes.{Appends}
+use Rattle.std.specs.Prelude.{Err, List, Ok, Option, Result, codes, decimal, filter, length, vec_len, ℕ, ◌++◌, ◌≡◌}
 use Rattle.sqlite.specs.Held.{Held, state}
 use Rattle.sqlite.specs.State.{HasCleanDisk, Survives}
 use Rattle.sqlite_schema.specs.declared.schema.Schema.{Schema}
@@ -11,12 +12,14 @@ use Rattle.room_store.specs.declared.creating.CreateFault.{CreateFault}
 use Rattle.room_store_writes.specs.Filling.{StandsNew, division_numbers}
 use Rattle.room_store_writes.specs.Writing.{IsSettled}
 use Rattle.dispatch_room_endings.specs.Endings.{create_fault}
+use Rattle.dispatch_room_endings.specs.declared.endings.Done.{Done}
+use Rattle.dispatch_room_endings.specs.declared.endings.Done.TheVariants.{Whole}
 use Rattle.dispatch_room_endings.specs.declared.endings.Failure.{Failure}
+use Rattle.dispatch_room_endings.specs.declared.endings.Failure.TheVariants.{Network}
 use Rattle.dispatch_room_files.specs.declared.plans.PlanFile.{PlanFile}
 
 -- In a database that had nothing, the new room of the plan with its terminals is committed. What a stop may leave is what it could leave before, or that room.
-pub record IsCreated {S : Type 0} (g : Ghosts S) (old new : Held S) (file : PlanFile) (done : Result (Unit {0}) Failure) : Type 0 where
-  pub whole : done ≡ Ok tt
+pub record IsCreated {S : Type 0} (g : Ghosts S) (old new : Held S) (file : PlanFile) : Type 0 where
   pub begun : MayBegin (state g old).now.schema file.plan file.terminals.items
   pub settled : HasCleanDisk (state g new) → IsSettled (state g new)
   pub stands : HasCleanDisk (state g new) → StandsNew file.plan file.terminals.items (state g new).now.trees
@@ -38,3 +41,8 @@ amounts_text divisions areas terminals =
 -- the line that tells how much a room has that was created by a plan's file
 abbrev pub created_text : PlanFile → List ℕ
 created_text file = amounts_text (division_count file.plan.areas) (length file.plan.areas) (vec_len file.terminals)
+
+-- the line is written, unless the output fails
+abbrev pub IsTold : PlanFile → Option (List ℕ) → Option (List ℕ) → Result Done Failure → Type 0
+IsTold file before after (Ok done) = Appends before after (created_text file) × (done ≡ Whole)
+IsTold file before after (Err failure) = failure ≡ Network

@@ -1,10 +1,7 @@
 //! `init`: a room is created in a database, by a plan.
-ghost use Rattle.std.specs.Prelude.{◌≡◌, false, IfErr, IfOk, OnOk};
-ghost use Rattle.std.specs.Io.KnownBytes.{Appends};
+ghost use Rattle.std.specs.Prelude.{◌≡◌, false, IfErr, IfOk};
 ghost use Rattle.sqlite.specs.Held.{state};
-ghost use Rattle.dispatch_room_endings.specs.declared.endings.Done.TheVariants as much;
-ghost use Rattle.dispatch_room_endings.specs.declared.endings.Failure.TheVariants as failure;
-ghost use Rattle.dispatch_room_work.specs.Created.{ExplainsNone, IsCreated, created_text, division_count};
+ghost use Rattle.dispatch_room_work.specs.Created.{ExplainsNone, IsCreated, IsTold, division_count};
 
 use crate::rooms::Worked;
 use dispatch_room_endings::endings::{Done, Failure};
@@ -15,28 +12,29 @@ use sqlite::{Alter, Connection};
 use std::alloc::Global;
 use std::io::Write;
 
-/// Creates the room of a plan in a database that has nothing.
-pub fn create_in<S: Alter + Drop>(
+/// Creates the room of a plan in a database that has nothing, and tells how much it has. What is
+/// told stands, also where the database can't be closed afterwards.
+pub fn create_in<S: Alter + Drop, O: Write>(
     alloc: Global,
     conn: Connection<S>,
     plan: &PlanFile,
-) -> Worked<(), S>
+    out: &mut O,
+) -> Worked<Done, S>
     requires outside { conn.in_transaction ≡ false }
-    ensures created { IfOk result (λ worked. IsCreated S.Store conn worked.1 plan.now worked.0) }
+    ensures created { IfOk result (λ worked. IsCreated S.Store conn worked.1 plan.now) }
+    ensures told { IfOk result (λ worked.
+        IsTold plan.now (O.contents out.old) (O.contents out.new) worked.0) }
     ensures fault { IfErr result (ExplainsNone (state S.Store conn).now.schema plan.now) }
 {
     match Store::create(alloc, conn, &plan.plan, plan.terminals.as_slice()) {
-        Ok(room) => Ok((Ok(()), room.close())),
+        Ok(room) => Ok((tell(plan, out), room.close())),
         Err((fault, _)) => Err(Failure::from(fault)),
     }
 }
 
-/// Tells how much a created room has.
-pub fn tell<O: Write>(created: &PlanFile, out: &mut O) -> Result<Done, Failure>
-    ensures text { OnOk result (Appends (O.contents out.old) (O.contents out.new)
-        (created_text created.now)) }
-    ensures whole { IfOk result (λ done. done ≡ much.Whole) }
-    ensures fault { IfErr result (λ fault. fault ≡ failure.Network) }
+// Tells how much a created room has.
+fn tell<O: Write>(created: &PlanFile, out: &mut O) -> Result<Done, Failure>
+    ensures { IsTold created.now (O.contents out.old) (O.contents out.new) result }
 {
     let divisions = count_divisions(&created.plan);
     let areas = created.plan.areas().len();

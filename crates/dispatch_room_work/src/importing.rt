@@ -1,13 +1,15 @@
 //! `import`: the rows of a fleet are enrolled in the room of a database.
-ghost use Rattle.std.specs.Prelude.{◌≡◌, List, false, IfOk};
+ghost use Rattle.std.specs.Prelude.{◌≡◌, ◌⊎◌, List, false, IfErr, IfOk};
 ghost use Rattle.sqlite.specs.Held.{state};
 ghost use Rattle.sqlite.specs.State.{HasCleanDisk, Survives};
 ghost use Rattle.room_types.specs.declared.fleet.Terminal.{Terminal};
 ghost use Rattle.room_model.specs.Room.{Room};
 ghost use Rattle.room_store.specs.Enrolling.{MayBeEnrolled};
 ghost use Rattle.room_store.specs.Keeping.{IsReady, IsRoom};
+ghost use Rattle.dispatch_room_endings.specs.declared.endings.Failure.TheVariants.{Memory};
 ghost use Rattle.dispatch_room_work.specs.Fates.{good_rows};
 ghost use Rattle.dispatch_room_work.specs.Imported.{HasImported, HasImportedIn, IsTold};
+ghost use Rattle.dispatch_room_work.specs.Opened.{IsUnopened};
 
 use crate::fates::{good_rows, tell};
 use crate::rooms::{Worked, open_room};
@@ -32,6 +34,7 @@ pub fn enrol_in<S: Alter + Drop, O: Write>(
     ensures imported { IfOk result (λ worked. HasCleanDisk (state S.Store worked.1)
         → HasImportedIn S.Store conn worked.1 lines.now (O.contents out.old) (O.contents out.new)
         worked.0) }
+    ensures fault { IfErr result (λ fault. (fault ≡ Memory) ⊎ IsUnopened S.Store conn fault) }
 {
     let Ok(rows) = good_rows(alloc, lines) else {
         return Err(Failure::Memory);

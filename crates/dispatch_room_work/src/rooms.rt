@@ -1,13 +1,11 @@
 //! The room of a database, opened for a command.
-ghost use Rattle.std.specs.Prelude.{◌≡◌, false, IfOk, IsTrue, List};
+ghost use Rattle.std.specs.Prelude.{◌≡◌, false, IfErr, IfOk};
 ghost use Rattle.jiff.specs.Placed.{IsPosixZone};
 ghost use Rattle.sqlite.specs.Held.{state};
 ghost use Rattle.sqlite.specs.State.{HasCleanDisk};
-ghost use Rattle.room_types.specs.declared.fleet.Terminal.{Terminal};
-ghost use Rattle.room_model.specs.Room.{Room};
 ghost use Rattle.room_http_time.specs.Days.{zone_of};
-ghost use Rattle.room_tables.specs.Stands.{House, Stands};
-ghost use Rattle.room_store.specs.Keeping.{IsReady, IsRoom};
+ghost use Rattle.room_store.specs.Keeping.{IsReady};
+ghost use Rattle.dispatch_room_work.specs.Opened.{IsUnopened, OpensRoom};
 
 use dispatch_room_endings::endings::Failure;
 use room_http_time::zones::Zone;
@@ -16,7 +14,7 @@ use sqlite::{Alter, Connection};
 use std::alloc::Global;
 
 /// The room in a database, with the zone of its days: the well-formed room that the tables stood
-/// for, and the zone of its plan.
+/// for, and the zone of its plan. Where there is none the database is let go.
 pub fn open_room<S: Alter + Drop>(
     alloc: Global,
     conn: Connection<S>,
@@ -24,17 +22,13 @@ pub fn open_room<S: Alter + Drop>(
     requires outside { conn.in_transaction ≡ false }
     ensures ready { IfOk result (λ opened. IsReady S.Store opened.0) }
     ensures room { IfOk result (λ opened. HasCleanDisk (state S.Store opened.0.conn)
-        → (terminals : List Terminal) × (room : Room) × IsRoom S.Store opened.0 terminals room) }
-    // Of a connection that a fault has shut, the tables tell nothing.
-    ensures same { IfOk result (λ opened. HasCleanDisk (state S.Store opened.0.conn)
-        → IsTrue (state S.Store opened.0.conn).is_open
-        → (house : House) (room : Room) → Stands (state S.Store conn).now.trees house room
-        → (house.zone ≡ opened.0.plan.zone) × IsRoom S.Store opened.0 house.terminals room) }
+        → OpensRoom S.Store conn opened.0) }
     ensures zone { IfOk result (λ opened. IsPosixZone opened.0.plan.zone (zone_of opened.1)) }
+    ensures fault { IfErr result (IsUnopened S.Store conn) }
 {
     let room = match Store::open(alloc, conn) {
         Ok(room) => room,
-        Err((fault, _)) => return Err(Failure::from(fault)),
+        Err((fault, _conn)) => return Err(Failure::from(fault)),
     };
     match Zone::read(room.plan().zone()) {
         Ok(zone) => Ok((room, zone)),

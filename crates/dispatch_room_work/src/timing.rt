@@ -9,6 +9,7 @@ ghost use Rattle.room_store.specs.Keeping.{IsReady, IsRoom};
 ghost use Rattle.room_http_time.specs.Dates.{day_of};
 ghost use Rattle.room_http_time.specs.Days.{zone_of};
 ghost use Rattle.dispatch_room_work.specs.DayReports.{ExplainsReport, HasReported, IsAskable, IsDayReport, IsSpanOf, report_in};
+ghost use Rattle.dispatch_room_work.specs.Opened.{IsUnopened};
 
 use crate::rooms::{Worked, open_room};
 use dispatch_room_endings::endings::{Failure, refused};
@@ -32,8 +33,9 @@ pub fn report_in<S: Alter + Drop>(
     day: &str,
 ) -> Worked<Vec<u8>, S>
     requires outside { conn.in_transaction ≡ false }
-    ensures { IfOk result (λ worked. HasCleanDisk (state S.Store worked.1)
+    ensures reported { IfOk result (λ worked. HasCleanDisk (state S.Store worked.1)
         → HasReported S.Store conn worked.1 division day.now worked.0) }
+    ensures fault { IfErr result (IsUnopened S.Store conn) }
 {
     let (mut room, zone) = open_room(alloc, conn)?;
     let report = report_of(alloc, &mut room, &zone, division, day);

@@ -19,6 +19,8 @@ pub mod KeptIncidents
 pub mod KeptLoans
 pub mod KeptMerge
 pub mod KeptReports
+pub mod OfferLaws
+pub mod OffersMade
 pub mod OneEvent
 pub mod OneList
 pub mod OpenTurns

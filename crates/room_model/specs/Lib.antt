@@ -19,6 +19,8 @@ pub mod Alone
 -- ---- what the other laws speak of
 -- what always holds of a room
 pub mod WellFormed
+-- rooms that were kept before loans were offered
+pub mod Moving
 -- what becomes of a row of a fleet, and of a whole fleet
 pub mod Enrol
 pub mod Fleets

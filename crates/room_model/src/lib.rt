@@ -11,6 +11,9 @@ pub mod isolation;
 // What always holds of a room.
 pub mod agreements;
 
+// How a room goes on that was kept before loans were offered.
+pub mod moving;
+
 // Which refusals there are.
 pub mod refusals;
 

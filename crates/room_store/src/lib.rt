@@ -5,6 +5,7 @@ mod acting;
 pub mod creating;
 mod deciding;
 mod enrolling;
+pub mod migrating;
 pub mod opening;
 mod serving;
 pub mod store;

@@ -1,13 +1,14 @@
 //! A room opened from the tables of a file.
-ghost use Rattle.std.specs.Prelude.{◌≡◌, false, List, IfErr, IfOk};
+ghost use Rattle.std.specs.Prelude.{◌≡◌, ◌⊎◌, false, List, IfErr, IfOk};
 ghost use Rattle.sqlite.specs.Held.{state};
 ghost use Rattle.sqlite.specs.State.{HasCleanDisk, Survives};
 ghost use Rattle.room_types.specs.declared.fleet.Terminal.{Terminal};
 ghost use Rattle.room_model.specs.Room.{Room};
 ghost use Rattle.room_tables_schema.specs.Schema.{room_schema};
+ghost use Rattle.room_tables_schema.specs.Versions.{HasTables};
 ghost use Rattle.room_store.specs.Keeping.{IsKept, IsReady, IsRoom};
+ghost use Rattle.room_store_writes.specs.Writing.{Leaves};
 ghost use Rattle.room_store_opening.specs.Opening.{
-  HasTables,
   HoldsRoom,
   IsOldRoom,
   KeepsFile,
@@ -27,8 +28,7 @@ use std::alloc::Global;
 impl<S: Alter> Store<S> {
     /// Opens the room that a file holds, and reads all its rows for that. Where the file has just
     /// a room's tables without their indexes, these are made; in every other file nothing is
-    /// written. All rows of all tables stay, also where the file is no room, or where memory or
-    /// storage fails.
+    /// written. All rows of all tables stay. A fault leaves the file as it was.
     pub fn open(
         alloc: Global,
         mut conn: Connection<S>,
@@ -52,8 +52,8 @@ impl<S: Alter> Store<S> {
             → HasTables (state S.Store conn).now.schema
             → ¬ HoldsRoom (state S.Store conn).now.trees) }
         ensures same_fault { IfErr result (λ e. HasCleanDisk (state S.Store e.1)
-            → KeepsFile (state S.Store conn) (state S.Store e.1)) }
-        ensures old_same { IfErr result (λ e. e.0 ≡ OldRoom
+            → Leaves (state S.Store conn) (state S.Store e.1)) }
+        ensures untouched { IfErr result (λ e. (e.0 ≡ OldRoom) ⊎ (e.0 ≡ NotARoom)
             → WritesNothing (state S.Store conn) (state S.Store e.1)) }
         ensures ended { IfErr result (λ e. e.1.in_transaction ≡ false) }
         ensures survives { IfOk result (λ store.

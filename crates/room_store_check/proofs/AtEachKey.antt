@@ -53,7 +53,7 @@ module _ (plan : List Area) (s : DivisionRows) where
     pub numbers : (k : ℕ × ℕ) → IfSome (row_at pair_cmp incident_key s.incidents k) (λ i. NumberAgrees r (Some i))
     pub opened : (k : ℕ × ℕ) → IfSome (row_at pair_cmp incident_key s.incidents k) (λ i. OpenedAgrees r (Some i))
 
-  opened_decides : IsInOrder r → (i : Incident) → Decides (is_opened s i) (OpenedAgrees r (Some i))
+  pub opened_decides : IsInOrder r → (i : Incident) → Decides (is_opened s i) (OpenedAgrees r (Some i))
   opened_decides in_order i = kept_decides (is_merged i.state) _ (
     λ h. let found = passing pair_cmp call_key pairs_total exact_pair (opens i) s.calls in_order.calls h in
         record { position = found.row.position; serial = found.row.serial; first_call = found.row; there = found.there; same = (opens_decides i found.row).0 found.passes },

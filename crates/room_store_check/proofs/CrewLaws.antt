@@ -21,12 +21,12 @@ use Rattle.room_store_check.specs.Crews.{crew_of, crews_of}
 use Rattle.room_store_check.proofs.PassingRows.{behind, passed, passing}
 
 -- ---- a vehicle's crew
-who_is : (c : Callsign) (w : Who) → is_crew c w ≡ true → w ≡ Crew c
+pub who_is : (c : Callsign) (w : Who) → is_crew c w ≡ true → w ≡ Crew c
 who_is c (Crew k) e = ap Crew (exact_callsigns k c ((Equal-is (callsign_cmp k c)).0 e))
 who_is c (Desk d) e = absurd (false≢true e)
 who_is c (Position p) e = absurd (false≢true e)
 
-its_crew : (c : Callsign) → is_crew c (Crew c) ≡ true
+pub its_crew : (c : Callsign) → is_crew c (Crew c) ≡ true
 its_crew c = ap is_eq (tied_itself callsigns_total c)
 
 abbrev pub crew : Token → Callsign → Terminal

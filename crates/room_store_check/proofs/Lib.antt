@@ -1,9 +1,12 @@
 mod Agreements
 mod AtEachKey
 mod CrewLaws
+mod FaultLaws
 mod OpeningLaws
 mod PassingRows
 mod RoomLaws
+mod RowFaults
 mod RowLaws
+mod TerminalFaults
 mod TerminalLaws
 mod TokenOrder

@@ -1,5 +1,5 @@
 -- A call that opened an incident is found by what calls tell.
-use Rattle.std.specs.List.{list_all, list_any}
+use Rattle.std.specs.List.{list_any}
 use Rattle.std.specs.Ordering.{eq_by_cmp, is_eq, nat_cmp, ordering_then}
 use Rattle.std.specs.Prelude.{map, ◌&&◌, ◌==◌}
 use Rattle.std.specs.declared.cmp.Ordering.TheVariants.{Equal, Greater, Less}
@@ -32,7 +32,3 @@ told_alike x y =
 pub told_opening : (i : Incident) (cs : List Call) → list_any (eq_by_cmp told_cmp (i.division, i.number, i.opened)) (map told_of cs) ≡ list_any (opens i) cs
 told_opening i [] = refl
 told_opening i (c ∷ cs) = rw (told_alike (i.division, i.number, i.opened) (c.division, c.incident, c.at), told_opening i cs) refl
-
-pub list_all_alike : {X : Type 0} (p q : X → Bool) (xs : List X) → ((x : X) → p x ≡ q x) → list_all p xs ≡ list_all q xs
-list_all_alike p q [] same = refl
-list_all_alike p q (x ∷ xs) same = rw (same x, list_all_alike p q xs same) refl

@@ -1,7 +1,7 @@
 -- The tests of all rows tell whether they make a well-formed room.
 use Rattle.std.specs.Bool.{Decides}
 use Rattle.std.specs.List.{list_all}
-use Rattle.std.specs.Prelude.{IfSome, is_some, ◌&&◌, ◌==◌, ◌||◌}
+use Rattle.std.specs.Prelude.{IfSome, is_none, is_some, ◌&&◌, ◌==◌, ◌||◌}
 use Rattle.std.proofs.Common.{Bool, List, None, Option, Some, [], ap, eq-eqb, false, refl, subst, sym, true, ℕ, ◌∙◌, ◌∷◌, ◌≡◌, ◌≤◌}
 use Rattle.std.proofs.lemmas.Bool.Decides.{Decides-like, same_from_decides}
 use Rattle.std.proofs.lemmas.Bool.{and_parts, eqb-true, false_from_ne_true, false≢true, le-leb}
@@ -21,9 +21,9 @@ use Rattle.room_types.specs.declared.tables.Vehicle.{Vehicle}
 use Rattle.room_types.proofs.SentLaws.{itself}
 use Rattle.room_model.specs.Room.{IsInOrder, Room}
 use Rattle.room_model.specs.Slices.{room_of}
-use Rattle.room_model.specs.WellFormed.{AreInPlan, AssignmentAgrees, CallAgrees, IsWellFormed, LastAgrees, LoanAgrees, NumberAgrees, OfferAgrees, OpenedAgrees, PostAgrees, ReportAgrees, SameIncident, TurnAgrees, TurnIsActive}
+use Rattle.room_model.specs.WellFormed.{AreInPlan, AssignmentAgrees, CallAgrees, IsWellFormed, LastAgrees, LoanAgrees, NumberAgrees, OfferAgrees, OpenAgrees, OpenedAgrees, PostAgrees, ReportAgrees, SameIncident, TurnAgrees, TurnIsActive}
 use Rattle.room_model.proofs.Tests.{both_true, or_right}
-use Rattle.room_store_check.specs.Fits.{is_opened, report_at, rows_fit}
+use Rattle.room_store_check.specs.Fits.{is_open, is_opened, report_at, rows_fit}
 use Rattle.room_store_check.proofs.Agreements.{has_vehicle, joined, lift, lower, there_if, told}
 use Rattle.room_store_check.proofs.AtEachKey.{Fits, fits_decides}
 use Rattle.room_store_check.proofs.RowLaws.{ReportFits, TurnFits, VehicleFits}
@@ -53,7 +53,7 @@ covers f (a ∷ areas) h =
     let here : f a.division ≡ true = h a.division (ap (λ b. b || has_division areas a.division) (eq-eqb a.division a.division refl)) in
     both_true _ _ here (covers f areas (λ d there. h d (or_right (a.division == d) _ there)))
 
-in_range : (layout : Layout) (d : ℕ) → has_division layout.areas d ≡ true → is_division d ≡ true
+pub in_range : (layout : Layout) (d : ℕ) → has_division layout.areas d ≡ true → is_division d ≡ true
 in_range layout d h =
     let any = Any-from_list_any (λ (a : Area). a.division == d) layout.areas h in
     let range = numbered layout.areas layout.zone (λ a. Unit {0}) d layout.sound (any.0, any.1, any.2, any.3, (eqb-true _ _ any.4, tt)) in
@@ -77,7 +77,7 @@ module _ (layout : Layout) (s : DivisionRows) where
       rw e at h.in_turn
   turn_joined c n (Some v) None e g f = λ last. false_from_ne_true _ (λ busy.
       let h : VehicleFits plan s c v = rw e at (f.vehicles c) in
-      let there : is_some (turn_at c n s) ≡ true = subst (λ m. is_some (turn_at c m s) ≡ true) (sym last) (h.turn busy).1 in
+      let there : is_open (turn_at c n s) ≡ true = subst (λ m. is_open (turn_at c m s) ≡ true) (sym last) (h.turn busy).1 in
       false≢true (rw g at there))
 
   division_told : Fits plan s → (d : ℕ) → is_some (division_at d s) ≡ has_division plan d
@@ -114,9 +114,13 @@ module _ (layout : Layout) (s : DivisionRows) where
   }
 
   -- ---- and back
-  busy_turn : (v : Vehicle) (n : ℕ) (t : Option Turn) → n ≡ v.last_order → TurnAgrees (Some v) n t → is_busy v.status ≡ true → (1 ≤ n) × (is_some t ≡ true)
+  unended : (v : Vehicle) (n : ℕ) (t : Turn) (ended : Option ℕ) → n ≡ v.last_order → OpenAgrees v n t ended → is_busy v.status ≡ true → is_none ended ≡ true
+  unended v n t None last h busy = refl
+  unended v n t (Some at) last h busy = absurd (false≢true (sym (h last) ∙ busy))
+
+  busy_turn : (v : Vehicle) (n : ℕ) (t : Option Turn) → n ≡ v.last_order → TurnAgrees (Some v) n t → is_busy v.status ≡ true → (1 ≤ n) × (is_open t ≡ true)
   busy_turn v n None last h busy = absurd (false≢true (sym (h last) ∙ busy))
-  busy_turn v n (Some t) last h busy = (h.0, refl)
+  busy_turn v n (Some t) last h busy = (h.0, unended v n t t.ended last h.2 busy)
 
   vehicle_of : IsWellFormed r → (c : Callsign) (v : Option Vehicle) → vehicle_at c s ≡ v → IfSome v (VehicleFits plan s c)
   vehicle_of w c None e = tt

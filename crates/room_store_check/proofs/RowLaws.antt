@@ -23,13 +23,13 @@ use Rattle.room_types.proofs.SentLaws.{itself}
 use Rattle.room_model.specs.Room.{Room}
 use Rattle.room_model.specs.Slices.{room_of}
 use Rattle.room_model.specs.WellFormed.{AssignmentAgrees, CallAgrees, IsGiven, IsOfIncident, IsPost, LastAgrees, LoanAgrees, OfferAgrees, OpenAgrees, PostAgrees, ReportAgrees, SameIncident, TurnAgrees, TurnIsActive}
-use Rattle.room_store_check.specs.Fits.{assignment_fits, call_fits, has_post, incident_fits, is_as_assigned, is_given, is_in_turn, is_numbered, is_of, loan_at, loan_fits, offer_at, offer_fits, open_fits, report_fits, turn_fits, vehicle_fits}
+use Rattle.room_store_check.specs.Fits.{assignment_fits, call_fits, has_post, incident_fits, is_as_assigned, is_given, is_in_turn, is_numbered, is_of, is_open, loan_at, loan_fits, offer_at, offer_fits, open_fits, report_fits, turn_fits, vehicle_fits}
 
 -- ---- tests of tests
-idle : (b : Bool) → Decides (not b) (b ≡ false)
+pub idle : (b : Bool) → Decides (not b) (b ≡ false)
 idle b = (not-true b, ap not)
 
-at_most : (m n : ℕ) → Decides (nat_le m n) (m ≤ n)
+pub at_most : (m n : ℕ) → Decides (nat_le m n) (m ≤ n)
 at_most m n = (leb-true m n, le-leb m n)
 
 unless : {P Q : Type 0} (p q : Bool) → Decides p P → Decides q Q → Decides (not p || q) (P → Q)
@@ -40,22 +40,22 @@ pub three : {P Q R : Type 0} (p q r : Bool) → Decides p P → Decides q Q → 
 three p q r d e f = Decides-like _ (λ h. (h.0, h.1.0, h.1.1)) (λ h. (h.0, (h.1, h.2))) (Decides-and _ _ d (Decides-and _ _ e f))
 
 -- ---- a vehicle
-loan_decides : (v : Vehicle) (l : Option Loan) → Decides (loan_fits v l) (LoanAgrees (Some v) l)
+pub loan_decides : (v : Vehicle) (l : Option Loan) → Decides (loan_fits v l) (LoanAgrees (Some v) l)
 loan_decides v None = Decides-eqb _ _
 loan_decides v (Some l) = three _ _ _ (Decides-eqb _ _) (Decides-eqb _ _) (Decides-not _ (Decides-eqb _ _))
 
-offer_decides : (plan : List Area) (v : Vehicle) (o : Option Offer) → Decides (offer_fits plan v o) (OfferAgrees plan (Some v) o)
+pub offer_decides : (plan : List Area) (v : Vehicle) (o : Option Offer) → Decides (offer_fits plan v o) (OfferAgrees plan (Some v) o)
 offer_decides plan v None = idle _
 offer_decides plan v (Some o) = Decides-like _
     (λ h. (h.0, h.1.0, h.1.1.0, h.1.1.1.0, h.1.1.1.1))
     (λ h. (h.0, (h.1, (h.2, (h.3, h.4)))))
     (Decides-and _ _ (itself _) (Decides-and _ _ (Decides-eqb _ _) (Decides-and _ _ (Decides-eqb _ _) (Decides-and _ _ (Decides-not _ (Decides-eqb _ _)) (itself _)))))
 
-assignment_decides : (v : Vehicle) (a : Option Assignment) → Decides (assignment_fits v a) (AssignmentAgrees (Some v) a)
+pub assignment_decides : (v : Vehicle) (a : Option Assignment) → Decides (assignment_fits v a) (AssignmentAgrees (Some v) a)
 assignment_decides v None = idle _
 assignment_decides v (Some a) = three _ _ _ (itself _) (Decides-eqb _ _) (Decides-eqb _ _)
 
-none_sent : (n : ℕ) → Decides (not (nat_le 1 n)) (n ≡ 0)
+pub none_sent : (n : ℕ) → Decides (not (nat_le 1 n)) (n ≡ 0)
 none_sent n = Decides-like _ (λ h. omega (arith, h)) (λ h m. omega (arith, h, m)) (Decides-not _ (at_most 1 n))
 
 module _ (plan : List Area) (s : DivisionRows) where
@@ -68,11 +68,11 @@ module _ (plan : List Area) (s : DivisionRows) where
     pub loan : LoanAgrees (Some v) (loan_at c s)
     pub offer : OfferAgrees plan (Some v) (offer_at c s)
     pub assignment : AssignmentAgrees (Some v) (assignment_at c s)
-    pub turn : is_busy v.status ≡ true → (1 ≤ v.last_order) × (is_some (turn_at c v.last_order s) ≡ true)
+    pub turn : is_busy v.status ≡ true → (1 ≤ v.last_order) × (is_open (turn_at c v.last_order s) ≡ true)
     pub report : LastAgrees r (Some v)
     pub post : PostAgrees r (Some v)
 
-  post_decides : (v : Vehicle) (p : Option ℕ) → Decides (has_post s v p) (IsPost r v p)
+  pub post_decides : (v : Vehicle) (p : Option ℕ) → Decides (has_post s v p) (IsPost r v p)
   post_decides v None = (λ h. tt, λ h. refl)
   post_decides v (Some n) = Decides-and _ _ (itself _) (itself _)
 
@@ -85,7 +85,7 @@ module _ (plan : List Area) (s : DivisionRows) where
       (Decides-and _ _ (Decides-or _ _ (none_sent _) (itself _)) (post_decides v v.post))))))))
 
   -- ---- a turn
-  open_decides : (v : Vehicle) (t : Turn) (ended : Option ℕ) → Decides (open_fits v t ended) (OpenAgrees v t.order t ended)
+  pub open_decides : (v : Vehicle) (t : Turn) (ended : Option ℕ) → Decides (open_fits v t ended) (OpenAgrees v t.order t ended)
   open_decides v t None = three _ _ _ (Decides-eqb _ _) (Decides-eqb _ _) (itself _)
   open_decides v t (Some at) = unless _ _ (Decides-eqb _ _) (idle _)
 
@@ -93,15 +93,15 @@ module _ (plan : List Area) (s : DivisionRows) where
   in_turn_decides t None = (λ h. false≢true h, λ h. absurd h)
   in_turn_decides t (Some v) = three _ _ _ (at_most _ _) (at_most _ _) (open_decides v t t.ended)
 
-  as_assigned_decides : (t : Turn) (a : Option Assignment) → Decides (is_as_assigned t a) (SameIncident a (Some t))
+  pub as_assigned_decides : (t : Turn) (a : Option Assignment) → Decides (is_as_assigned t a) (SameIncident a (Some t))
   as_assigned_decides t None = (λ h. tt, λ h. refl)
   as_assigned_decides t (Some a) = unless _ _ (Decides-eqb _ _) (Decides-eqb _ _)
 
-  active_decides : (i : Option Incident) → Decides (is_active_one i) (IsActive i)
+  pub active_decides : (i : Option Incident) → Decides (is_active_one i) (IsActive i)
   active_decides None = (λ h. false≢true h, λ h. absurd h)
   active_decides (Some i) = itself _
 
-  over_decides : {B : Type 0} (ended : Option ℕ) (b : Bool) → Decides b B → Decides (is_some ended || b) (ended ≡ None → B)
+  pub over_decides : {B : Type 0} (ended : Option ℕ) (b : Bool) → Decides b B → Decides (is_some ended || b) (ended ≡ None → B)
   over_decides None b d = (λ h e. d.0 h, λ f. d.1 (f refl))
   over_decides (Some at) b d = (λ h e. cc, λ f. refl)
 
@@ -118,7 +118,7 @@ module _ (plan : List Area) (s : DivisionRows) where
       (Decides-and _ _ (itself _) (Decides-and _ _ (in_turn_decides t _) (Decides-and _ _ (as_assigned_decides t _) (over_decides t.ended _ (active_decides _)))))
 
   -- ---- a report
-  numbered_decides : (x : Report) (v : Option Vehicle) → Decides (is_numbered x v) (ReportAgrees v x.number (Some x))
+  pub numbered_decides : (x : Report) (v : Option Vehicle) → Decides (is_numbered x v) (ReportAgrees v x.number (Some x))
   numbered_decides x None = (λ h. false≢true h, λ h. absurd h)
   numbered_decides x (Some v) = Decides-and _ _ (at_most _ _) (at_most _ _)
 

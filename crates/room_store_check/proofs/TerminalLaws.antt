@@ -33,7 +33,7 @@ module _ (plan : List Area) (s : DivisionRows) (ts : List Terminal) (crews : BTr
     crewed : (c : Callsign) → IfSome (vehicle_at c s) (λ v. contains callsign_cmp crews c ≡ true)
     subjects : (k : Token) → IfSome (terminal_at k ts) (λ t. has_subject plan s t.who ≡ true)
 
-  apart_decides : Decides (btree_set_len crews == length (crews_of ts)) (AreApart ts)
+  pub apart_decides : Decides (btree_set_len crews == length (crews_of ts)) (AreApart ts)
   apart_decides =
       let laws = eq_by_cmp_equiv callsigns_total in
       let count = btree_set_len-from_list callsigns_total (crews_of ts) crews of_terminals in

@@ -1,7 +1,7 @@
 -- Whether a row agrees with the rows that it names, as tests.
 use Rattle.std.specs.List.{list_all, list_any}
 use Rattle.std.specs.Ordering.{nat_cmp, ordering_then}
-use Rattle.std.specs.Prelude.{Bool, List, None, Option, Some, false, is_some, nat_le, not, true, ℕ, ◌&&◌, ◌==◌, ◌||◌}
+use Rattle.std.specs.Prelude.{Bool, List, None, Option, Some, false, is_none, is_some, nat_le, not, true, ℕ, ◌&&◌, ◌==◌, ◌||◌}
 use Rattle.std.specs.declared.cmp.Ordering.{Ordering}
 use Rattle.room_place.specs.Plans.{has_division, is_division}
 use Rattle.room_place.specs.declared.plans.Area.{Area}
@@ -54,9 +54,14 @@ abbrev pub assignment_fits : Vehicle → Option Assignment → Bool
 assignment_fits v None = not (is_busy v.status)
 assignment_fits v (Some a) = is_busy v.status && (a.division == v.holder && a.order == v.last_order)
 
--- a busy vehicle has the turn of its last order
-abbrev pub has_last_turn : DivisionRows → Vehicle → Bool
-has_last_turn s v = not (is_busy v.status) || (nat_le 1 v.last_order && is_some (turn_at v.callsign v.last_order s))
+-- the turn is there, and has not ended
+abbrev pub is_open : Option Turn → Bool
+is_open None = false
+is_open (Some t) = is_none t.ended
+
+-- a busy vehicle has the turn of its last order, which is open
+abbrev pub has_open_turn : DivisionRows → Vehicle → Bool
+has_open_turn s v = not (is_busy v.status) || (nat_le 1 v.last_order && is_open (turn_at v.callsign v.last_order s))
 
 -- the last report is there, where there is any
 abbrev pub has_last_report : DivisionRows → Vehicle → Bool
@@ -74,7 +79,7 @@ vehicle_fits plan s v =
     && (loan_fits v (loan_at v.callsign s)
     && (offer_fits plan v (offer_at v.callsign s)
     && (assignment_fits v (assignment_at v.callsign s)
-    && (has_last_turn s v
+    && (has_open_turn s v
     && (has_last_report s v
     && has_post s v v.post))))))
 

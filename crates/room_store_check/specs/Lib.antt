@@ -1,2 +1,6 @@
 pub mod Crews
+pub mod Faults
 pub mod Fits
+pub mod Misfits
+pub mod Summaries
+pub mod Wrong

@@ -1,22 +1,21 @@
 //! Whether the plan's divisions and no others have their rows, and whether points are theirs.
 ghost use Rattle.std.specs.Prelude.{◌≡◌};
-ghost use Rattle.std.specs.List.{list_all};
-ghost use Rattle.room_place.specs.Plans.{has_division};
-ghost use Rattle.room_store_check.specs.Fits.{divisions_fit, has_row};
+ghost use Rattle.room_store_check.specs.Fits.{has_row};
 
+use crate::disagreements::Disagreement;
+use crate::judging::{Judged, unless};
 use crate::rooms::RoomRows;
 use room_place::plans::{Area, DivisionNumber, Plan};
+use room_types::tables::{Division, Point};
 
-pub(crate) fn divisions_fit(plan: &Plan, rows: &RoomRows) -> bool
-    ensures { result ≡ divisions_fit plan.now.areas rows.now }
-{
-    have_rows(plan, rows) && rows_are_planned(plan, rows) && points_are_planned(plan, rows)
-}
+impl Judged for Area {
+    ghost use Rattle.room_store_check.specs.Faults.{area_disagreement};
 
-fn have_rows(plan: &Plan, rows: &RoomRows) -> bool
-    ensures { result ≡ list_all (has_row rows.now) plan.now.areas }
-{
-    plan.areas().iter().all(|area| has_row(rows, area))
+    ghost disagreement = { λ plan s a. area_disagreement s a };
+
+    fn disagreement(&self, _: &Plan, rows: &RoomRows) -> Option<Disagreement> {
+        unless(has_row(rows, self), Disagreement::NoDivision(self.division))
+    }
 }
 
 fn has_row(rows: &RoomRows, area: &Area) -> bool
@@ -28,20 +27,25 @@ fn has_row(rows: &RoomRows, area: &Area) -> bool
     }
 }
 
-fn rows_are_planned(plan: &Plan, rows: &RoomRows) -> bool
-    ensures { result ≡ list_all (λ d. has_division plan.now.areas d.number) rows.now.divisions }
-{
-    rows.divisions
-        .as_slice()
-        .iter()
-        .all(|row| plan.has(row.number))
+impl Judged for Division {
+    ghost use Rattle.room_store_check.specs.Faults.{division_disagreement};
+
+    ghost disagreement = { λ plan s d. division_disagreement plan d };
+
+    fn disagreement(&self, plan: &Plan, _: &RoomRows) -> Option<Disagreement> {
+        unless(plan.has(self.number), Disagreement::Division(self.number))
+    }
 }
 
-fn points_are_planned(plan: &Plan, rows: &RoomRows) -> bool
-    ensures { result ≡ list_all (λ p. has_division plan.now.areas p.division) rows.now.points }
-{
-    rows.points
-        .as_slice()
-        .iter()
-        .all(|point| plan.has(point.division))
+impl Judged for Point {
+    ghost use Rattle.room_store_check.specs.Faults.{point_disagreement};
+
+    ghost disagreement = { λ plan s p. point_disagreement plan p };
+
+    fn disagreement(&self, plan: &Plan, _: &RoomRows) -> Option<Disagreement> {
+        unless(
+            plan.has(self.division),
+            Disagreement::Point(self.division, self.number),
+        )
+    }
 }

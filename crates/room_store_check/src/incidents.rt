@@ -1,34 +1,40 @@
 //! Whether a call agrees with its incident, and an incident with its division.
 ghost use Rattle.std.specs.Prelude.{◌≡◌, option_copied};
-ghost use Rattle.std.specs.List.{list_all};
 ghost use Rattle.room_types.specs.Codes.{is_merged};
-ghost use Rattle.room_store_check.specs.Fits.{call_fits, incident_fits, is_given, is_of};
+ghost use Rattle.room_store_check.specs.Faults.{call_fault};
+ghost use Rattle.room_store_check.specs.Fits.{is_given};
 
+use crate::disagreements::{CallFault, Disagreement, IncidentFault};
+use crate::judging::{Judged, unless};
 use crate::rooms::RoomRows;
+use room_place::plans::Plan;
 use room_types::codes::State;
 use room_types::tables::{Call, Division, Incident};
 
-pub(crate) fn calls_fit(rows: &RoomRows) -> bool
-    ensures { result ≡ list_all (call_fits rows.now) rows.now.calls }
-{
-    rows.calls
-        .as_slice()
-        .iter()
-        .all(|call| call_fits(rows, call))
+impl Judged for Call {
+    ghost use Rattle.room_store_check.specs.Faults.{call_disagreement};
+
+    ghost disagreement = { λ plan s c. call_disagreement s c };
+
+    fn disagreement(&self, _: &Plan, rows: &RoomRows) -> Option<Disagreement> {
+        let incident = rows.incidents.get(&(self.division, self.incident));
+        match call_fault(self, incident) {
+            Some(fault) => Some(Disagreement::Call(self.position, self.serial, fault)),
+            None => None,
+        }
+    }
 }
 
-fn call_fits(rows: &RoomRows, call: &Call) -> bool
-    ensures { result ≡ call_fits rows.now call.now }
-{
-    is_of(call, rows.incidents.get(&(call.division, call.incident)))
-}
-
-fn is_of(call: &Call, incident: Option<&Incident>) -> bool
-    ensures { result ≡ is_of call.now (option_copied incident.entry) }
+fn call_fault(call: &Call, incident: Option<&Incident>) -> Option<CallFault>
+    ensures { result ≡ call_fault call.now (option_copied incident.entry) }
 {
     match incident {
-        Some(incident) => !is_merged(incident.state) && incident.opened <= call.at,
-        None => false,
+        Some(incident) => {
+            let merged = is_merged(incident.state);
+            let found = unless(!merged, CallFault::Merged);
+            found.or(unless(incident.opened <= call.at, CallFault::Early))
+        }
+        None => Some(CallFault::NoIncident),
     }
 }
 
@@ -38,19 +44,18 @@ pub(crate) fn is_merged(state: State) -> bool
     matches!(state, State::Merged(_))
 }
 
-pub(crate) fn incidents_fit(rows: &RoomRows) -> bool
-    ensures { result ≡ list_all (incident_fits rows.now) rows.now.incidents }
-{
-    rows.incidents
-        .as_slice()
-        .iter()
-        .all(|incident| incident_fits(rows, incident))
-}
+impl Judged for Incident {
+    ghost use Rattle.room_store_check.specs.Faults.{incident_disagreement};
 
-fn incident_fits(rows: &RoomRows, incident: &Incident) -> bool
-    ensures { result ≡ incident_fits rows.now incident.now }
-{
-    is_given(incident, rows.divisions.get(&incident.division))
+    ghost disagreement = { λ plan s i. incident_disagreement s i };
+
+    fn disagreement(&self, _: &Plan, rows: &RoomRows) -> Option<Disagreement> {
+        let given = is_given(self, rows.divisions.get(&self.division));
+        unless(
+            given,
+            Disagreement::Incident(self.division, self.number, IncidentFault::Number),
+        )
+    }
 }
 
 fn is_given(incident: &Incident, division: Option<&Division>) -> bool

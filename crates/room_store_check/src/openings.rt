@@ -1,11 +1,12 @@
-//! Whether each incident that is not merged has a call of the moment at which it was opened.
+//! The first incident that is not merged and has no call of the moment at which it was opened.
 ghost use Rattle.std.specs.Prelude.{◌≡◌, ◌||◌, IfErr, IfOk, map};
 ghost use Rattle.std.specs.BTreeSet.{IsFromIterResult, contains};
-ghost use Rattle.std.specs.List.{list_all};
 ghost use Rattle.room_types.specs.Codes.{is_merged};
 ghost use Rattle.room_types.specs.declared.refusals.Refusal.TheVariants.{Memory};
-ghost use Rattle.room_store_check.specs.Fits.{is_opened, told_cmp, told_of};
+ghost use Rattle.room_store_check.specs.Fits.{told_cmp, told_of};
+ghost use Rattle.room_store_check.specs.Faults.{first_of, opening_fault, told_fault};
 
+use crate::disagreements::{Disagreement, IncidentFault};
 use crate::incidents::is_merged;
 use crate::rooms::RoomRows;
 use room_place::plans::DivisionNumber;
@@ -19,25 +20,29 @@ use std::collections::BTreeSet;
 // The incident that a call is of, and the call's moment.
 type Told = (DivisionNumber, Number, Moment);
 
-// Whether each incident that is not merged was opened by a call. The one refusal is `Memory`.
-pub(crate) fn are_opened(alloc: Global, rows: &RoomRows) -> Result<bool, Refusal>
-    ensures opened { IfOk result (λ opened.
-        opened ≡ list_all (is_opened rows.now) rows.now.incidents) }
+// The first incident that no call opened. The one refusal is `Memory`.
+pub(crate) fn unopened(alloc: Global, rows: &RoomRows) -> Result<Option<Disagreement>, Refusal>
+    ensures first { IfOk result (λ found.
+        found ≡ first_of (opening_fault rows.now) rows.now.incidents) }
     ensures memory { IfErr result (λ refusal. refusal ≡ Memory) }
 {
     let told = told_by(alloc, &rows.calls)?;
-    Ok(all_opened(&told, &rows.incidents))
+    Ok(first_untold(&told, rows.incidents.as_slice()))
 }
 
-fn all_opened(told: &BTreeSet<Told>, incidents: &Rows<Incident>) -> bool
-    ensures { result ≡ list_all (λ i.
-        is_merged i.state || contains told_cmp told.now
-        (i.division, i.number, i.opened)) incidents.now }
+fn first_untold(told: &BTreeSet<Told>, incidents: &[Incident]) -> Option<Disagreement>
+    ensures { result ≡ first_of (told_fault told.now) incidents.now }
 {
-    incidents
-        .as_slice()
-        .iter()
-        .all(|incident| is_opened(told, incident))
+    for incident in incidents {
+        if !is_opened(told, incident) {
+            return Some(Disagreement::Incident(
+                incident.division,
+                incident.number,
+                IncidentFault::NoCall,
+            ));
+        }
+    }
+    None
 }
 
 fn is_opened(told: &BTreeSet<Told>, incident: &Incident) -> bool

@@ -1,16 +1,15 @@
-//! Whether the rows of all tables make a well-formed room.
+//! Whether the rows of all tables make a well-formed room, and else the first thing that is wrong.
 ghost use Rattle.std.specs.Prelude.{◌≡◌, ◌↔◌, IfErr, IfOk, IsTrue};
 ghost use Rattle.room_types.specs.declared.refusals.Refusal.TheVariants.{Memory};
 ghost use Rattle.room_model.specs.Room.{IsInOrder};
 ghost use Rattle.room_model.specs.Slices.{room_of};
 ghost use Rattle.room_model.specs.WellFormed.{IsWellFormed};
-ghost use Rattle.room_store_check.specs.Fits.{rows_fit};
+ghost use Rattle.room_store_check.specs.Faults.{first_disagreement, rows_disagreement};
+ghost use Rattle.room_store_check.specs.Wrong.{Tells};
 
-use crate::divisions::divisions_fit;
-use crate::incidents::{calls_fit, incidents_fit};
-use crate::openings::are_opened;
-use crate::turns::{reports_fit, turns_fit};
-use crate::vehicles::fleet_fits;
+use crate::disagreements::Disagreement;
+use crate::judging::first_of;
+use crate::openings::unopened;
 use room_place::plans::Plan;
 use room_types::refusals::Refusal;
 use room_types::slices::DivisionRows;
@@ -20,18 +19,31 @@ use std::alloc::Global;
 pub type RoomRows = DivisionRows;
 
 /// Whether these rows make a well-formed room in a plan: whether they agree, at every key, in all
-/// that each room of the machine agrees in. Each row looks up the rows that it names, and what
-/// calls tell is put in order once. The one refusal is `Memory`.
+/// that each room of the machine agrees in. The one refusal is `Memory`.
 pub fn is_well_formed(alloc: Global, plan: &Plan, rows: &RoomRows) -> Result<bool, Refusal>
     ensures test { IfOk result (λ fits. IsTrue fits
         ↔ IsWellFormed (room_of plan.now.areas rows.now)) }
     ensures memory { IfErr result (λ refusal. refusal ≡ Memory) }
 {
+    Ok(disagreement(alloc, plan, rows)?.is_none())
+}
+
+/// What is wrong first with the room that these rows make in a plan; nothing exactly where it is
+/// well-formed. Tables are looked at one after another, each in key order, and incidents once more
+/// for their openings. Each row looks up the rows that it names, and what calls tell is put in
+/// order once. The one refusal is `Memory`.
+pub fn disagreement(
+    alloc: Global,
+    plan: &Plan,
+    rows: &RoomRows,
+) -> Result<Option<Disagreement>, Refusal>
+    ensures told { IfOk result (Tells (room_of plan.now.areas rows.now)) }
+    ensures first { IfOk result (λ found. found ≡ first_disagreement plan.now.areas rows.now) }
+    ensures memory { IfErr result (λ refusal. refusal ≡ Memory) }
+{
     are_in_order(plan, rows);
-    if !rows_fit(plan, rows) {
-        return Ok(false);
-    }
-    are_opened(alloc, rows)
+    let unopened = unopened(alloc, rows)?;
+    Ok(rows_disagreement(plan, rows).or(unopened))
 }
 
 // Rows are always in key order: this tells it of all tables.
@@ -50,14 +62,19 @@ fn are_in_order(plan: &Plan, rows: &RoomRows)
     rows.reports.as_slice();
 }
 
-// Whether each row agrees with the rows that it names.
-fn rows_fit(plan: &Plan, rows: &RoomRows) -> bool
-    ensures { result ≡ rows_fit plan.now.areas rows.now }
+// The first row that disagrees with the rows that it names.
+fn rows_disagreement(plan: &Plan, rows: &RoomRows) -> Option<Disagreement>
+    ensures { result ≡ rows_disagreement plan.now.areas rows.now }
 {
-    divisions_fit(plan, rows)
-        && fleet_fits(plan, rows)
-        && turns_fit(plan, rows)
-        && reports_fit(plan, rows)
-        && calls_fit(rows)
-        && incidents_fit(rows)
+    first_of(plan, rows, plan.areas())
+        .or(first_of(plan, rows, rows.divisions.as_slice()))
+        .or(first_of(plan, rows, rows.points.as_slice()))
+        .or(first_of(plan, rows, rows.vehicles.as_slice()))
+        .or(first_of(plan, rows, rows.loans.as_slice()))
+        .or(first_of(plan, rows, rows.offers.as_slice()))
+        .or(first_of(plan, rows, rows.assignments.as_slice()))
+        .or(first_of(plan, rows, rows.turns.as_slice()))
+        .or(first_of(plan, rows, rows.reports.as_slice()))
+        .or(first_of(plan, rows, rows.calls.as_slice()))
+        .or(first_of(plan, rows, rows.incidents.as_slice()))
 }

@@ -1,15 +1,19 @@
 //! Whether terminals fit a room: each vehicle has one crew's terminal, and no terminal is
-//! another's.
+//! another's; and else what is wrong with them first.
 ghost use Rattle.std.specs.Prelude.{◌≡◌, ◌↔◌, IfErr, IfOk, IsTrue, length};
-ghost use Rattle.std.specs.BTreeSet.{IsFromIterResult, contains};
-ghost use Rattle.std.specs.List.{list_all};
+ghost use Rattle.std.specs.BTreeSet.{IsFromIterResult};
+ghost use Rattle.std.specs.List.{list_any};
 ghost use Rattle.room_types.specs.Keyed.{IsKeyed};
 ghost use Rattle.room_types.specs.Keys.{callsign_cmp};
 ghost use Rattle.room_types.specs.declared.refusals.Refusal.TheVariants.{Memory};
-ghost use Rattle.room_model.specs.Enrol.{AreTerminals, terminal_key, token_cmp};
+ghost use Rattle.room_model.specs.Enrol.{AreTerminals, is_crew, terminal_key, token_cmp};
 ghost use Rattle.room_model.specs.Slices.{room_of};
-ghost use Rattle.room_store_check.specs.Crews.{crew_of, crews_fit, crews_of, has_subject};
+ghost use Rattle.room_store_check.specs.Crews.{crew_again, crew_of, crews_of, second_crew, subject_fault, terminals_fault, two_crews, uncrewed};
+ghost use Rattle.room_store_check.specs.Faults.{first_of};
+ghost use Rattle.room_store_check.specs.Misfits.{TellsOf};
 
+use crate::disagreements::TerminalFault;
+use crate::judging::unless;
 use crate::rooms::RoomRows;
 use crate::vehicles::has_vehicle;
 use room_place::plans::Plan;
@@ -17,7 +21,6 @@ use room_types::asks::Who;
 use room_types::callsign::Callsign;
 use room_types::fleet::Terminal;
 use room_types::refusals::Refusal;
-use room_types::rows::Rows;
 use room_types::tables::Vehicle;
 use std::alloc::{AllocError, Global};
 use std::collections::BTreeSet;
@@ -35,12 +38,26 @@ pub fn do_terminals_fit(
         ↔ AreTerminals (room_of plan.now.areas rows.now) terminals.now) }
     ensures memory { IfErr result (λ refusal. refusal ≡ Memory) }
 {
+    Ok(terminals_fault(alloc, plan, rows, terminals)?.is_none())
+}
+
+/// What is wrong first with these terminals in the room of this plan and these rows; nothing
+/// exactly where they fit it. The one refusal is `Memory`.
+pub fn terminals_fault(
+    alloc: Global,
+    plan: &Plan,
+    rows: &RoomRows,
+    terminals: &[Terminal],
+) -> Result<Option<TerminalFault>, Refusal>
+    ensures told { IfOk result (TellsOf (room_of plan.now.areas rows.now) terminals.now) }
+    ensures memory { IfErr result (λ refusal. refusal ≡ Memory) }
+{
     let _in_order = rows.vehicles.as_slice();
     if !are_keyed(terminals) {
-        return Ok(false);
+        return Ok(Some(TerminalFault::Token));
     }
     let crews = crews(alloc, terminals)?;
-    Ok(crews_fit(plan, rows, terminals, &crews))
+    Ok(fault_by(plan, rows, terminals, &crews))
 }
 
 // Whether tokens rise, so that each names one terminal.
@@ -69,18 +86,29 @@ fn crew_of(who: Who) -> Option<Callsign>
     }
 }
 
-// Two crews of one vehicle are two terminals, and one vehicle.
-fn crews_fit(
+// What is wrong first by the vehicles that have a crew's terminal.
+fn fault_by(
     plan: &Plan,
     rows: &RoomRows,
     terminals: &[Terminal],
     crews: &BTreeSet<Callsign>,
-) -> bool
-    ensures { result ≡ crews_fit plan.now.areas rows.now terminals.now crews.now }
+) -> Option<TerminalFault>
+    ensures { result ≡ terminals_fault plan.now.areas rows.now terminals.now crews.now }
 {
-    crews.len() == count_crews(terminals)
-        && have_crews(&rows.vehicles, crews)
-        && have_subjects(plan, rows, terminals)
+    two_crews(terminals, crews)
+        .or(uncrewed(crews, rows.vehicles.as_slice()))
+        .or(subject_fault(plan, rows, terminals))
+}
+
+// Two crews of one vehicle are two terminals, and one vehicle. Only where there are fewer vehicles
+// is it asked which.
+fn two_crews(terminals: &[Terminal], crews: &BTreeSet<Callsign>) -> Option<TerminalFault>
+    ensures { result ≡ two_crews terminals.now crews.now }
+{
+    if crews.len() == count_crews(terminals) {
+        return None;
+    }
+    second_crew(terminals)
 }
 
 fn count_crews(terminals: &[Terminal]) -> usize
@@ -92,29 +120,93 @@ fn count_crews(terminals: &[Terminal]) -> usize
         .count()
 }
 
-fn have_crews(vehicles: &Rows<Vehicle>, crews: &BTreeSet<Callsign>) -> bool
-    ensures { result ≡ list_all (λ v. contains callsign_cmp crews.now v.callsign) vehicles.now }
+// The first vehicle with a crew's terminal that has another later.
+fn second_crew(terminals: &[Terminal]) -> Option<TerminalFault>
+    ensures { result ≡ second_crew terminals.now }
 {
-    vehicles
-        .as_slice()
-        .iter()
-        .all(|vehicle| crews.contains(&vehicle.callsign))
+    let mut left = terminals;
+    while let Some((first, others)) = left.split_first() {
+        let found = crew_again(first.who, others);
+        if found.is_some() {
+            return found;
+        }
+        left = others;
+    }
+    None
 }
 
-fn have_subjects(plan: &Plan, rows: &RoomRows, terminals: &[Terminal]) -> bool
-    ensures { result ≡ list_all (λ t. has_subject plan.now.areas rows.now t.who) terminals.now }
+fn crew_again(who: Who, others: &[Terminal]) -> Option<TerminalFault>
+    ensures { result ≡ crew_again who others.now }
+{
+    match who {
+        Who::Crew(callsign) => {
+            unless(
+                !has_crew(callsign, others),
+                TerminalFault::TwoCrews(callsign),
+            )
+        }
+        Who::Desk(_) | Who::Position(_) => None,
+    }
+}
+
+fn has_crew(callsign: Callsign, terminals: &[Terminal]) -> bool
+    ensures { result ≡ list_any (λ t. is_crew callsign t.who) terminals.now }
 {
     terminals
         .iter()
-        .all(|terminal| has_subject(plan, rows, &terminal.who))
+        .any(|terminal| is_crew(callsign, terminal.who))
 }
 
-fn has_subject(plan: &Plan, rows: &RoomRows, who: &Who) -> bool
-    ensures { result ≡ has_subject plan.now.areas rows.now who.now }
+fn is_crew(callsign: Callsign, who: Who) -> bool
+    ensures { result ≡ is_crew callsign who }
 {
     match who {
-        Who::Crew(callsign) => has_vehicle(rows, callsign),
-        Who::Desk(division) => plan.has(*division),
-        Who::Position(_) => true,
+        Who::Crew(crew) => crew.cmp(&callsign).is_eq(),
+        Who::Desk(_) | Who::Position(_) => false,
+    }
+}
+
+// The first vehicle without a crew's terminal.
+fn uncrewed(crews: &BTreeSet<Callsign>, vehicles: &[Vehicle]) -> Option<TerminalFault>
+    ensures { result ≡ first_of (uncrewed crews.now) vehicles.now }
+{
+    for vehicle in vehicles {
+        let found = crew_fault(crews, vehicle);
+        if found.is_some() {
+            return found;
+        }
+    }
+    None
+}
+
+fn crew_fault(crews: &BTreeSet<Callsign>, vehicle: &Vehicle) -> Option<TerminalFault>
+    ensures { result ≡ uncrewed crews.now vehicle.now }
+{
+    let callsign = vehicle.callsign;
+    unless(crews.contains(&callsign), TerminalFault::NoCrew(callsign))
+}
+
+// The first terminal whose vehicle or division is not there.
+fn subject_fault(plan: &Plan, rows: &RoomRows, terminals: &[Terminal]) -> Option<TerminalFault>
+    ensures { result ≡ first_of (λ t. subject_fault plan.now.areas rows.now t.who) terminals.now }
+{
+    for terminal in terminals {
+        let found = fault_of(plan, rows, terminal.who);
+        if found.is_some() {
+            return found;
+        }
+    }
+    None
+}
+
+fn fault_of(plan: &Plan, rows: &RoomRows, who: Who) -> Option<TerminalFault>
+    ensures { result ≡ subject_fault plan.now.areas rows.now who }
+{
+    match who {
+        Who::Crew(callsign) => {
+            unless(has_vehicle(rows, &callsign), TerminalFault::Crew(callsign))
+        }
+        Who::Desk(division) => unless(plan.has(division), TerminalFault::Desk(division)),
+        Who::Position(_) => None,
     }
 }

@@ -1,50 +1,61 @@
 //! Whether a turn and a report agree with their vehicle, and a turn with the vehicle's assignment
 //! and its incident.
 ghost use Rattle.std.specs.Prelude.{◌≡◌, option_copied};
-ghost use Rattle.std.specs.List.{list_all};
-ghost use Rattle.room_store_check.specs.Fits.{is_as_assigned, is_in_turn, is_numbered, is_over, open_fits, report_fits, turn_fits};
+ghost use Rattle.room_store_check.specs.Faults.{open_fault, order_fault, report_fault, turn_fault};
+ghost use Rattle.room_store_check.specs.Fits.{is_as_assigned, is_numbered, is_over};
 
+use crate::disagreements::{Disagreement, ReportFault, TurnFault};
+use crate::judging::{Judged, unless};
 use crate::rooms::RoomRows;
 use room_place::plans::Plan;
 use room_types::tables::{Assignment, Report, Turn, Vehicle};
 
-pub(crate) fn turns_fit(plan: &Plan, rows: &RoomRows) -> bool
-    ensures { result ≡ list_all (turn_fits plan.now.areas rows.now) rows.now.turns }
-{
-    rows.turns
-        .as_slice()
-        .iter()
-        .all(|turn| turn_fits(plan, rows, turn))
-}
+impl Judged for Turn {
+    ghost use Rattle.room_store_check.specs.Faults.{turn_disagreement};
 
-fn turn_fits(plan: &Plan, rows: &RoomRows, turn: &Turn) -> bool
-    ensures { result ≡ turn_fits plan.now.areas rows.now turn.now }
-{
-    plan.has(turn.division)
-        && is_in_turn(turn, rows.vehicles.get(&turn.callsign))
-        && is_as_assigned(turn, rows.assignments.get(&turn.callsign))
-        && is_over(rows, turn)
-}
+    ghost disagreement = { turn_disagreement };
 
-fn is_in_turn(turn: &Turn, vehicle: Option<&Vehicle>) -> bool
-    ensures { result ≡ is_in_turn turn.now (option_copied vehicle.entry) }
-{
-    match vehicle {
-        Some(vehicle) => {
-            turn.order.get() <= vehicle.last_order.get() && open_fits(vehicle, turn)
+    fn disagreement(&self, plan: &Plan, rows: &RoomRows) -> Option<Disagreement> {
+        match turn_fault(plan, rows, self) {
+            Some(fault) => Some(Disagreement::Turn(self.callsign, self.order, fault)),
+            None => None,
         }
-        None => false,
     }
 }
 
-fn open_fits(vehicle: &Vehicle, turn: &Turn) -> bool
-    ensures { result ≡ open_fits vehicle.now turn.now turn.now.ended }
+fn turn_fault(plan: &Plan, rows: &RoomRows, turn: &Turn) -> Option<TurnFault>
+    ensures { result ≡ turn_fault plan.now.areas rows.now turn.now }
+{
+    let assignment = rows.assignments.get(&turn.callsign);
+    unless(plan.has(turn.division), TurnFault::Division)
+        .or(order_fault(turn, rows.vehicles.get(&turn.callsign)))
+        .or(unless(is_as_assigned(turn, assignment), TurnFault::Incident))
+        .or(unless(is_over(rows, turn), TurnFault::NotActive))
+}
+
+fn order_fault(turn: &Turn, vehicle: Option<&Vehicle>) -> Option<TurnFault>
+    ensures { result ≡ order_fault turn.now (option_copied vehicle.entry) }
+{
+    match vehicle {
+        Some(vehicle) => {
+            let given = turn.order.get() <= vehicle.last_order.get();
+            unless(given, TurnFault::Order).or(open_fault(vehicle, turn))
+        }
+        None => Some(TurnFault::Order),
+    }
+}
+
+fn open_fault(vehicle: &Vehicle, turn: &Turn) -> Option<TurnFault>
+    ensures { result ≡ open_fault vehicle.now turn.now turn.now.ended }
 {
     let is_last = turn.order.get() == vehicle.last_order.get();
     let busy = vehicle.status.is_busy();
     match turn.ended {
-        None => is_last && turn.division == vehicle.holder && busy,
-        Some(_) => !is_last || !busy,
+        None => unless(
+            is_last && turn.division == vehicle.holder && busy,
+            TurnFault::Open,
+        ),
+        Some(_) => unless(!is_last || !busy, TurnFault::Ended),
     }
 }
 
@@ -69,19 +80,27 @@ fn is_over(rows: &RoomRows, turn: &Turn) -> bool
     incident.is_some_and(|incident| incident.state.is_active())
 }
 
-pub(crate) fn reports_fit(plan: &Plan, rows: &RoomRows) -> bool
-    ensures { result ≡ list_all (report_fits plan.now.areas rows.now) rows.now.reports }
-{
-    rows.reports
-        .as_slice()
-        .iter()
-        .all(|report| report_fits(plan, rows, report))
+impl Judged for Report {
+    ghost use Rattle.room_store_check.specs.Faults.{report_disagreement};
+
+    ghost disagreement = { report_disagreement };
+
+    fn disagreement(&self, plan: &Plan, rows: &RoomRows) -> Option<Disagreement> {
+        match report_fault(plan, rows, self) {
+            Some(fault) => Some(Disagreement::Report(self.callsign, self.number, fault)),
+            None => None,
+        }
+    }
 }
 
-fn report_fits(plan: &Plan, rows: &RoomRows, report: &Report) -> bool
-    ensures { result ≡ report_fits plan.now.areas rows.now report.now }
+fn report_fault(plan: &Plan, rows: &RoomRows, report: &Report) -> Option<ReportFault>
+    ensures { result ≡ report_fault plan.now.areas rows.now report.now }
 {
-    plan.has(report.division) && is_numbered(report, rows.vehicles.get(&report.callsign))
+    let numbered = is_numbered(report, rows.vehicles.get(&report.callsign));
+    unless(plan.has(report.division), ReportFault::Division).or(unless(
+        numbered,
+        ReportFault::Number,
+    ))
 }
 
 fn is_numbered(report: &Report, vehicle: Option<&Vehicle>) -> bool

@@ -1,44 +1,56 @@
 //! Whether a vehicle agrees with the rows beside it: its loan, its offer, its assignment, the turn
-//! of its last order, its last report and its post.
+//! of its last order, its last report and its post; and whether these are of a vehicle.
 ghost use Rattle.std.specs.Prelude.{◌≡◌, option_copied};
-ghost use Rattle.std.specs.List.{list_all};
 ghost use Rattle.room_types.specs.Codes.{is_offered};
-ghost use Rattle.room_store_check.specs.Fits.{assignment_fits, fleet_fits, has_last_report, has_last_turn, has_post, has_vehicle, loan_fits, offer_fits, vehicle_fits};
+ghost use Rattle.room_store_check.specs.Faults.{assignment_fault, loan_fault, offer_fault, vehicle_fault};
+ghost use Rattle.room_store_check.specs.Fits.{has_last_report, has_open_turn, has_post, has_vehicle, is_open};
 
+use crate::disagreements::{Disagreement, VehicleFault};
+use crate::judging::{Judged, unless};
 use crate::rooms::RoomRows;
 use room_place::plans::Plan;
 use room_types::callsign::Callsign;
 use room_types::codes::Status;
 use room_types::numbers::Number;
-use room_types::rows::{Row, Rows};
-use room_types::tables::{Assignment, Loan, Offer, Vehicle};
+use room_types::tables::{Assignment, Loan, Offer, Turn, Vehicle};
 
-pub(crate) fn fleet_fits(plan: &Plan, rows: &RoomRows) -> bool
-    ensures { result ≡ fleet_fits plan.now.areas rows.now }
-{
-    vehicles_fit(plan, rows)
-        && have_vehicles(rows, &rows.loans)
-        && have_vehicles(rows, &rows.offers)
-        && have_vehicles(rows, &rows.assignments)
+impl Judged for Loan {
+    ghost use Rattle.room_store_check.specs.Faults.{loan_disagreement};
+
+    ghost disagreement = { λ plan s x. loan_disagreement s x };
+
+    fn disagreement(&self, _: &Plan, rows: &RoomRows) -> Option<Disagreement> {
+        unless(
+            has_vehicle(rows, &self.callsign),
+            Disagreement::Loan(self.callsign),
+        )
+    }
 }
 
-fn vehicles_fit(plan: &Plan, rows: &RoomRows) -> bool
-    ensures { result ≡ list_all (vehicle_fits plan.now.areas rows.now) rows.now.vehicles }
-{
-    rows.vehicles
-        .as_slice()
-        .iter()
-        .all(|vehicle| vehicle_fits(plan, rows, vehicle))
+impl Judged for Offer {
+    ghost use Rattle.room_store_check.specs.Faults.{offer_disagreement};
+
+    ghost disagreement = { λ plan s x. offer_disagreement s x };
+
+    fn disagreement(&self, _: &Plan, rows: &RoomRows) -> Option<Disagreement> {
+        unless(
+            has_vehicle(rows, &self.callsign),
+            Disagreement::Offer(self.callsign),
+        )
+    }
 }
 
-// Whether each row of the table is a vehicle's that is there.
-fn have_vehicles<R: Row<Key = Callsign>>(rows: &RoomRows, table: &Rows<R>) -> bool
-    ensures { result ≡ list_all (λ row. has_vehicle rows.now (R.key_of row)) table.now }
-{
-    table
-        .as_slice()
-        .iter()
-        .all(|row| has_vehicle(rows, &row.key()))
+impl Judged for Assignment {
+    ghost use Rattle.room_store_check.specs.Faults.{assignment_disagreement};
+
+    ghost disagreement = { λ plan s x. assignment_disagreement s x };
+
+    fn disagreement(&self, _: &Plan, rows: &RoomRows) -> Option<Disagreement> {
+        unless(
+            has_vehicle(rows, &self.callsign),
+            Disagreement::Assignment(self.callsign),
+        )
+    }
 }
 
 pub(crate) fn has_vehicle(rows: &RoomRows, callsign: &Callsign) -> bool
@@ -47,43 +59,60 @@ pub(crate) fn has_vehicle(rows: &RoomRows, callsign: &Callsign) -> bool
     rows.vehicles.get(callsign).is_some()
 }
 
-fn vehicle_fits(plan: &Plan, rows: &RoomRows, vehicle: &Vehicle) -> bool
-    ensures { result ≡ vehicle_fits plan.now.areas rows.now vehicle.now }
-{
-    let callsign = &vehicle.callsign;
-    plan.has(vehicle.home)
-        && plan.has(vehicle.holder)
-        && loan_fits(vehicle, rows.loans.get(callsign))
-        && offer_fits(plan, vehicle, rows.offers.get(callsign))
-        && assignment_fits(vehicle, rows.assignments.get(callsign))
-        && has_last_turn(rows, vehicle)
-        && has_last_report(rows, vehicle)
-        && has_post(rows, vehicle)
-}
+impl Judged for Vehicle {
+    ghost use Rattle.room_store_check.specs.Faults.{vehicle_disagreement};
 
-fn loan_fits(vehicle: &Vehicle, loan: Option<&Loan>) -> bool
-    ensures { result ≡ loan_fits vehicle.now (option_copied loan.entry) }
-{
-    let at_home = vehicle.holder == vehicle.home;
-    match loan {
-        None => at_home,
-        Some(loan) => { loan.lender == vehicle.home && loan.borrower == vehicle.holder && !at_home }
+    ghost disagreement = { vehicle_disagreement };
+
+    fn disagreement(&self, plan: &Plan, rows: &RoomRows) -> Option<Disagreement> {
+        match vehicle_fault(plan, rows, self) {
+            Some(fault) => Some(Disagreement::Vehicle(self.callsign, self.status, fault)),
+            None => None,
+        }
     }
 }
 
-fn offer_fits(plan: &Plan, vehicle: &Vehicle, offer: Option<&Offer>) -> bool
-    ensures { result ≡ offer_fits plan.now.areas vehicle.now (option_copied offer.entry) }
+fn vehicle_fault(plan: &Plan, rows: &RoomRows, vehicle: &Vehicle) -> Option<VehicleFault>
+    ensures { result ≡ vehicle_fault plan.now.areas rows.now vehicle.now }
+{
+    let callsign = &vehicle.callsign;
+    unless(plan.has(vehicle.home), VehicleFault::Home)
+        .or(unless(plan.has(vehicle.holder), VehicleFault::Holder))
+        .or(loan_fault(vehicle, rows.loans.get(callsign)))
+        .or(offer_fault(plan, vehicle, rows.offers.get(callsign)))
+        .or(assignment_fault(vehicle, rows.assignments.get(callsign)))
+        .or(unless(has_open_turn(rows, vehicle), VehicleFault::NoTurn))
+        .or(unless(has_last_report(rows, vehicle), VehicleFault::NoReport))
+        .or(unless(has_post(rows, vehicle), VehicleFault::Post))
+}
+
+fn loan_fault(vehicle: &Vehicle, loan: Option<&Loan>) -> Option<VehicleFault>
+    ensures { result ≡ loan_fault vehicle.now (option_copied loan.entry) }
+{
+    let at_home = vehicle.holder == vehicle.home;
+    match loan {
+        None => unless(at_home, VehicleFault::NoLoan),
+        Some(loan) => unless(
+            loan.lender == vehicle.home && loan.borrower == vehicle.holder && !at_home,
+            VehicleFault::Loan,
+        ),
+    }
+}
+
+fn offer_fault(plan: &Plan, vehicle: &Vehicle, offer: Option<&Offer>) -> Option<VehicleFault>
+    ensures { result ≡ offer_fault plan.now.areas vehicle.now (option_copied offer.entry) }
 {
     let offered = is_offered(vehicle.status);
     match offer {
-        None => !offered,
-        Some(offer) => {
+        None => unless(!offered, VehicleFault::NoOffer),
+        Some(offer) => unless(
             offered
                 && offer.lender == vehicle.holder
                 && offer.lender == vehicle.home
                 && offer.borrower != offer.lender
-                && plan.has(offer.borrower)
-        }
+                && plan.has(offer.borrower),
+            VehicleFault::Offer,
+        ),
     }
 }
 
@@ -93,27 +122,37 @@ fn is_offered(status: Status) -> bool
     matches!(status, Status::Offered)
 }
 
-fn assignment_fits(vehicle: &Vehicle, assignment: Option<&Assignment>) -> bool
-    ensures { result ≡ assignment_fits vehicle.now (option_copied assignment.entry) }
+fn assignment_fault(vehicle: &Vehicle, assignment: Option<&Assignment>) -> Option<VehicleFault>
+    ensures { result ≡ assignment_fault vehicle.now (option_copied assignment.entry) }
 {
     let busy = vehicle.status.is_busy();
     match assignment {
-        None => !busy,
-        Some(assignment) => {
+        None => unless(!busy, VehicleFault::NoAssignment),
+        Some(assignment) => unless(
             busy && assignment.division == vehicle.holder
-                && assignment.order.get() == vehicle.last_order.get()
-        }
+                && assignment.order.get() == vehicle.last_order.get(),
+            VehicleFault::Assignment,
+        ),
     }
 }
 
-fn has_last_turn(rows: &RoomRows, vehicle: &Vehicle) -> bool
-    ensures { result ≡ has_last_turn rows.now vehicle.now }
+fn has_open_turn(rows: &RoomRows, vehicle: &Vehicle) -> bool
+    ensures { result ≡ has_open_turn rows.now vehicle.now }
 {
     if !vehicle.status.is_busy() {
         return true;
     }
     match Number::new(vehicle.last_order.get()) {
-        Some(order) => rows.turns.get(&(vehicle.callsign, order)).is_some(),
+        Some(order) => is_open(rows.turns.get(&(vehicle.callsign, order))),
+        None => false,
+    }
+}
+
+fn is_open(turn: Option<&Turn>) -> bool
+    ensures { result ≡ is_open (option_copied turn.entry) }
+{
+    match turn {
+        Some(turn) => turn.ended.is_none(),
         None => false,
     }
 }

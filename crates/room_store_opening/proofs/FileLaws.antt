@@ -1,14 +1,14 @@
--- A file whose indexes were made, or that was read, stands for the room that it stood for.
-use Rattle.std.proofs.Common.{IsTrue, List, [], ap, inl, inr, refl, subst, sym, ◌∙◌, ◌∷◌, ◌≡◌}
+-- A file whose tables were taken, or that was read, holds the room that it held.
+use Rattle.std.proofs.Common.{IsTrue, List, [], ap, arith, inl, inr, refl, subst, sym, ◌⊎◌, ◌∙◌, ◌∷◌, ◌≡◌}
 use Rattle.sqlite.specs.Effect.{Database}
-use Rattle.sqlite.specs.State.{IsUnchanged, State}
+use Rattle.sqlite.specs.State.{HasCleanDisk, IsUnchanged, State, Survives}
 use Rattle.sqlite_schema.specs.declared.schema.Schema.{Schema}
 use Rattle.sqlite_schema.specs.declared.schema.Table.{Table}
 use Rattle.sqlite_value.specs.Order.{Row}
 use Rattle.sqlite_catalog.specs.Change.{KeepsRows}
 use Rattle.sqlite_trees.specs.Tree.{Trees}
+use Rattle.sqlite.proofs.StateLemmas.{survives_then}
 use Rattle.room_tables_sql.proofs.Standing.{holds_still}
-use Rattle.room_tables_sql.specs.Outcomes.{Keeps}
 use Rattle.room_tables_sql.specs.Tables.{AreNumbered}
 use Rattle.room_place.specs.Plans.{Layout}
 use Rattle.room_types.specs.declared.fleet.Terminal.{Terminal}
@@ -20,11 +20,13 @@ use Rattle.room_tables_rows.proofs.OneRoom.{one_house, one_room}
 use Rattle.room_tables.specs.Stands.{House, Stands, StandsFor}
 use Rattle.room_store_writes.specs.Houses.{house_of}
 use Rattle.room_store_writes.specs.Writing.{Leaves}
-use Rattle.room_store_opening.specs.Opening.{AddsIndexes, HasTables, HoldsRoom, KeepsAllRows, MayBeIndexed, KeepsFile}
+use Rattle.room_store_opening.specs.Opening.{Becomes, HoldsRoom, KeepsAllRows, KeepsFile, MayBeIndexed, MayBeMoved, MayBecome, Moves, Opens, Takes, WritesNothing, schema_of}
+use Rattle.room_store_opening.specs.declared.taking.Tables.{Tables}
+use Rattle.room_store_opening.specs.declared.taking.Tables.TheVariants.{First, FirstUnindexed, Unindexed, Whole}
 
 module _ (old new : Trees) where
   -- tables that keep their rows stand for the same room
-  rows_kept : KeepsRows room_tables old new → (house : House) (room : Room) → Stands old house room → Stands new house room
+  pub rows_kept : KeepsRows room_tables old new → (house : House) (room : Room) → Stands old house room → Stands new house room
   rows_kept k house room h = record {
     meta = holds_still _ _ _ _ _ k.0 h.meta;
     areas = holds_still _ _ _ _ _ k.1.0 h.areas;
@@ -49,39 +51,22 @@ keeps_none (t ∷ ts) trees = (refl, keeps_none ts trees)
 pub all_rows : (before after : Database) → after ≡ before → KeepsAllRows before after
 all_rows before after same = subst (KeepsAllRows before) (sym same) (record { tables = refl; rows = keeps_none before.schema.tables before.trees })
 
--- indexes that were made leave all rows
-pub rows_indexed : (before after : Database) → before.schema ≡ tables_schema → after.schema ≡ room_schema → KeepsRows room_tables before.trees after.trees → KeepsAllRows before after
+rows_indexed : (before after : Database) → before.schema ≡ tables_schema → after.schema ≡ room_schema → KeepsRows room_tables before.trees after.trees → KeepsAllRows before after
 rows_indexed before after alone made rows =
     let tables = ap (λ (s : Schema). s.tables) alone in
     record { tables = ap (λ (s : Schema). s.tables) made ∙ sym tables; rows = subst (λ ts. KeepsRows ts before.trees after.trees) (sym tables) rows }
 
-pub may_be_indexed : (before : Database) (trees : Trees) → before.schema ≡ tables_schema → KeepsRows room_tables before.trees trees → MayBeIndexed before trees
-may_be_indexed before trees alone rows = record { alone = alone; rows = subst (λ ts. KeepsRows ts before.trees trees) (sym (ap (λ (s : Schema). s.tables) alone)) rows }
-
--- a room's tables that keep all rows stand for the room that they stood for
-pub still_stands : (before after : Database) → HasTables before.schema → KeepsAllRows before after → (house : House) (room : Room) → Stands before.trees house room → Stands after.trees house room
-still_stands before after has kept =
-    let tables : before.schema.tables ≡ room_tables = elim has [ inl is ↦ ap (λ (s : Schema). s.tables) is | inr is ↦ ap (λ (s : Schema). s.tables) is ] in
-    rows_kept before.trees after.trees (subst (λ ts. KeepsRows ts before.trees after.trees) tables kept.rows)
-
--- and so do those of a file in which a room's tables are found afterwards
+-- tables that keep all rows, and are a room's afterwards, stand for what they stood for
 pub stands_before : (before after : Database) → after.schema ≡ room_schema → KeepsAllRows before after → (house : House) (room : Room) → Stands before.trees house room → Stands after.trees house room
 stands_before before after is kept =
     rows_kept before.trees after.trees (subst (λ ts. KeepsRows ts before.trees after.trees) (sym kept.tables ∙ ap (λ (s : Schema). s.tables) is) kept.rows)
 
--- so it holds a room where it held one
-pub room_still : (before after : Database) → HasTables before.schema → KeepsAllRows before after → HoldsRoom before.trees → HoldsRoom after.trees
-room_still before after has kept h =
-    record { layout = h.layout; terminals = h.terminals; room = h.room; planned = h.planned; stands = still_stands before after has kept (house_of h.layout h.terminals) h.room h.stands; formed = h.formed; fits = h.fits }
+same_database : (a b : Database) → a.schema ≡ b.schema → a.trees ≡ b.trees → a ≡ b
+same_database a b schema trees i = record { schema = schema i; trees = trees i }
 
 module _ (old new : State) where
-  -- a call that keeps all, in tables that are as they were committed, leaves all
-  pub keeps_leaves : (IsTrue old.is_open → old.now ≡ old.committed) → Keeps old new → Leaves old new
-  keeps_leaves settled (inl same) = record { was_open = λ _. same.0.was_open; now_is = λ _. same.0.now_is; committed_is = λ _. same.0.committed_is }
-  keeps_leaves settled (inr back) = record { was_open = back.was_open; now_is = λ is_open. (back.undone is_open).0 ∙ sym (settled (back.was_open is_open)); committed_is = λ is_open. (back.undone is_open).1 }
-
   -- what leaves all opens the file
-  pub left_opens : Leaves old new → KeepsFile old new
+  left_opens : Leaves old new → KeepsFile old new
   left_opens left = record {
     was_open = left.was_open;
     rows = λ is_open. all_rows old.now new.now (left.now_is is_open);
@@ -89,33 +74,56 @@ module _ (old new : State) where
     untouched = λ _. left;
   }
 
-  -- so does what makes the indexes
-  pub indexes_open : old.now.schema ≡ tables_schema → (IsTrue old.is_open → old.now ≡ old.committed) → AddsIndexes old new → KeepsFile old new
-  indexes_open alone settled it = record {
-    was_open = λ _. it.was_open;
-    rows = λ _. it.rows;
-    committed_rows = λ _. subst (KeepsAllRows old.committed) (sym it.settled.committed) (subst (λ (db : Database). KeepsAllRows db new.now) (settled it.was_open) it.rows);
-    untouched = λ other. absurd (other alone);
-  }
+  -- a file that is taken with a room's tables is opened
+  pub takes_opens : (tables : Tables) → old.now.schema ≡ schema_of tables → (tables ≡ Whole) ⊎ (tables ≡ Unindexed) → (IsTrue old.is_open → old.now ≡ old.committed) → Takes tables old new → Opens old new
+  takes_opens Whole has is settled it =
+      let now : new.now ≡ old.now = same_database new.now old.now (it.schema ∙ sym has) it.becomes in
+      record { settled = it.settled; schema = it.schema; kept = left_opens (record { was_open = λ _. it.was_open; now_is = λ _. now; committed_is = λ _. it.settled.committed ∙ now ∙ settled it.was_open }) }
+  takes_opens Unindexed has is settled it =
+      let rows = rows_indexed old.now new.now has it.schema it.becomes in
+      record {
+        settled = it.settled;
+        schema = it.schema;
+        kept = record {
+          was_open = λ _. it.was_open;
+          rows = λ _. rows;
+          committed_rows = λ _. subst (KeepsAllRows old.committed) (sym it.settled.committed) (subst (λ (db : Database). KeepsAllRows db new.now) (settled it.was_open) rows);
+          untouched = λ other. absurd (other has);
+        };
+      }
+  takes_opens First has is settled it = absurd (elim is [ inl e ↦ (let x = e in cc) | inr e ↦ (let x = e in cc) ])
+  takes_opens FirstUnindexed has is settled it = absurd (elim is [ inl e ↦ (let x = e in cc) | inr e ↦ (let x = e in cc) ])
+
+  -- and one that is taken with the first version's is moved
+  pub takes_moves : (tables : Tables) → old.now.schema ≡ schema_of tables → (tables ≡ First) ⊎ (tables ≡ FirstUnindexed) → Takes tables old new → Moves old new
+  takes_moves Whole has is it = absurd (elim is [ inl e ↦ (let x = e in cc) | inr e ↦ (let x = e in cc) ])
+  takes_moves Unindexed has is it = absurd (elim is [ inl e ↦ (let x = e in cc) | inr e ↦ (let x = e in cc) ])
+  takes_moves First has is it = record { settled = it.settled; schema = it.schema; moved = record { first = inl has; moved = it.becomes } }
+  takes_moves FirstUnindexed has is it = record { settled = it.settled; schema = it.schema; moved = record { first = inr has; moved = it.becomes } }
+
+-- what a stop may leave of a file that is opened
+pub may_be_indexed : (tables : Tables) (before : Database) (trees : Trees) → before.schema ≡ schema_of tables → (tables ≡ Whole) ⊎ (tables ≡ Unindexed) → MayBecome tables before.trees trees → MayBeIndexed before trees
+may_be_indexed Whole before trees has is none = absurd none
+may_be_indexed Unindexed before trees has is rows = record { alone = has; rows = subst (λ ts. KeepsRows ts before.trees trees) (sym (ap (λ (s : Schema). s.tables) has)) rows }
+may_be_indexed First before trees has is b = absurd (elim is [ inl e ↦ (let x = e in cc) | inr e ↦ (let x = e in cc) ])
+may_be_indexed FirstUnindexed before trees has is b = absurd (elim is [ inl e ↦ (let x = e in cc) | inr e ↦ (let x = e in cc) ])
+
+-- and of one that is moved
+pub may_be_moved : (tables : Tables) (before : Database) (trees : Trees) → before.schema ≡ schema_of tables → (tables ≡ First) ⊎ (tables ≡ FirstUnindexed) → MayBecome tables before.trees trees → MayBeMoved before trees
+may_be_moved Whole before trees has is b = absurd (elim is [ inl e ↦ (let x = e in cc) | inr e ↦ (let x = e in cc) ])
+may_be_moved Unindexed before trees has is b = absurd (elim is [ inl e ↦ (let x = e in cc) | inr e ↦ (let x = e in cc) ])
+may_be_moved First before trees has is b = record { first = inl has; moved = b }
+may_be_moved FirstUnindexed before trees has is b = record { first = inr has; moved = b }
 
 module _ (old mid new : State) where
-  left_left : Leaves old mid → Leaves mid new → Leaves old new
+  pub left_left : Leaves old mid → Leaves mid new → Leaves old new
   left_left one two = record {
     was_open = λ is_open. one.was_open (two.was_open is_open);
     now_is = λ is_open. two.now_is is_open ∙ one.now_is (two.was_open is_open);
     committed_is = λ is_open. two.committed_is is_open ∙ one.committed_is (two.was_open is_open);
   }
 
-  -- what is opened and then left is opened
-  pub opens_left : KeepsFile old mid → Leaves mid new → KeepsFile old new
-  opens_left opens left = record {
-    was_open = λ is_open. opens.was_open (left.was_open is_open);
-    rows = λ is_open. subst (KeepsAllRows old.now) (sym (left.now_is is_open)) (opens.rows (left.was_open is_open));
-    committed_rows = λ is_open. subst (KeepsAllRows old.committed) (sym (left.committed_is is_open)) (opens.committed_rows (left.was_open is_open));
-    untouched = λ other. left_left (opens.untouched other) left;
-  }
-
-  -- and what is left and then opened
+  -- what is left and then opened is opened
   pub left_then_opens : mid.now ≡ old.now → Leaves old mid → KeepsFile mid new → KeepsFile old new
   left_then_opens same left opens = record {
     was_open = λ is_open. left.was_open (opens.was_open is_open);
@@ -124,6 +132,17 @@ module _ (old mid new : State) where
     untouched = λ other.
         let two = opens.untouched (λ alone. other (subst (λ (db : Database). db.schema ≡ tables_schema) same alone)) in
         left_left left two;
+  }
+
+  -- what is looked at and then moved is moved
+  pub moves_before : mid.now ≡ old.now → Moves mid new → Moves old new
+  moves_before same it = record { settled = it.settled; schema = it.schema; moved = subst (λ (db : Database). MayBeMoved db new.now.trees) same it.moved }
+
+  -- one call after another that write nothing
+  pub nothing_then : WritesNothing old mid → WritesNothing mid new → WritesNothing old new
+  nothing_then one two = record {
+    left = λ clean. let early : HasCleanDisk mid = omega (arith, two.survives.clean) in left_left (one.left early) (two.left clean);
+    survives = survives_then old mid new _ _ (λ _. ⊥) (λ _ db none. none) (λ _ db none. none) one.survives two.survives;
   }
 
 -- a room that some tables hold is the one that they were read as

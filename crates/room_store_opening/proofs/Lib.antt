@@ -1,1 +1,3 @@
 pub mod FileLaws
+-- tables that are taken
+pub mod TakeLaws

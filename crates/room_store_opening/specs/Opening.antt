@@ -1,5 +1,5 @@
--- What a file holds that is opened.
-use Rattle.std.specs.Prelude.{IsTrue, List, ℕ, ◌≡◌, ◌≢◌, ◌⊎◌, ◌∷◌, []}
+-- What a file holds that is opened, or moved from the first version to this.
+use Rattle.std.specs.Prelude.{IsTrue, List, drop, ℕ, ◌↔◌, ◌≡◌, ◌≢◌, ◌∷◌, []}
 use Rattle.sqlite.specs.Effect.{Database}
 use Rattle.sqlite.specs.State.{HasCleanDisk, State, Survives}
 use Rattle.sqlite_catalog.specs.Change.{KeepsRows}
@@ -25,34 +25,56 @@ use Rattle.room_tables_rows.specs.Reports.{report_row}
 use Rattle.room_tables_rows.specs.Terminals.{terminal_row}
 use Rattle.room_tables_rows.specs.Turns.{turn_row}
 use Rattle.room_tables_rows.specs.Vehicles.{vehicle_row}
-use Rattle.room_tables_schema.specs.Schema.{areas_table, assignments_table, calls_table, divisions_table, incidents_table, loans_table, meta_table, offers_table, points_table, reports_table, room_schema, tables_schema, terminals_table, turns_table, vehicles_table}
-use Rattle.room_tables_schema.specs.Versions.{BeginsAsRoom}
+use Rattle.room_tables_schema.specs.Schema.{areas_table, assignments_table, calls_table, divisions_table, first_schema, first_tables, first_tables_schema, incidents_table, loans_table, meta_table, offers_table, points_table, reports_table, room_schema, room_tables, tables_schema, terminals_table, turns_table, vehicles_table}
+use Rattle.room_tables_schema.specs.Versions.{BeginsAsRoom, HasFirstTables}
 use Rattle.room_tables_schema.specs.declared.faults.Fault.{Fault}
 use Rattle.room_tables_schema.specs.declared.faults.Fault.TheVariants as fault
-use Rattle.room_tables.specs.Stands.{Stands, StandsFor, numbered}
-use Rattle.room_tables.specs.Versions.{IsOfFirstVersion}
+use Rattle.room_tables.specs.Stands.{House, Stands, StandsFor, StandsInFirst, numbered}
+use Rattle.room_tables.specs.Versions.{IsOfVersion}
 use Rattle.room_store_writes.specs.Houses.{house_of}
 use Rattle.room_store_writes.specs.Writing.{IsSettled, Leaves}
 use Rattle.room_store_opening.specs.declared.opening.OpenFault.{OpenFault}
-use Rattle.room_store_opening.specs.declared.opening.OpenFault.TheVariants.{Memory, Storage}
+use Rattle.room_store_opening.specs.declared.opening.OpenFault.TheVariants as opened
+use Rattle.room_store_opening.specs.declared.migrating.MigrateFault.{MigrateFault}
+use Rattle.room_store_opening.specs.declared.migrating.MigrateFault.TheVariants as migrated
+use Rattle.room_store_opening.specs.declared.taking.TakeFault.{TakeFault}
+use Rattle.room_store_opening.specs.declared.taking.TakeFault.TheVariants.{Memory, NotARoom, Storage}
+use Rattle.room_store_opening.specs.declared.taking.Tables.{Tables}
+use Rattle.room_store_opening.specs.declared.taking.Tables.TheVariants.{First, FirstUnindexed, Unindexed, Whole}
 
--- The file has a room's tables, with its indexes or without them.
-abbrev pub HasTables : Schema → Type 0
-HasTables schema = (schema ≡ room_schema) ⊎ (schema ≡ tables_schema)
+-- The file holds a room of a version, whatever its other tables are.
+abbrev pub IsRoomOf : ℕ → Database → Type 0
+IsRoomOf version now = BeginsAsRoom now.schema × IsOfVersion version now.trees
 
--- The file holds a room of the version before this one, whatever its other tables are.
+-- of the version before this one
 abbrev pub IsOldRoom : Database → Type 0
-IsOldRoom now = BeginsAsRoom now.schema × IsOfFirstVersion now.trees
+IsOldRoom = IsRoomOf 1
 
--- Some well-formed room with terminals that fit it is what the tables stand for.
-pub record HoldsRoom (trees : Trees) : Type 0 where
+-- of this one
+abbrev pub IsNewRoom : Database → Type 0
+IsNewRoom = IsRoomOf 2
+
+-- Some well-formed room with terminals that fit it is stood for.
+pub record Holds (AreFor : House → Room → Type 0) : Type 0 where
   pub layout : Layout
   pub terminals : List Terminal
   pub room : Room
   pub planned : room.plan ≡ layout.areas
-  pub stands : Stands trees (house_of layout terminals) room
+  pub stands : AreFor (house_of layout terminals) room
   pub formed : IsWellFormed room
   pub fits : AreTerminals room terminals
+
+-- by the tables of a room
+abbrev pub HoldsRoom : Trees → Type 0
+HoldsRoom trees = Holds (Stands trees)
+
+-- by those of the first version
+abbrev pub HoldsFirstRoom : Trees → Type 0
+HoldsFirstRoom trees = Holds (StandsInFirst trees)
+
+-- The tables stand for a well-formed room of this plan, with terminals that fit it.
+abbrev pub IsPlanOf : Trees → Layout → Type 0
+IsPlanOf trees plan = (terminals : List Terminal) × (room : Room) × IsWellFormed room × AreTerminals room terminals × (room.plan ≡ plan.areas) × Stands trees (house_of plan terminals) room
 
 -- Every table that the file had is there, with all the rows that it had.
 pub record KeepsAllRows (before after : Database) : Type 0 where
@@ -64,12 +86,52 @@ pub record MayBeIndexed (before : Database) (trees : Trees) : Type 0 where
   pub alone : before.schema ≡ tables_schema
   pub rows : KeepsRows before.schema.tables before.trees trees
 
--- The indexes of a room were made of a file that had its tables alone. All rows stayed, and this is committed.
-pub record AddsIndexes (old new : State) : Type 0 where
+-- Tables of the first version became those of a room: the rows of all but `meta` stayed, and they stand for what they stood for, and for nothing else.
+pub record IsMoved (old new : Trees) : Type 0 where
+  pub rows : KeepsRows (drop 1 first_tables) old new
+  pub stands : (house : House) (room : Room) → StandsInFirst old house room ↔ Stands new house room
+
+-- A stop may leave such tables while a file of the first version is moved.
+pub record MayBeMoved (before : Database) (trees : Trees) : Type 0 where
+  pub first : HasFirstTables before.schema
+  pub moved : IsMoved before.trees trees
+
+-- ---- of the tables that a file has: what their schema is, what they become, what they stand for, and when they hold a room
+
+abbrev pub schema_of : Tables → Schema
+schema_of Whole = room_schema
+schema_of Unindexed = tables_schema
+schema_of First = first_schema
+schema_of FirstUnindexed = first_tables_schema
+
+abbrev pub Becomes : Tables → Trees → Trees → Type 0
+Becomes Whole old new = new ≡ old
+Becomes Unindexed old new = KeepsRows room_tables old new
+Becomes First old new = IsMoved old new
+Becomes FirstUnindexed old new = IsMoved old new
+
+-- what a stop may leave then: nothing else where nothing lacks
+abbrev pub MayBecome : Tables → Trees → Trees → Type 0
+MayBecome Whole old new = ⊥
+MayBecome Unindexed old new = Becomes Unindexed old new
+MayBecome First old new = Becomes First old new
+MayBecome FirstUnindexed old new = Becomes FirstUnindexed old new
+
+abbrev pub StandsBy : Tables → Trees → House → Room → Type 0
+StandsBy Whole = Stands
+StandsBy Unindexed = Stands
+StandsBy First = StandsInFirst
+StandsBy FirstUnindexed = StandsInFirst
+
+abbrev pub HoldsBy : Tables → Trees → Type 0
+HoldsBy tables trees = Holds (StandsBy tables trees)
+
+-- A room's tables were made of those that the file had, and this is committed.
+pub record Takes (tables : Tables) (old new : State) : Type 0 where
   pub was_open : IsTrue old.is_open
   pub settled : IsSettled new
   pub schema : new.now.schema ≡ room_schema
-  pub rows : KeepsAllRows old.now new.now
+  pub becomes : Becomes tables old.now.trees new.now.trees
 
 -- What opening a file does to it, unless the connection is shut: all rows of all tables stay, and where it has not just a room's tables without their indexes, nothing is written.
 pub record KeepsFile (old new : State) : Type 0 where
@@ -78,15 +140,38 @@ pub record KeepsFile (old new : State) : Type 0 where
   pub committed_rows : IsTrue new.is_open → KeepsAllRows old.committed new.committed
   pub untouched : old.now.schema ≢ tables_schema → Leaves old new
 
+-- A room's tables and indexes are there, and this is committed.
+pub record Opens (old new : State) : Type 0 where
+  pub settled : IsSettled new
+  pub schema : new.now.schema ≡ room_schema
+  pub kept : KeepsFile old new
+
+-- A file of the first version was moved, and this is committed.
+pub record Moves (old new : State) : Type 0 where
+  pub settled : IsSettled new
+  pub schema : new.now.schema ≡ room_schema
+  pub moved : MayBeMoved old.now new.now.trees
+
 -- The call wrote nothing: all is as it was, unless the connection is shut, and a stop leaves what it could before.
 pub record WritesNothing (old new : State) : Type 0 where
   pub left : HasCleanDisk new → Leaves old new
   pub survives : Survives old new (λ _. ⊥)
 
--- how a failing machine is told
-abbrev pub open_fault : Fault → OpenFault
-open_fault fault.Memory = Memory
-open_fault fault.Storage = Storage
+-- ---- how a fault is told
+
+abbrev pub take_fault : Fault → TakeFault
+take_fault fault.Memory = Memory
+take_fault fault.Storage = Storage
+
+abbrev pub open_fault : TakeFault → OpenFault
+open_fault NotARoom = opened.NotARoom
+open_fault Memory = opened.Memory
+open_fault Storage = opened.Storage
+
+abbrev pub migrate_fault : TakeFault → MigrateFault
+migrate_fault NotARoom = migrated.NotARoom
+migrate_fault Memory = migrated.Memory
+migrate_fault Storage = migrated.Storage
 
 -- the tables of all rows but the plan's and the terminals' hold these rows
 pub record HasRows (trees : Trees) (x : DivisionRows) : Type 0 where

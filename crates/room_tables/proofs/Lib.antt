@@ -1,6 +1,8 @@
 -- What calls on the tables make of the room.
 -- what a read leaves
 pub mod RoomReads
+-- reads in a transaction
+pub mod Inside
 -- a vehicle that gets another holder
 pub mod Settles
 -- calls in a loop that change nothing

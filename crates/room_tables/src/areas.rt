@@ -4,7 +4,7 @@ ghost use Rattle.std.specs.Prelude.{◌≡◌, map, IfOk, OnOk, IfErr, []};
 ghost use Rattle.sqlite.specs.Held.{state};
 ghost use Rattle.sqlite.specs.State.{HasCleanDisk};
 ghost use Rattle.room_tables_sql.specs.Tables.{AreNumbered};
-ghost use Rattle.room_tables_sql.specs.Outcomes.{ReadsOnly, WritesInside};
+ghost use Rattle.room_tables_sql.specs.Outcomes.{ReadsInside, WritesInside};
 ghost use Rattle.room_tables_rows.specs.Areas.{area_row};
 ghost use Rattle.room_tables_schema.specs.Schema.{areas_table};
 ghost use Rattle.room_tables_schema.specs.Connections.{HasRoomSchema, MayWrite};
@@ -18,23 +18,27 @@ use room_place::plans::Area;
 use room_tables_rows::areas::{ALL_AREAS, PUT_AREA, area_columns};
 use room_tables_rows::columns::Stored;
 use room_tables_schema::faults::Fault;
-use room_tables_sql::reading::select;
+use room_tables_sql::reading::select_inside;
 use room_tables_sql::writing::write;
-use sqlite::{Alter, Connection, Row, Transaction};
+use sqlite::{Alter, Row, Transaction};
 use std::alloc::Global;
 
 /// The areas of the plan, in its order. Rows that are not numbered from 1 on are `Storage`.
-pub fn all_areas<S: Alter>(alloc: Global, conn: &mut Connection<S>) -> Result<Vec<Area>, Fault>
-    requires room { HasRoomSchema S.Store conn.old }
-    ensures areas { Finds S.Store conn.old conn.new result (λ room areas. areas.items ≡ room.plan) }
-    ensures found { HasCleanDisk (state S.Store conn.new)
-        → IfOk result (λ areas. AreNumbered ((state S.Store conn.old).now.trees areas_table.tree)
-        → StandsFor (state S.Store conn.old).now.trees areas_table area_row
+pub fn all_areas<S: Alter>(alloc: Global, tx: &mut Transaction<'_, S>) -> Result<Vec<Area>, Fault>
+    requires room { HasRoomSchema S.Store tx.old.conn.now }
+    ensures areas { Finds S.Store tx.old.conn.now tx.new.conn.now result (λ room areas.
+        areas.items ≡ room.plan) }
+    ensures found { HasCleanDisk (state S.Store tx.new.conn.now)
+        → IfOk result (λ areas.
+        AreNumbered ((state S.Store tx.old.conn.now).now.trees areas_table.tree)
+        → StandsFor (state S.Store tx.old.conn.now).now.trees areas_table area_row
         (numbered 1 areas.items)) }
-    ensures reads { ReadsOnly S.Store conn.old conn.new result }
-    ensures why { TellsWhy S.Store conn.old conn.new result ALL_AREAS.now [] (AreNoPlan) }
+    ensures reads { ReadsInside S.Store tx.old.conn.now tx.new.conn.now result }
+    ensures why { TellsWhy S.Store tx.old.conn.now tx.new.conn.now result ALL_AREAS.now []
+        (AreNoPlan) }
+    ensures same_reference { tx.new.conn.ghost_name ≡ tx.old.conn.ghost_name }
 {
-    let shown = select(conn, ALL_AREAS, &[])?;
+    let shown = select_inside(tx, ALL_AREAS, &[])?;
     areas_in(alloc, shown.as_slice())
 }
 

@@ -12,7 +12,7 @@ ghost use Rattle.room_tables_rows.specs.Stands.{StandsFor};
 ghost use Rattle.room_tables.specs.Failures.{AreMoreThanOne, AreNoRows, TellsWhy};
 ghost use Rattle.room_tables.specs.Finding.{Finds};
 
-use crate::reading::{find, load, row_of};
+use crate::reading::{find, load, row_of, rows_of};
 use crate::tables::{Owned, Table};
 use room_place::plans::DivisionNumber;
 use room_tables_rows::columns::Field;
@@ -22,21 +22,24 @@ use room_types::rows::Rows;
 use sqlite::{Alter, Connection, Transaction};
 use std::alloc::Global;
 
-/// All rows of a table.
+/// All rows of a table, read inside a transaction.
 pub fn all_rows<X: Table, S: Alter>(
     alloc: Global,
-    conn: &mut Connection<S>,
+    tx: &mut Transaction<'_, S>,
 ) -> Result<Rows<X>, Fault>
-    requires room { HasRoomSchema S.Store conn.old }
-    ensures rows { Finds S.Store conn.old conn.new result (λ room rows. rows ≡ X.rows room) }
-    ensures found { HasCleanDisk (state S.Store conn.new)
-        → IfOk result (λ rows. AreNumbered ((state S.Store conn.old).now.trees X.table.tree)
-        → StandsFor (state S.Store conn.old).now.trees X.table X.cells rows) }
-    ensures reads { ReadsOnly S.Store conn.old conn.new result }
-    ensures why { TellsWhy S.Store conn.old conn.new result X.texts.all []
+    requires room { HasRoomSchema S.Store tx.old.conn.now }
+    ensures rows { Finds S.Store tx.old.conn.now tx.new.conn.now result (λ room rows.
+        rows ≡ X.rows room) }
+    ensures found { HasCleanDisk (state S.Store tx.new.conn.now)
+        → IfOk result (λ rows. AreNumbered ((state S.Store tx.old.conn.now).now.trees X.table.tree)
+        → StandsFor (state S.Store tx.old.conn.now).now.trees X.table X.cells rows) }
+    ensures reads { ReadsInside S.Store tx.old.conn.now tx.new.conn.now result }
+    ensures why { TellsWhy S.Store tx.old.conn.now tx.new.conn.now result X.texts.all []
         (AreNoRows X.is_row X.Key.cmp X.key_of X.cells) }
+    ensures same_reference { tx.new.conn.ghost_name ≡ tx.old.conn.ghost_name }
 {
-    load(alloc, conn, X::statements().all, &[])
+    let shown = select_inside(tx, X::statements().all, &[])?;
+    rows_of(alloc, shown.as_slice())
 }
 
 /// The row of a key; none where no row has it.

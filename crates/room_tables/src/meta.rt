@@ -3,58 +3,58 @@
 ghost use Rattle.std.specs.Prelude.{◌≡◌, ◌↔◌, false, [], ◌∷◌, string_bytes, IsTrue, IfOk, OnOk, IfErr};
 ghost use Rattle.sqlite.specs.Held.{state};
 ghost use Rattle.sqlite.specs.State.{HasCleanDisk};
-ghost use Rattle.room_tables_sql.specs.Tables.{AreNumbered};
-ghost use Rattle.room_tables_sql.specs.Outcomes.{ReadsOnly, WritesInside};
-ghost use Rattle.room_tables_rows.specs.Meta.{is_meta_row, meta_row};
+ghost use Rattle.room_tables_sql.specs.Outcomes.{ReadsInside, ReadsOnly, WritesInside};
+ghost use Rattle.room_tables_rows.specs.Meta.{is_meta_row, meta_row, version_row};
 ghost use Rattle.room_tables_schema.specs.Definitions.{IsBlank};
 ghost use Rattle.room_tables_schema.specs.Schema.{meta_table};
 ghost use Rattle.room_tables_schema.specs.Versions.{BeginsAsRoom};
 ghost use Rattle.room_tables_schema.specs.Connections.{HasRoomSchema, MayWrite};
 ghost use Rattle.room_tables_rows.specs.Stands.{Stands, StandsFor, empty_room};
-ghost use Rattle.room_tables_rows.specs.Versions.{IsOfFirstVersion, OneTells};
-ghost use Rattle.room_tables_rows.specs.Writes.{Changes};
+ghost use Rattle.room_tables_rows.specs.Versions.{IsOfVersion, OneTells};
+ghost use Rattle.room_tables_rows.specs.Writes.{Changes, Renews};
 ghost use Rattle.room_tables_rows.specs.declared.meta.TheConstants.{ALL_META, PUT_META};
 ghost use Rattle.room_tables.specs.Failures.{AreNotJustOne, IfStorage, TellsWhy, TellsWhyUnwritten};
-ghost use Rattle.room_tables.specs.Finding.{FindsInHouse};
 
 use room_tables_rows::meta::{
-    ALL_META, FIRST_VERSION, PUT_META, is_of_version, meta_columns, zone_of,
+    ALL_META, FIRST_VERSION, PUT_META, meta_columns, tells_version, zone_of,
 };
 use room_tables_schema::faults::Fault;
-use room_tables_sql::reading::select;
+use room_tables_sql::reading::{select, select_inside};
 use room_tables_sql::writing::write;
 use sqlite::{Alter, Connection, Row, Transaction};
 use std::alloc::Global;
 
-/// The zone in which the days of the room begin. Anything but one row of this version is `Storage`.
-pub fn zone<S: Alter>(alloc: Global, conn: &mut Connection<S>) -> Result<String, Fault>
-    requires room { HasRoomSchema S.Store conn.old }
-    ensures zone { FindsInHouse S.Store conn.old conn.new result (λ house zone.
-        string_bytes zone ≡ house.zone) }
-    ensures found { HasCleanDisk (state S.Store conn.new)
-        → IfOk result (λ zone. AreNumbered ((state S.Store conn.old).now.trees meta_table.tree)
-        → StandsFor (state S.Store conn.old).now.trees meta_table meta_row (string_bytes zone
-        ∷ [])) }
-    ensures reads { ReadsOnly S.Store conn.old conn.new result }
-    ensures why { TellsWhy S.Store conn.old conn.new result ALL_META.now []
-        (AreNotJustOne is_meta_row) }
+/// The zone in which the days of the room begin, of tables that tell this version. Anything but one
+/// row of it is `Storage`.
+pub fn zone<S: Alter>(
+    alloc: Global,
+    tx: &mut Transaction<'_, S>,
+    version: u32,
+) -> Result<String, Fault>
+    requires room { HasRoomSchema S.Store tx.old.conn.now }
+    ensures found { HasCleanDisk (state S.Store tx.new.conn.now)
+        → IfOk result (λ zone. StandsFor (state S.Store tx.old.conn.now).now.trees meta_table
+        (version_row version) (string_bytes zone ∷ [])) }
+    ensures reads { ReadsInside S.Store tx.old.conn.now tx.new.conn.now result }
+    ensures why { TellsWhy S.Store tx.old.conn.now tx.new.conn.now result ALL_META.now []
+        (AreNotJustOne (is_meta_row version)) }
+    ensures same_reference { tx.new.conn.ghost_name ≡ tx.old.conn.ghost_name }
 {
-    let shown = select(conn, ALL_META, &[])?;
-    zone_in(alloc, shown.as_slice())
+    let shown = select_inside(tx, ALL_META, &[])?;
+    zone_in(alloc, shown.as_slice(), version)
 }
 
-/// Whether `meta` has one row, and it is of the first version of these tables. Of the other tables
-/// nothing is read.
-pub fn is_of_first_version<S: Alter>(conn: &mut Connection<S>) -> Result<bool, Fault>
+/// Whether `meta` has one row, and it tells this version. Of the other tables nothing is read.
+pub fn is_of_version<S: Alter>(conn: &mut Connection<S>, version: u32) -> Result<bool, Fault>
     requires { HasCleanDisk (state S.Store conn.old)
         → BeginsAsRoom (state S.Store conn.old).now.schema }
     ensures version { HasCleanDisk (state S.Store conn.new)
-        → IfOk result (λ yes. IsTrue yes ↔ IsOfFirstVersion (state S.Store conn.old).now.trees) }
+        → IfOk result (λ yes. IsTrue yes ↔ IsOfVersion version (state S.Store conn.old).now.trees) }
     ensures reads { ReadsOnly S.Store conn.old conn.new result }
     ensures why { TellsWhy S.Store conn.old conn.new result ALL_META.now [] (λ _. ⊥) }
 {
     let shown = select(conn, ALL_META, &[])?;
-    Ok(one_tells(shown.as_slice(), FIRST_VERSION))
+    Ok(one_tells(shown.as_slice(), version))
 }
 
 // Whether there is one row, and it tells this version.
@@ -63,18 +63,18 @@ fn one_tells(shown: &[Row], version: u32) -> bool
 {
     match shown {
         [] => false,
-        [row] => is_of_version(row, version),
+        [row] => tells_version(row, version),
         [_, _, ..] => false,
     }
 }
 
 // The zone of the one row.
-fn zone_in(alloc: Global, shown: &[Row]) -> Result<String, Fault>
-    ensures zone { IfOk result (λ zone. meta_row (string_bytes zone) ∷ [] ≡ shown.now) }
-    ensures why { IfErr result (IfStorage (AreNotJustOne is_meta_row shown.now)) }
+fn zone_in(alloc: Global, shown: &[Row], version: u32) -> Result<String, Fault>
+    ensures zone { IfOk result (λ zone. version_row version (string_bytes zone) ∷ [] ≡ shown.now) }
+    ensures why { IfErr result (IfStorage (AreNotJustOne (is_meta_row version) shown.now)) }
 {
     match shown {
-        [row] => match zone_of(row) {
+        [row] => match zone_of(row, version) {
             Some(zone) => Ok(String::from_str(alloc, zone)?),
             None => Err(Fault::Storage),
         },
@@ -93,6 +93,10 @@ pub fn put_meta<S: Alter>(tx: &mut Transaction<'_, S>, zone: &str) -> Result<(),
         → OnOk result (IsBlank (state S.Store tx.old.conn.now).now.trees
         → Stands (state S.Store tx.new.conn.now).now.trees
         (record { zone = zone.now; terminals = [] }) empty_room) }
+    ensures renews { HasCleanDisk (state S.Store tx.new.conn.now)
+        → OnOk result (StandsFor (state S.Store tx.old.conn.now).now.trees meta_table
+        (version_row 1) (zone.now ∷ [])
+        → Renews (state S.Store tx.old.conn.now) (state S.Store tx.new.conn.now)) }
     ensures writes { WritesInside S.Store tx.old.conn.now tx.new.conn.now result }
     ensures why { TellsWhyUnwritten S.Store tx.old.conn.now tx.new.conn.now result PUT_META.now
         (meta_row zone.now) }
@@ -100,4 +104,16 @@ pub fn put_meta<S: Alter>(tx: &mut Transaction<'_, S>, zone: &str) -> Result<(),
 {
     write(tx, PUT_META, &meta_columns(zone))?;
     Ok(())
+}
+
+/// Tells this version where the tables tell the first, with the zone that they told.
+pub fn tell_version<S: Alter>(alloc: Global, tx: &mut Transaction<'_, S>) -> Result<(), Fault>
+    requires inside { MayWrite S.Store tx.old.conn.now }
+    ensures ok { HasCleanDisk (state S.Store tx.new.conn.now)
+        → OnOk result (Renews (state S.Store tx.old.conn.now) (state S.Store tx.new.conn.now)) }
+    ensures writes { WritesInside S.Store tx.old.conn.now tx.new.conn.now result }
+    ensures same_reference { tx.new.conn.ghost_name ≡ tx.old.conn.ghost_name }
+{
+    let zone = zone(alloc, tx, FIRST_VERSION)?;
+    put_meta(tx, zone.as_str())
 }

@@ -6,15 +6,15 @@ ghost use Rattle.sqlite_trees.specs.Tree.{rowid};
 ghost use Rattle.sqlite.specs.Held.{state};
 ghost use Rattle.sqlite.specs.State.{HasCleanDisk};
 ghost use Rattle.room_tables_sql.specs.Tables.{AreNumbered, RowidsRise};
-ghost use Rattle.room_tables_sql.specs.Outcomes.{ReadsOnly};
+ghost use Rattle.room_tables_sql.specs.Outcomes.{ReadsInside};
 ghost use Rattle.room_tables_schema.specs.Schema.{room_tables};
 ghost use Rattle.room_tables_schema.specs.Connections.{HasRoomSchema};
 ghost use Rattle.room_tables.specs.Numbering.{SelectsRowids, SelectEach, AreAllNumbered, integer_in};
 ghost use Rattle.room_tables.specs.Failures.{TellsWhy};
 
 use room_tables_schema::faults::Fault;
-use room_tables_sql::reading::select;
-use sqlite::{Alter, Connection, Row};
+use room_tables_sql::reading::select_inside;
+use sqlite::{Alter, Row, Transaction};
 use sqlite_value::value::ValueRef;
 
 // The rowids of each table in their order, the tables in the order in which they are made.
@@ -35,25 +35,29 @@ const ROWIDS: [&str; 13] = [
 ];
 
 /// Whether every table of a room numbers its rows, each number once.
-pub fn are_numbered<S: Alter>(conn: &mut Connection<S>) -> Result<bool, Fault>
-    requires room { HasRoomSchema S.Store conn.old }
-    ensures numbered { HasCleanDisk (state S.Store conn.new)
-        → IfOk result (λ yes. IsTrue yes ↔ AreAllNumbered (state S.Store conn.old).now.trees) }
-    ensures reads { ReadsOnly S.Store conn.old conn.new result }
+pub fn are_numbered<S: Alter>(tx: &mut Transaction<'_, S>) -> Result<bool, Fault>
+    requires room { HasRoomSchema S.Store tx.old.conn.now }
+    ensures numbered { HasCleanDisk (state S.Store tx.new.conn.now)
+        → IfOk result (λ yes. IsTrue yes
+        ↔ AreAllNumbered (state S.Store tx.old.conn.now).now.trees) }
+    ensures reads { ReadsInside S.Store tx.old.conn.now tx.new.conn.now result }
+    ensures same_reference { tx.new.conn.ghost_name ≡ tx.old.conn.ghost_name }
 {
-    are_all_numbered(conn, &ROWIDS)
+    are_all_numbered(tx, &ROWIDS)
 }
 
 // Whether every table numbers its rows, by the texts that select their rowids.
-fn are_all_numbered<S: Alter>(conn: &mut Connection<S>, texts: &[&str]) -> Result<bool, Fault>
-    requires room { HasRoomSchema S.Store conn.old }
+fn are_all_numbered<S: Alter>(tx: &mut Transaction<'_, S>, texts: &[&str]) -> Result<bool, Fault>
+    requires room { HasRoomSchema S.Store tx.old.conn.now }
     requires texts { SelectEach (map (λ text. text.now) texts.now) room_tables }
-    ensures numbered { HasCleanDisk (state S.Store conn.new)
-        → IfOk result (λ yes. IsTrue yes ↔ AreAllNumbered (state S.Store conn.old).now.trees) }
-    ensures reads { ReadsOnly S.Store conn.old conn.new result }
+    ensures numbered { HasCleanDisk (state S.Store tx.new.conn.now)
+        → IfOk result (λ yes. IsTrue yes
+        ↔ AreAllNumbered (state S.Store tx.old.conn.now).now.trees) }
+    ensures reads { ReadsInside S.Store tx.old.conn.now tx.new.conn.now result }
+    ensures same_reference { tx.new.conn.ghost_name ≡ tx.old.conn.ghost_name }
 {
     for text in texts {
-        if !is_numbered(conn, text)? {
+        if !is_numbered(tx, text)? {
             return Ok(false);
         }
     }
@@ -61,17 +65,18 @@ fn are_all_numbered<S: Alter>(conn: &mut Connection<S>, texts: &[&str]) -> Resul
 }
 
 // Whether a table numbers its rows, by the text that selects its rowids.
-fn is_numbered<S: Alter>(conn: &mut Connection<S>, text: &str) -> Result<bool, Fault>
-    requires room { HasRoomSchema S.Store conn.old }
-    requires selects { HasCleanDisk (state S.Store conn.old) → (tree : ℕ)
+fn is_numbered<S: Alter>(tx: &mut Transaction<'_, S>, text: &str) -> Result<bool, Fault>
+    requires room { HasRoomSchema S.Store tx.old.conn.now }
+    requires selects { HasCleanDisk (state S.Store tx.old.conn.now) → (tree : ℕ)
         × SelectsRowids text.now tree }
-    ensures numbered { HasCleanDisk (state S.Store conn.new)
+    ensures numbered { HasCleanDisk (state S.Store tx.new.conn.now)
         → IfOk result (λ yes. (tree : ℕ) → SelectsRowids text.now tree
-        → (IsTrue yes ↔ AreNumbered ((state S.Store conn.old).now.trees tree))) }
-    ensures reads { ReadsOnly S.Store conn.old conn.new result }
-    ensures why { TellsWhy S.Store conn.old conn.new result text.now [] (λ _. ⊥) }
+        → (IsTrue yes ↔ AreNumbered ((state S.Store tx.old.conn.now).now.trees tree))) }
+    ensures reads { ReadsInside S.Store tx.old.conn.now tx.new.conn.now result }
+    ensures why { TellsWhy S.Store tx.old.conn.now tx.new.conn.now result text.now [] (λ _. ⊥) }
+    ensures same_reference { tx.new.conn.ghost_name ≡ tx.old.conn.ghost_name }
 {
-    let shown = select(conn, text, &[])?;
+    let shown = select_inside(tx, text, &[])?;
     Ok(rise(shown.as_slice()))
 }
 

@@ -6,16 +6,16 @@ ghost use Rattle.sqlite.specs.Held.{state};
 ghost use Rattle.sqlite.specs.Listing.{understood};
 ghost use Rattle.sqlite.specs.State.{HasCleanDisk, Shown};
 ghost use Rattle.sqlite.specs.Values.{bound};
-ghost use Rattle.room_tables_sql.specs.Outcomes.{ReadsOnly};
+ghost use Rattle.room_tables_sql.specs.Outcomes.{ReadsInside, ReadsOnly};
 ghost use Rattle.room_types.specs.Keyed.{IsKeyed, put_row};
 ghost use Rattle.room_tables_rows.specs.Finds.{listed};
 ghost use Rattle.room_tables.specs.Failures.{AreMoreThanOne, AreNoRows, HasStranger, IfStorage, TellsWhy};
 
 use room_tables_rows::columns::Stored;
 use room_tables_schema::faults::Fault;
-use room_tables_sql::reading::select;
+use room_tables_sql::reading::{select, select_inside};
 use room_types::rows::{Row, Rows};
-use sqlite::{Alter, Connection};
+use sqlite::{Alter, Connection, Transaction};
 use sqlite_value::value::ValueRef;
 use std::alloc::Global;
 
@@ -41,23 +41,25 @@ pub(crate) fn load<X: Stored + Row, S: Alter>(
     rows_of(alloc, shown.as_slice())
 }
 
-/// The values that a selection shows, in its order. A row that is none of its table is `Storage`.
+/// The values that a selection shows inside a transaction, in its order. A row that is none of its
+/// table is `Storage`.
 pub(crate) fn list<X: Stored, S: Alter>(
     alloc: Global,
-    conn: &mut Connection<S>,
+    tx: &mut Transaction<'_, S>,
     text: &str,
     params: &[ValueRef<'_>],
 ) -> Result<Vec<X>, Fault>
-    requires { HasCleanDisk (state S.Store conn.old)
-        → IsPlain (understood (state S.Store conn.old).now.schema text.now) }
-    ensures shown { HasCleanDisk (state S.Store conn.new)
-        → IfOk result (λ found. Shown text.now (bound params.now) (state S.Store conn.old)
-        (state S.Store conn.new) (map X.cells found.items)) }
-    ensures reads { ReadsOnly S.Store conn.old conn.new result }
-    ensures why { TellsWhy S.Store conn.old conn.new result text.now (bound params.now)
-        (HasStranger X.is_row) }
+    requires { HasCleanDisk (state S.Store tx.old.conn.now)
+        → IsPlain (understood (state S.Store tx.old.conn.now).now.schema text.now) }
+    ensures shown { HasCleanDisk (state S.Store tx.new.conn.now)
+        → IfOk result (λ found. Shown text.now (bound params.now) (state S.Store tx.old.conn.now)
+        (state S.Store tx.new.conn.now) (map X.cells found.items)) }
+    ensures reads { ReadsInside S.Store tx.old.conn.now tx.new.conn.now result }
+    ensures why { TellsWhy S.Store tx.old.conn.now tx.new.conn.now result text.now
+        (bound params.now) (HasStranger X.is_row) }
+    ensures same_reference { tx.new.conn.ghost_name ≡ tx.old.conn.ghost_name }
 {
-    let shown = select(conn, text, params)?;
+    let shown = select_inside(tx, text, params)?;
     list_of(alloc, shown.as_slice())
 }
 
@@ -80,8 +82,11 @@ pub(crate) fn find<X: Stored, S: Alter>(
     row_of(shown.as_slice())
 }
 
-// The rows that stand in columns, in the order of their keys.
-fn rows_of<X: Stored + Row>(alloc: Global, shown: &[sqlite::Row]) -> Result<Rows<X>, Fault>
+/// The rows that stand in columns, in the order of their keys.
+pub(crate) fn rows_of<X: Stored + Row>(
+    alloc: Global,
+    shown: &[sqlite::Row],
+) -> Result<Rows<X>, Fault>
     ensures shown { IfOk result (λ rows. map X.cells rows ≡ shown.now) }
     ensures keyed { IfOk result (IsKeyed X.Key.cmp X.key_of) }
     ensures why { IfErr result (IfStorage

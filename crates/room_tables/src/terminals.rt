@@ -5,7 +5,7 @@ ghost use Rattle.sqlite_value.specs.declared.value.Value.TheVariants.{Text};
 ghost use Rattle.sqlite.specs.Held.{state};
 ghost use Rattle.sqlite.specs.State.{HasCleanDisk};
 ghost use Rattle.room_tables_sql.specs.Tables.{AreNumbered};
-ghost use Rattle.room_tables_sql.specs.Outcomes.{ReadsOnly, WritesInside};
+ghost use Rattle.room_tables_sql.specs.Outcomes.{ReadsInside, ReadsOnly, WritesInside};
 ghost use Rattle.room_types.specs.Keyed.{IsKeyed, put_row};
 ghost use Rattle.room_model.specs.Enrol.{terminal_at as found_terminal, terminal_key, token_cmp};
 ghost use Rattle.room_tables_rows.specs.Terminals.{terminal_row, is_terminal_row};
@@ -30,22 +30,23 @@ use std::alloc::Global;
 /// All terminals, in the order of their tokens.
 pub fn all_terminals<S: Alter>(
     alloc: Global,
-    conn: &mut Connection<S>,
+    tx: &mut Transaction<'_, S>,
 ) -> Result<Vec<Terminal>, Fault>
-    requires room { HasRoomSchema S.Store conn.old }
-    ensures terminals { FindsInHouse S.Store conn.old conn.new result (λ house terminals.
-        terminals.items ≡ house.terminals) }
-    ensures found { HasCleanDisk (state S.Store conn.new)
+    requires room { HasRoomSchema S.Store tx.old.conn.now }
+    ensures terminals { FindsInHouse S.Store tx.old.conn.now tx.new.conn.now result
+        (λ house terminals. terminals.items ≡ house.terminals) }
+    ensures found { HasCleanDisk (state S.Store tx.new.conn.now)
         → IfOk result (λ terminals.
-        AreNumbered ((state S.Store conn.old).now.trees terminals_table.tree)
+        AreNumbered ((state S.Store tx.old.conn.now).now.trees terminals_table.tree)
         → StandsFor
-        (state S.Store conn.old).now.trees terminals_table terminal_row terminals.items) }
+        (state S.Store tx.old.conn.now).now.trees terminals_table terminal_row terminals.items) }
     ensures keyed { IfOk result (λ terminals. IsKeyed token_cmp terminal_key terminals.items) }
-    ensures reads { ReadsOnly S.Store conn.old conn.new result }
-    ensures why { TellsWhy S.Store conn.old conn.new result ALL_TERMINALS.now []
+    ensures reads { ReadsInside S.Store tx.old.conn.now tx.new.conn.now result }
+    ensures why { TellsWhy S.Store tx.old.conn.now tx.new.conn.now result ALL_TERMINALS.now []
         (AreNoRows is_terminal_row token_cmp terminal_key terminal_row) }
+    ensures same_reference { tx.new.conn.ghost_name ≡ tx.old.conn.ghost_name }
 {
-    let terminals = list(alloc, conn, ALL_TERMINALS, &[])?;
+    let terminals = list(alloc, tx, ALL_TERMINALS, &[])?;
     if are_in_order(terminals.as_slice()) {
         Ok(terminals)
     } else {

@@ -31,7 +31,9 @@ pub mod TerminalsTable
 pub mod PlanLaws
 -- the puts that a room begins with
 pub mod Starts
--- the version of a file
-pub mod FirstVersion
+-- the version that a file tells
+pub mod Version
+-- a room of the first version that becomes one of this
+pub mod Moves
 -- one room alone
 pub mod OneRoom

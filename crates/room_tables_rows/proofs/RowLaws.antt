@@ -2,6 +2,7 @@
 use Rattle.std.proofs.Common.{◌≡◌, ℕ, List, [], ◌∷◌, Bool, true, false, Option, Some, None, refl}
 use Rattle.std.specs.Ordering.{nat_cmp}
 use Rattle.std.proofs.lemmas.Cmp.{nat_cmp_total, nat_list_cmp_total}
+use Rattle.sqlite_value.specs.Order.{Row, column}
 use Rattle.sqlite_value.proofs.OrderLemmas.{value_cmp-Text}
 use Rattle.room_tables_sql.specs.Typed.{IsFaithful, number, number_or_null}
 use Rattle.room_tables_sql.proofs.Comparisons.{value_cmp-numbers, key_of_one, key_of_two}
@@ -22,8 +23,8 @@ use Rattle.room_types.specs.declared.codes.State.{State}
 use Rattle.room_types.specs.declared.codes.State.TheVariants.{Active, Closed, Merged}
 use Rattle.room_types.specs.declared.fleet.Terminal.{Terminal}
 use Rattle.room_model.specs.Enrol.{token_cmp, terminal_key}
-use Rattle.room_tables_rows.specs.Columns.{truth, kind_code, status_code, button_code, outcome_code, number_or_none, truth_in, kind_in, status_in, button_in, outcome_in, state_in}
-use Rattle.room_tables_rows.specs.Meta.{meta_key, meta_row, zone_in}
+use Rattle.room_tables_rows.specs.Columns.{truth, kind_code, status_code, button_code, outcome_code, number_in, number_or_none, truth_in, kind_in, status_in, button_in, outcome_in, state_in}
+use Rattle.room_tables_rows.specs.Meta.{meta_key, meta_row, version_row, zone_in}
 use Rattle.room_tables_rows.specs.Areas.{area_key, area_row, area_in}
 use Rattle.room_tables_rows.specs.Terminals.{terminal_row, terminal_in}
 use Rattle.room_tables_rows.specs.Divisions.{division_row, division_in}
@@ -93,8 +94,18 @@ terminal_back t = go t.token t.who
 
 -- ---- rows
 
+pub version_faithful : (version : ℕ) → IsFaithful nat_cmp meta_key (version_row version) (0 ∷ [])
+version_faithful version = record { read = zone_in; read_back = λ z. refl; total = nat_cmp_total; ordered = λ x y. key_of_one (value_cmp-numbers 1 1) }
+
 pub meta_faithful : IsFaithful nat_cmp meta_key meta_row (0 ∷ [])
-meta_faithful = record { read = zone_in; read_back = λ z. refl; total = nat_cmp_total; ordered = λ x y. key_of_one (value_cmp-numbers 1 1) }
+meta_faithful = version_faithful 2
+
+-- of whichever version
+abbrev pub told_row : ℕ × List ℕ → Row
+told_row told = version_row told.0 told.1
+
+pub told_faithful : IsFaithful nat_cmp (λ (told : ℕ × List ℕ). meta_key told.1) told_row (0 ∷ [])
+told_faithful = record { read = λ r. (number_in (column r 1), zone_in r); read_back = λ told. refl; total = nat_cmp_total; ordered = λ x y. key_of_one (value_cmp-numbers 1 1) }
 
 pub area_faithful : IsFaithful nat_cmp area_key area_row (0 ∷ [])
 area_faithful = record { read = area_in; read_back = λ a. refl; total = nat_cmp_total; ordered = λ x y. key_of_one (value_cmp-numbers x.0 y.0) }

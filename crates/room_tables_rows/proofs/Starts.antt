@@ -3,27 +3,27 @@ use Rattle.std.proofs.Common.{◌≡◌, ◌++◌, ℕ, List, [], ◌∷◌, map
 use Rattle.std.specs.Ordering.{nat_cmp}
 use Rattle.sqlite_value.specs.Order.{Row}
 use Rattle.sqlite.specs.State.{State, Executes, Shown}
-use Rattle.room_tables_sql.specs.Outcomes.{Inside}
+use Rattle.room_tables_sql.specs.Outcomes.{Inside, Only}
 use Rattle.room_tables_sql.specs.Tables.{AreNumbered}
 use Rattle.room_tables_sql.specs.Statements.{rowid_values, rowid_update}
 use Rattle.room_tables_sql.proofs.Standing.{holds_none}
 use Rattle.room_tables_sql.proofs.TypedTables.{upsert_puts}
 use Rattle.room_tables_sql.proofs.Upserts.{upserted_schema}
 use Rattle.room_place.specs.declared.plans.Area.{Area}
-use Rattle.room_tables_rows.specs.Meta.{meta_key, meta_row}
+use Rattle.room_tables_rows.specs.Meta.{meta_key, meta_row, version_row}
 use Rattle.room_tables_rows.specs.Areas.{area_key, area_row}
-use Rattle.room_tables_rows.proofs.RowLaws.{meta_faithful, area_faithful}
+use Rattle.room_tables_rows.proofs.RowLaws.{meta_faithful, told_faithful, told_row, area_faithful}
 use Rattle.room_model.specs.Room.{Room}
 use Rattle.room_tables_schema.specs.Definitions.{IsBlank}
 use Rattle.room_tables_schema.specs.Schema.{room_schema, meta_table, areas_table}
-use Rattle.room_tables_rows.specs.declared.meta.TheConstants.{ALL_META, PUT_META}
+use Rattle.room_tables_rows.specs.declared.meta.TheConstants.{PUT_META}
 use Rattle.room_tables_rows.specs.declared.areas.TheConstants.{ALL_AREAS, PUT_AREA}
 use Rattle.room_tables_rows.specs.Stands.{House, Stands, StandsFor, numbered, empty_room}
 use Rattle.room_tables_rows.specs.Writes.{Changes, AppendsArea}
 use Rattle.room_tables_rows.proofs.Kept.{with_meta, with_areas, with_first}
 use Rattle.room_tables_rows.proofs.Puts.{put_changes}
 use Rattle.room_tables_rows.proofs.PlanLaws.{numbered-keyed, numbered-injective, put_row-numbered}
-use Rattle.room_tables_rows.proofs.MetaTable.{all_meta_are, meta_alone, meta_held, meta_puts, put_meta_means, meta_stores}
+use Rattle.room_tables_rows.proofs.MetaTable.{meta_alone, meta_held, meta_puts, put_meta_means, meta_stores}
 use Rattle.room_tables_rows.proofs.AreasTable.{all_areas_are, areas_alone, put_area_means, area_stores}
 
 module _ (zone : List ℕ) (old new : State) (count : ℕ) (has : old.now.schema ≡ room_schema) (inside : Inside old new) (ran : Executes PUT_META.now (meta_row zone) old new (Ok count)) where
@@ -38,6 +38,12 @@ module _ (zone : List ℕ) (old new : State) (count : ℕ) (has : old.now.schema
       (holds_none (0 ∷ 2 ∷ 3 ∷ []) (0 ∷ []) (old.now.trees 0) blank.meta) in
       with_first old.now new.now blank it.0 zone it.1
 
+-- whichever version and zone were told, this version and this zone are told instead, and nothing else changes
+pub put_meta_renews : (version : ℕ) (was zone : List ℕ) (old new : State) (count : ℕ) → old.now.schema ≡ room_schema → Executes PUT_META.now (meta_row zone) old new (Ok count)
+    → StandsFor old.now.trees meta_table (version_row version) (was ∷ []) → Only room_schema 0 old.now new.now × StandsFor new.now.trees meta_table meta_row (zone ∷ [])
+put_meta_renews version was zone old new count has ran h =
+    upsert_puts nat_cmp _ told_row room_schema PUT_META.now old new 0 meta_table (0 ∷ 2 ∷ 3 ∷ []) (0 ∷ []) 3 (rowid_values 3) (rowid_update 3) count (2, zone) ((version, was) ∷ []) meta_alone put_meta_means told_faithful (meta_stores zone) has ran h
+
 pub put_area_makes : (at : ℕ) (area : Area) (old new : State) (count : ℕ) → old.now.schema ≡ room_schema → Inside old new → Executes PUT_AREA.now (area_row (at, area)) old new (Ok count) → AppendsArea old new at area
 put_area_makes at area old new count has inside ran = record {
   inside = inside;
@@ -46,16 +52,6 @@ put_area_makes at area old new count has inside ran = record {
       let it = upsert_puts nat_cmp area_key area_row room_schema PUT_AREA.now old new 1 areas_table (0 ∷ 2 ∷ 3 ∷ 4 ∷ 5 ∷ 6 ∷ []) (0 ∷ []) 6 (rowid_values 6) (rowid_update 6) count (at, area) (numbered 1 room.plan) areas_alone put_area_means area_faithful (area_stores (at, area)) has ran h.areas in
       with_areas old.now new.now house room h it.0 (room.plan ++ area ∷ []) (subst (λ xs. StandsFor new.now.trees areas_table area_row xs) (put_row-numbered 1 at room.plan area (omega arith)) it.1);
 }
-
-module _ (zone : List ℕ) (old new : State) (shown : List Row) (has : old.now.schema ≡ room_schema) (shows : Shown ALL_META.now [] old new shown) (is : meta_row zone ∷ [] ≡ shown) where
-  -- the zone that was read is in the one row ..
-  pub zone_found : AreNumbered (old.now.trees 0) → StandsFor old.now.trees meta_table meta_row (zone ∷ [])
-  zone_found = (all_meta_are old new (zone ∷ []) has (subst (Shown ALL_META.now [] old new) (sym is) shows) (tt, tt)).0
-
-  -- .. and is the house's
-  pub zone_is : (house : House) (room : Room) → Stands old.now.trees house room → zone ≡ house.zone
-  zone_is house room h =
-      let same : zone ∷ [] ≡ house.zone ∷ [] = (all_meta_are old new (zone ∷ []) has (subst (Shown ALL_META.now [] old new) (sym is) shows) (tt, tt)).1 house room h in cc
 
 module _ (areas : List Area) (old new : State) (shown : List Row) (has : old.now.schema ≡ room_schema) (shows : Shown ALL_AREAS.now [] old new shown) (is : map area_row (numbered 1 areas) ≡ shown) where
   -- the areas that were read are in the rows ..

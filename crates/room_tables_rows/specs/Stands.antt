@@ -1,5 +1,5 @@
 -- Which room the tables of a file stand for.
-use Rattle.std.specs.Prelude.{◌-◌, ℕ, zero, suc, List, [], ◌∷◌, map, length, Option, Some, None}
+use Rattle.std.specs.Prelude.{◌-◌, ◌==◌, if◌then◌else◌, ℕ, zero, suc, List, [], ◌∷◌, map, length, Option, Some, None}
 use Rattle.sqlite_value.specs.Order.{Row}
 use Rattle.sqlite_trees.specs.Tree.{Trees}
 use Rattle.sqlite_schema.specs.declared.schema.Table.{Table}
@@ -8,7 +8,7 @@ use Rattle.room_place.specs.declared.plans.Area.{Area}
 use Rattle.room_types.specs.declared.fleet.Terminal.{Terminal}
 use Rattle.room_model.specs.Room.{Room}
 use Rattle.room_tables_schema.specs.Schema.{meta_table, areas_table, terminals_table, divisions_table, incidents_table, calls_table, vehicles_table, turns_table, assignments_table, points_table, loans_table, reports_table, offers_table}
-use Rattle.room_tables_rows.specs.Meta.{meta_row}
+use Rattle.room_tables_rows.specs.Meta.{version_row}
 use Rattle.room_tables_rows.specs.Areas.{area_row}
 use Rattle.room_tables_rows.specs.Terminals.{terminal_row}
 use Rattle.room_tables_rows.specs.Divisions.{division_row}
@@ -50,9 +50,9 @@ pub record House : Type 0 where
   pub zone : List ℕ
   pub terminals : List Terminal
 
--- The tables stand for this house and this room. No index is looked at.
-pub record Stands (trees : Trees) (house : House) (room : Room) : Type 0 where
-  pub meta : StandsFor trees meta_table meta_row (house.zone ∷ [])
+-- The tables, which tell this version, stand for this house and this room. No index is looked at.
+pub record StandsIn (version : ℕ) (trees : Trees) (house : House) (room : Room) : Type 0 where
+  pub meta : StandsFor trees meta_table (version_row version) (house.zone ∷ [])
   pub areas : StandsFor trees areas_table area_row (numbered 1 room.plan)
   pub terminals : StandsFor trees terminals_table terminal_row house.terminals
   pub divisions : StandsFor trees divisions_table division_row room.divisions
@@ -65,6 +65,18 @@ pub record Stands (trees : Trees) (house : House) (room : Room) : Type 0 where
   pub loans : StandsFor trees loans_table loan_row room.loans
   pub reports : StandsFor trees reports_table report_row room.reports
   pub offers : StandsFor trees offers_table offer_row room.offers
+
+-- The tables of a room stand for this house and this room.
+abbrev pub Stands : Trees → House → Room → Type 0
+Stands = StandsIn 2
+
+-- the tables, with no offers
+abbrev pub without_offers : Trees → Trees
+without_offers trees tree = if tree == offers_table.tree then [] else trees tree
+
+-- The tables of the first version stand for this house and this room. They had no offers.
+abbrev pub StandsInFirst : Trees → House → Room → Type 0
+StandsInFirst trees = StandsIn 1 (without_offers trees)
 
 -- no plan and no rows
 abbrev pub empty_room : Room

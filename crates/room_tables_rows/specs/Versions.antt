@@ -5,11 +5,11 @@ use Rattle.sqlite_trees.specs.Tree.{Trees}
 use Rattle.room_tables_sql.specs.Typed.{number}
 use Rattle.room_tables_schema.specs.Schema.{meta_table}
 
--- The table `meta` has one row, and it tells the first version of these tables, which had no offers.
-pub record IsOfFirstVersion (trees : Trees) : Type 0 where
+-- The table `meta` has one row, and it tells this version: 2 of these tables, 1 of those before, which had no offers.
+pub record IsOfVersion (version : ℕ) (trees : Trees) : Type 0 where
   pub row : Row
   pub alone : trees meta_table.tree ≡ row ∷ []
-  pub version : column row 2 ≡ number 1
+  pub told : column row 2 ≡ number version
 
 -- one row of `meta` was read, and it tells this version
 abbrev pub OneTells : ℕ → List Row → Type 0

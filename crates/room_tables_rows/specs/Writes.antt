@@ -1,12 +1,13 @@
 -- What a write in a transaction leaves.
-use Rattle.std.specs.Prelude.{◌≡◌, ◌++◌, ℕ, suc, [], ◌∷◌, length}
+use Rattle.std.specs.Prelude.{◌≡◌, ◌++◌, ℕ, suc, List, [], ◌∷◌, length}
 use Rattle.sqlite.specs.State.{State}
-use Rattle.room_tables_sql.specs.Outcomes.{Inside}
+use Rattle.room_tables_sql.specs.Outcomes.{Inside, Only}
 use Rattle.room_place.specs.declared.plans.Area.{Area}
 use Rattle.room_types.specs.declared.changes.Change.{Change}
 use Rattle.room_model.specs.Room.{Room, apply_one}
-use Rattle.room_tables_schema.specs.Schema.{room_schema}
-use Rattle.room_tables_rows.specs.Stands.{House, Stands}
+use Rattle.room_tables_schema.specs.Schema.{meta_table, room_schema}
+use Rattle.room_tables_rows.specs.Meta.{meta_row, version_row}
+use Rattle.room_tables_rows.specs.Stands.{House, Stands, StandsFor}
 
 -- The tables stand for another house and room than before, and nothing is committed.
 pub record Changes (old new : State) (house_after : House → House) (room_after : Room → Room) : Type 0 where
@@ -23,3 +24,12 @@ pub record AppendsArea (old new : State) (at : ℕ) (area : Area) : Type 0 where
   pub inside : Inside old new
   pub schema : new.now.schema ≡ room_schema
   pub stands : (house : House) (room : Room) → Stands old.now.trees house room → at ≡ suc (length room.plan) → Stands new.now.trees house (record room { plan = room.plan ++ area ∷ [] })
+
+-- The tables told the first version, and tell this one. No other table changed.
+pub record Renews (old new : State) : Type 0 where
+  pub inside : Inside old new
+  pub schema : new.now.schema ≡ room_schema
+  pub only : Only room_schema meta_table.tree old.now new.now
+  pub zone : List ℕ
+  pub was : StandsFor old.now.trees meta_table (version_row 1) (zone ∷ [])
+  pub is : StandsFor new.now.trees meta_table meta_row (zone ∷ [])

@@ -4,7 +4,7 @@ ghost use Rattle.std.specs.Prelude.{◌≡◌, ◌↔◌, is_some, IfSome, IsTru
 ghost use Rattle.sqlite.specs.Values.{bound};
 ghost use Rattle.sqlite_value.specs.Order.{column};
 ghost use Rattle.room_tables_sql.specs.Typed.{number};
-ghost use Rattle.room_tables_rows.specs.Meta.{is_meta_row, meta_row};
+ghost use Rattle.room_tables_rows.specs.Meta.{is_meta_row, meta_row, version_row};
 
 use crate::columns::{column_at, integer, text, value_at};
 use sqlite::Row;
@@ -17,7 +17,7 @@ pub const VERSION: u32 = 2;
 pub const FIRST_VERSION: u32 = 1;
 
 /// Whether a row of `meta` tells this version.
-pub fn is_of_version(row: &Row, version: u32) -> bool
+pub fn tells_version(row: &Row, version: u32) -> bool
     ensures { IsTrue result ↔ (column row.now 1 ≡ number version) }
 {
     match column_at(row, 1) {
@@ -27,16 +27,16 @@ pub fn is_of_version(row: &Row, version: u32) -> bool
 }
 
 /// The zone that the one row of `meta` tells; none where it is none of this version.
-pub fn zone_of(row: &Row) -> Option<&str>
-    ensures zone { IfSome result (λ zone. meta_row zone.now ≡ row.now) }
-    ensures has_one { is_some result ≡ is_meta_row row.now }
+pub fn zone_of(row: &Row, version: u32) -> Option<&str>
+    ensures zone { IfSome result (λ zone. version_row version zone.now ≡ row.now) }
+    ensures has_one { is_some result ≡ is_meta_row version row.now }
 {
     if row.column_count() != 3 {
         return None;
     }
     let id: u32 = value_at(row, 0)?;
-    let version: u32 = value_at(row, 1)?;
-    if id != 1 || version != VERSION {
+    let told: u32 = value_at(row, 1)?;
+    if id != 1 || told != version {
         return None;
     }
     text(column_at(row, 2))

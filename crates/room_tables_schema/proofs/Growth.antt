@@ -1,15 +1,22 @@
 -- Databases that grow by tables and indexes.
-use Rattle.std.proofs.Common.{◌≡◌, ◌∙◌, sym, ap, subst, refl, inl, inr, ℕ, List, [], ◌∷◌, ◌++◌, Ok, append_assoc}
+use Rattle.std.proofs.Common.{◌≡◌, ◌⊎◌, ◌∙◌, sym, ap, subst, refl, inl, inr, ℕ, List, [], ◌∷◌, ◌++◌, None, Ok, append_assoc}
 use Rattle.std.specs.List.{AllByRecursion}
 use Rattle.sqlite_trees.specs.Tree.{Trees}
 use Rattle.sqlite_schema.specs.declared.schema.Table.{Table}
 use Rattle.sqlite_schema.specs.declared.schema.Schema.{Schema}
-use Rattle.sqlite_catalog.specs.Change.{created, next_tree, KeepsRows}
-use Rattle.sqlite.specs.Effect.{Database}
-use Rattle.sqlite.specs.State.{State, Executes}
+use Rattle.sqlite_schema.specs.declared.schema.Index.{Index}
+use Rattle.sqlite_schema.specs.declared.command.Command.TheVariants.{DropIndex}
+use Rattle.sqlite_catalog.specs.Calls.{RefusesToDropIndex}
+use Rattle.sqlite_catalog.specs.Change.{created, next_tree, without_index, KeepsRows}
+use Rattle.sqlite.specs.Does.{Tally, Does, AtPlace, Defines as DefinesIn, Leaves}
+use Rattle.sqlite.specs.Effect.{Database, RefusesToAlter}
+use Rattle.sqlite.specs.State.{State, Executes, Writes, mode_of}
+use Rattle.sqlite.specs.Listing.{understood}
+use Rattle.sqlite.proofs.Callers.{runs_as, statement_of}
 use Rattle.room_tables_sql.proofs.Definitions.{create_makes, index_makes}
-use Rattle.room_tables_schema.specs.Schema.{no_schema, room_tables, room_schema}
-use Rattle.room_tables_schema.specs.Definitions.{Defines, Lead, Grows, IsBlank}
+use Rattle.room_tables_sql.proofs.Writes.{went_on, same_value}
+use Rattle.room_tables_schema.specs.Schema.{first_tables, no_schema, offers_table, room_tables, room_schema}
+use Rattle.room_tables_schema.specs.Definitions.{AddsLast, Defines, Drops, Lead, Grows, IsBlank}
 
 module _ {X : Type 0} (P : X → Type 0) where
   all_first : (xs ys : List X) → AllByRecursion P (xs ++ ys) → AllByRecursion P xs
@@ -53,6 +60,23 @@ grows_then old mid new a b =
       blank = all_both _ a.made b.made (still_blank a.made mid.trees new.trees a.blank (all_last _ old.schema.tables a.made kept)) b.blank;
     }
 
+-- an index that was dropped is not there any more, and all tables keep their rows
+drop_makes : (schema : Schema) (text : List ℕ) (old new : State) (at : ℕ) (index : Index) (count : ℕ) → Drops schema text at index → old.now.schema ≡ schema
+    → Executes text [] old new (Ok count) → (new.now.schema ≡ without_index schema index.tree) × KeepsRows schema.tables old.now.trees new.now.trees
+drop_makes schema text old new at index count means has ran =
+    let w : Writes old new None (DropIndex at) (statement_of text (understood schema text)) [] count = runs_as text [] old new schema has (DropIndex at) means.command means.plain count ran in
+    let db = λ (s : Schema). record old.now { schema = s } in
+    let all = subst (λ s. Does old.step_limit (mode_of old) [] (db s) (statement_of text (understood schema text)) None (DropIndex at) (Ok (w.tally, new.now))) has w.changed in
+    let left = went_on (subst (λ o. AtPlace (λ (i : Index). DefinesIn (mode_of old) (Leaves (without_index schema i.tree) old.now.trees (RefusesToAlter (RefusesToDropIndex i)))) o (Ok (w.tally, new.now))) means.is_there all) in
+    let now : new.now ≡ left.0 = ap (λ (p : Tally × Database). p.1) (same_value left.2) in
+    (ap (λ (d : Database). d.schema) now ∙ left.1.0, subst (λ (d : Database). KeepsRows schema.tables old.now.trees d.trees) (sym now) left.1.1)
+
+-- the same tables with all their rows have grown by none
+tables_stay : (old new : Database) (schema : Schema) → old.schema ≡ schema → new.schema.tables ≡ schema.tables → KeepsRows schema.tables old.trees new.trees → Grows old new
+tables_stay old new schema has same rows =
+    let tables = ap (λ (s : Schema). s.tables) has in
+    record { made = []; tables_are = same ∙ sym tables ∙ append_nil old.schema.tables; kept = subst (λ ts. KeepsRows ts old.trees new.trees) (sym tables) rows; blank = tt }
+
 -- a text that defines takes the schema to the next, and the database grows
 defined : (schema next : Schema) (text : List ℕ) (old new : State) (count : ℕ) → Defines schema text next → old.now.schema ≡ schema
     → Executes text [] old new (Ok count) → (new.now.schema ≡ next) × Grows old.now new.now
@@ -69,17 +93,10 @@ defined schema next text old new count defines has ran = elim defines [
           blank = (m.empty, tt);
         },
       )
-  | inr it ↦
-      let m = index_makes schema text old new it.0 it.1 it.2 count it.3 has ran in
-      let tables = ap (λ (s : Schema). s.tables) has in (
-        m.schema_is ∙ sym it.4,
-        record {
-          made = [];
-          tables_are = ap (λ (s : Schema). s.tables) m.schema_is ∙ sym tables ∙ append_nil old.now.schema.tables;
-          kept = subst (λ ts. KeepsRows ts old.now.trees new.now.trees) (sym tables) m.tables;
-          blank = tt;
-        },
-      )
+  | inr (inl it) ↦
+      let m = index_makes schema text old new it.0 it.1 it.2 count it.3 has ran in (m.schema_is ∙ sym it.4, tables_stay old.now new.now schema has (ap (λ (s : Schema). s.tables) m.schema_is) m.tables)
+  | inr (inr it) ↦
+      let m = drop_makes schema text old new it.0 it.1 count it.2 has ran in (m.0 ∙ sym it.3, tables_stay old.now new.now schema has (ap (λ (s : Schema). s.tables) m.0) m.1)
 ]
 
 -- so the texts that are left lead on
@@ -88,6 +105,18 @@ pub leads_on : (last : Schema) (text : List ℕ) (more : List (List ℕ)) (old n
 leads_on last text more old new count lead ran =
     let step = defined old.now.schema lead.0 text old new count lead.1 refl ran in
     (subst (λ s. Lead s more last) (sym step.0) lead.2, step.1)
+
+same_rest : {X : Type 0} (xs ys zs : List X) → xs ++ ys ≡ xs ++ zs → ys ≡ zs
+same_rest [] ys zs same = same
+same_rest (x ∷ xs) ys zs same = same_rest xs ys zs (let all = same in cc)
+
+-- what grew from the first version's tables to a room's schema added the last table
+pub adds_last : (old new : Database) → old.schema.tables ≡ first_tables → Grows old new → new.schema ≡ room_schema → AddsLast old.trees new.trees
+adds_last old new first grows has =
+    let made : first_tables ++ grows.made ≡ first_tables ++ offers_table ∷ [] = sym (ap (λ ts. ts ++ grows.made) first) ∙ sym grows.tables_are ∙ ap (λ (s : Schema). s.tables) has in
+    let last = same_rest first_tables grows.made (offers_table ∷ []) made in
+    let blank = subst (AllByRecursion (λ (t : Table). new.trees t.tree ≡ [])) last grows.blank in
+    record { rows = subst (λ ts. KeepsRows ts old.trees new.trees) first grows.kept; blank = blank.0 }
 
 -- what grew from nothing to a room's schema has no rows
 pub is_blank : (old new : Database) → old.schema ≡ no_schema → Grows old new → new.schema ≡ room_schema → IsBlank new.trees

@@ -1,24 +1,35 @@
 -- What the texts that define tables and indexes make of a schema and of the rows.
-use Rattle.std.specs.Prelude.{◌≡◌, ◌⊎◌, ℕ, List, [], ◌∷◌, ◌++◌, Err, Contains}
+use Rattle.std.specs.Prelude.{◌≡◌, ◌⊎◌, ℕ, List, [], ◌∷◌, ◌++◌, Err, Some, Contains, slice_get}
 use Rattle.std.specs.List.{AllByRecursion}
 use Rattle.sqlite_trees.specs.Tree.{Trees}
 use Rattle.sqlite_schema.specs.declared.schema.Table.{Table}
 use Rattle.sqlite_schema.specs.declared.schema.Index.{Index}
 use Rattle.sqlite_schema.specs.declared.schema.Schema.{Schema}
-use Rattle.sqlite_catalog.specs.Change.{created, indexed, KeepsRows}
+use Rattle.sqlite_schema.specs.declared.command.Command.TheVariants.{DropIndex}
+use Rattle.sqlite_catalog.specs.Change.{created, indexed, without_index, KeepsRows}
 use Rattle.sqlite.specs.Effect.{Database}
+use Rattle.sqlite.specs.Given.{IsPlain}
+use Rattle.sqlite.specs.Listing.{understood}
+use Rattle.sqlite.proofs.Callers.{command_of}
 use Rattle.sqlite.specs.State.{State, ExecutesInside, Survives}
 use Rattle.sqlite.specs.declared.error.Error.{Error}
 use Rattle.room_tables_sql.specs.Statements.{Creates, Indexes}
 use Rattle.room_tables_schema.specs.Faults.{fault_of}
 use Rattle.room_tables_schema.specs.declared.faults.Fault.{Fault}
-use Rattle.room_tables_schema.specs.Schema.{meta_table, areas_table, terminals_table, divisions_table, incidents_table, calls_table, vehicles_table, turns_table, assignments_table, points_table, loans_table, reports_table, offers_table}
+use Rattle.room_tables_schema.specs.Schema.{first_tables, meta_table, areas_table, terminals_table, divisions_table, incidents_table, calls_table, vehicles_table, turns_table, assignments_table, points_table, loans_table, reports_table, offers_table}
 
--- the text makes a table or an index, which takes one schema to the next
+-- the text drops the index at this place
+pub record Drops (schema : Schema) (text : List ℕ) (at : ℕ) (index : Index) : Type 0 where
+  pub command : command_of (understood schema text) ≡ DropIndex at
+  pub plain : IsPlain (understood schema text)
+  pub is_there : slice_get schema.indexes at ≡ Some index
+
+-- the text makes a table or an index, or drops one, which takes one schema to the next
 abbrev pub Defines : Schema → List ℕ → Schema → Type 0
 Defines schema text next =
     ((table : Table) × Creates schema text table × (next ≡ created schema table))
-    ⊎ ((at : ℕ) × (table : Table) × (index : Index) × Indexes schema text at table index × (next ≡ indexed schema table index))
+    ⊎ (((at : ℕ) × (table : Table) × (index : Index) × Indexes schema text at table index × (next ≡ indexed schema table index))
+    ⊎ ((at : ℕ) × (index : Index) × Drops schema text at index × (next ≡ without_index schema index.tree)))
 
 -- the texts, one after the other, take one schema to the last
 abbrev pub Lead : Schema → List (List ℕ) → Schema → Type 0
@@ -31,6 +42,11 @@ pub record Grows (old new : Database) : Type 0 where
   pub tables_are : new.schema.tables ≡ old.schema.tables ++ made
   pub kept : KeepsRows old.schema.tables old.trees new.trees
   pub blank : AllByRecursion (λ t. new.trees t.tree ≡ []) made
+
+-- The last table was made, and has no rows; those of the first version keep theirs.
+pub record AddsLast (old new : Trees) : Type 0 where
+  pub rows : KeepsRows first_tables old new
+  pub blank : new offers_table.tree ≡ []
 
 -- One of the texts failed at a state that the transaction came to, and this is the fault that tells of it.
 pub record FailsAt (texts : List (List ℕ)) (old mid new : State) (fault : Fault) : Type 0 where

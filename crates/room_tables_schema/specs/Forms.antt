@@ -62,6 +62,9 @@ table_keyed (p ∷ ps) tree name columns = keyed_table tree name (p ∷ ps) colu
 abbrev pub table_as : TableForm → Table
 table_as form = table_keyed form.2.now form.1 form.0.now (columns_as form.3.now)
 
+abbrev pub tables_as : List TableForm → List Table
+tables_as = map table_as
+
 -- ---- indexes: by the columns at these places of a row
 
 abbrev pub index_of : List ℕ → ℕ → ℕ → List ℕ → Bool → Index

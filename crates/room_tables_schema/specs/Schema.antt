@@ -5,7 +5,7 @@ use Rattle.sqlite_schema.specs.declared.schema.Index.{Index}
 use Rattle.sqlite_schema.specs.declared.schema.Schema.{Schema}
 use Rattle.room_tables_schema.specs.Forms.{column_of, table_keyed, index_of}
 use Rattle.room_tables_schema.specs.declared.forms.Rule.{Rule}
-use Rattle.room_tables_schema.specs.declared.tables.TheConstants.{META, AREAS, TERMINALS, DIVISIONS, INCIDENTS, CALLS, VEHICLES, TURNS, ASSIGNMENTS, POINTS, LOANS, REPORTS, OFFERS, INCIDENTS_BY_STATE, INCIDENTS_BY_OPENING, CALLS_BY_INCIDENT, TURNS_BY_INCIDENT, REPORTS_BY_OUTCOME, TABLES, INDEXES, KEY_INDEXES}
+use Rattle.room_tables_schema.specs.declared.tables.TheConstants.{META, AREAS, TERMINALS, DIVISIONS, INCIDENTS, CALLS, VEHICLES, TURNS, ASSIGNMENTS, POINTS, LOANS, REPORTS, OFFERS, INCIDENTS_BY_STATE, INCIDENTS_BY_OPENING, CALLS_BY_INCIDENT, TURNS_BY_INCIDENT, REPORTS_BY_OUTCOME, TABLES, INDEXES, KEY_INDEXES, FIRST_TABLES, FIRST_INDEXES, FIRST_KEY_INDEXES}
 
 -- ---- what the constants of that file say, where a reference is known by what it points to
 
@@ -17,6 +17,9 @@ table_in form = table_keyed form.2.now form.1 form.0.now (map (λ c. column_of c
 
 abbrev index_in : Known (List ℕ) × ℕ × ℕ × Known (List ℕ) × Bool → Index
 index_in form = index_of form.0.now form.1 form.2 form.3.now form.4
+
+abbrev pub tables_in : List (Known (List ℕ) × ℕ × Known (List ℕ) × Known (List (Known (List ℕ) × Rule))) → List Table
+tables_in = map table_in
 
 abbrev pub indexes_in : List (Known (List ℕ) × ℕ × ℕ × Known (List ℕ) × Bool) → List Index
 indexes_in = map index_in
@@ -69,7 +72,11 @@ offers_table = table_in OFFERS
 
 -- The tables in the order in which they are made. A key that is no rowid takes the tree after its table's.
 abbrev pub room_tables : List Table
-room_tables = map table_in TABLES
+room_tables = tables_in TABLES
+
+-- those of the first version, which had no offers
+abbrev pub first_tables : List Table
+first_tables = tables_in (take FIRST_TABLES TABLES)
 
 -- ---- indexes
 
@@ -106,3 +113,11 @@ tables_schema = record { tables = room_tables; indexes = key_indexes; views = []
 -- of a room
 abbrev pub room_schema : Schema
 room_schema = record { tables = room_tables; indexes = indexes_in INDEXES; views = [] }
+
+-- of the first version's tables alone
+abbrev pub first_tables_schema : Schema
+first_tables_schema = record { tables = first_tables; indexes = indexes_in (take FIRST_KEY_INDEXES FIRST_INDEXES); views = [] }
+
+-- of a room of the first version
+abbrev pub first_schema : Schema
+first_schema = record { tables = first_tables; indexes = indexes_in FIRST_INDEXES; views = [] }

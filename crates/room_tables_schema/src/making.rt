@@ -1,16 +1,16 @@
 //! Making the tables and indexes of a room, in a transaction.
 
-ghost use Rattle.std.specs.Prelude.{◌≡◌, IsTrue, IfErr, OnOk, drop, map};
+ghost use Rattle.std.specs.Prelude.{◌≡◌, cond, IsTrue, IfErr, OnOk, drop, map};
 ghost use Rattle.sqlite.specs.Held.{Held, state};
 ghost use Rattle.sqlite.specs.State.{HasCleanDisk};
 ghost use Rattle.sqlite_catalog.specs.Change.{KeepsRows};
 ghost use Rattle.room_tables_sql.specs.Outcomes.{CommitsNothing};
-ghost use Rattle.room_tables_schema.specs.Schema.{no_schema, room_tables, tables_schema, room_schema};
-ghost use Rattle.room_tables_schema.specs.Definitions.{Lead, Grows, IsBlank, FailsAt};
+ghost use Rattle.room_tables_schema.specs.Schema.{first_schema, first_tables_schema, no_schema, room_tables, tables_schema, room_schema};
+ghost use Rattle.room_tables_schema.specs.Definitions.{AddsLast, Lead, Grows, IsBlank, FailsAt};
 ghost use Rattle.room_tables_schema.specs.Connections.{MayWrite};
 
 use crate::faults::Fault;
-use crate::texts::{DEFINITIONS, TABLE_DEFINITIONS};
+use crate::texts::{DEFINITIONS, DROPS, MOVES, TABLE_DEFINITIONS};
 use room_tables_sql::writing::write;
 use sqlite::{Alter, Transaction};
 
@@ -53,6 +53,33 @@ pub fn make_indexes<S: Alter>(tx: &mut Transaction<'_, S>) -> Result<(), Fault>
     ensures same_reference { tx.new.conn.ghost_name ≡ tx.old.conn.ghost_name }
 {
     define_all(tx, &DEFINITIONS[TABLE_DEFINITIONS..])
+}
+
+/// Makes the last table and the indexes of a room in a file of the first version's tables, with
+/// its indexes or without them. The tables that were there keep their rows, and the new one has
+/// none. Where memory or storage fails, nothing is committed.
+pub fn make_last<S: Alter>(tx: &mut Transaction<'_, S>, is_indexed: bool) -> Result<(), Fault>
+    requires tables { HasCleanDisk (state S.Store tx.old.conn.now)
+        → (state S.Store tx.old.conn.now).now.schema
+        ≡ cond is_indexed first_schema first_tables_schema }
+    requires inside { HasCleanDisk (state S.Store tx.old.conn.now)
+        → IsTrue (state S.Store tx.old.conn.now).in_transaction }
+    ensures last { HasCleanDisk (state S.Store tx.new.conn.now)
+        → OnOk result (AddsLast (state S.Store tx.old.conn.now).now.trees
+        (state S.Store tx.new.conn.now).now.trees) }
+    ensures inside { OnOk result (MayWrite S.Store tx.new.conn.now) }
+    ensures commits { CommitsNothing S.Store tx.old.conn.now tx.new.conn.now }
+    ensures why { HasCleanDisk (state S.Store tx.new.conn.now)
+        → IfErr result (λ fault. (mid : Held S)
+        × FailsAt (map (λ t. t.now) (cond is_indexed MOVES (drop DROPS MOVES)))
+        (state S.Store tx.old.conn.now) (state S.Store mid) (state S.Store tx.new.conn.now) fault) }
+    ensures same_reference { tx.new.conn.ghost_name ≡ tx.old.conn.ghost_name }
+{
+    if is_indexed {
+        define_all(tx, &MOVES)
+    } else {
+        define_all(tx, &MOVES[DROPS..])
+    }
 }
 
 /// Runs the texts that lead to a room's schema, up to the first that fails.

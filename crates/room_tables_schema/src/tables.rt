@@ -245,3 +245,27 @@ pub(crate) const INDEXES: [IndexForm; 15] = [
 
 /// How many of the indexes are those of the keys.
 pub(crate) const KEY_INDEXES: usize = 10;
+
+/// How many of the tables the first version had: all but the last, `offers`.
+pub(crate) const FIRST_TABLES: usize = 12;
+
+/// The indexes of the first version. Those that find working rows took the trees behind its tables.
+pub(crate) const FIRST_INDEXES: [IndexForm; 14] = [
+    ("sqlite_autoindex_terminals_1", 3, 2, &[1], true),
+    ("sqlite_autoindex_incidents_1", 6, 5, &[1, 2], true),
+    ("sqlite_autoindex_calls_1", 8, 7, &[1, 2], true),
+    ("sqlite_autoindex_vehicles_1", 10, 9, &[1], true),
+    ("sqlite_autoindex_turns_1", 12, 11, &[1, 2], true),
+    ("sqlite_autoindex_assignments_1", 14, 13, &[1], true),
+    ("sqlite_autoindex_points_1", 16, 15, &[1, 2], true),
+    ("sqlite_autoindex_loans_1", 18, 17, &[1], true),
+    ("sqlite_autoindex_reports_1", 20, 19, &[1, 2], true),
+    ("incidents_by_state", 21, 5, &[11, 1], false),
+    ("incidents_by_opening", 22, 5, &[9, 1], false),
+    ("calls_by_incident", 23, 7, &[4, 3], false),
+    ("turns_by_incident", 24, 11, &[4, 3], false),
+    ("reports_by_outcome", 25, 19, &[9, 11, 8], false),
+];
+
+/// How many of the first version's indexes are those of the keys.
+pub(crate) const FIRST_KEY_INDEXES: usize = 9;

@@ -2,13 +2,13 @@
 
 ghost use Rattle.std.specs.Prelude.{◌≡◌, IsTrue, ◌↔◌, [], ◌∷◌, map};
 ghost use Rattle.sqlite_value.specs.Keys.{plain};
-ghost use Rattle.room_tables_schema.specs.Schema.{no_schema, room_tables, tables_schema, room_schema};
+ghost use Rattle.room_tables_schema.specs.Schema.{first_schema, first_tables_schema, no_schema, room_schema, tables_schema};
 ghost use Rattle.room_tables_schema.specs.Versions.{BeginsAsRoom};
-ghost use Rattle.room_tables_schema.specs.Forms.{column_as, table_as, index_as, indexes_as};
+ghost use Rattle.room_tables_schema.specs.Forms.{column_as, table_as, tables_as, index_as, indexes_as};
 ghost use Rattle.room_tables_schema.specs.Bare.{IsBare, HasKey};
 
 use crate::forms::{ColumnForm, IndexForm, TableForm};
-use crate::tables::{INDEXES, KEY_INDEXES, TABLES};
+use crate::tables::{FIRST_INDEXES, FIRST_KEY_INDEXES, FIRST_TABLES, INDEXES, KEY_INDEXES, TABLES};
 use sqlite_items::Items;
 use sqlite_schema::code::Terms;
 use sqlite_schema::schema::{Column, Index, Schema, Stamps, Table};
@@ -26,14 +26,32 @@ pub fn is_empty(schema: &Schema) -> bool
 pub fn is_room(schema: &Schema) -> bool
     ensures { IsTrue result ↔ (schema.now ≡ room_schema) }
 {
-    has_objects(schema, &INDEXES)
+    has_objects(schema, &TABLES, &INDEXES)
 }
 
 /// Whether a schema is that of a room's tables, with no index but those of their keys.
 pub fn has_tables_alone(schema: &Schema) -> bool
     ensures { IsTrue result ↔ (schema.now ≡ tables_schema) }
 {
-    has_objects(schema, &INDEXES[..KEY_INDEXES])
+    has_objects(schema, &TABLES, &INDEXES[..KEY_INDEXES])
+}
+
+/// Whether a schema is that of a room of the first version, with its indexes.
+pub fn is_first(schema: &Schema) -> bool
+    ensures { IsTrue result ↔ (schema.now ≡ first_schema) }
+{
+    has_objects(schema, &TABLES[..FIRST_TABLES], &FIRST_INDEXES)
+}
+
+/// Whether a schema is that of the first version's tables, with no index but those of their keys.
+pub fn has_first_tables_alone(schema: &Schema) -> bool
+    ensures { IsTrue result ↔ (schema.now ≡ first_tables_schema) }
+{
+    has_objects(
+        schema,
+        &TABLES[..FIRST_TABLES],
+        &FIRST_INDEXES[..FIRST_KEY_INDEXES],
+    )
 }
 
 /// Whether a schema begins as that of a room does, of this version or another: with the table
@@ -47,11 +65,15 @@ pub fn begins_as_room(schema: &Schema) -> bool
     }
 }
 
-fn has_objects(schema: &Schema, indexes: &[IndexForm]) -> bool
+fn has_objects(schema: &Schema, tables: &[TableForm], indexes: &[IndexForm]) -> bool
     ensures { IsTrue result
-        ↔ (schema.now ≡ record { tables = room_tables; indexes = indexes_as indexes.now; views = [] }) }
+        ↔ (schema.now ≡ record {
+          tables = tables_as tables.now;
+          indexes = indexes_as indexes.now;
+          views = [];
+        }) }
 {
-    all_fit(&TABLES, schema.tables.as_slice())
+    all_fit(tables, schema.tables.as_slice())
         && all_fit(indexes, schema.indexes.as_slice())
         && schema.views.is_empty()
 }

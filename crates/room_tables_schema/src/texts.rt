@@ -93,6 +93,16 @@ const TURNS_BY_INCIDENT: &str = "CREATE INDEX turns_by_incident ON turns (incide
 const REPORTS_BY_OUTCOME: &str =
     "CREATE INDEX reports_by_outcome ON reports (outcome, cleared, division)";
 
+const DROP_INCIDENTS_BY_STATE: &str = "DROP INDEX incidents_by_state";
+
+const DROP_INCIDENTS_BY_OPENING: &str = "DROP INDEX incidents_by_opening";
+
+const DROP_CALLS_BY_INCIDENT: &str = "DROP INDEX calls_by_incident";
+
+const DROP_TURNS_BY_INCIDENT: &str = "DROP INDEX turns_by_incident";
+
+const DROP_REPORTS_BY_OUTCOME: &str = "DROP INDEX reports_by_outcome";
+
 /// What makes a room's schema: a text a table, and then a text an index.
 pub(crate) const DEFINITIONS: [&str; 18] = [
     META,
@@ -117,3 +127,22 @@ pub(crate) const DEFINITIONS: [&str; 18] = [
 
 /// How many of the definitions are those of the tables.
 pub(crate) const TABLE_DEFINITIONS: usize = 13;
+
+/// What makes a room's schema of the first version's: its indexes are dropped, and then the last
+/// table and all indexes are made as in a new room.
+pub(crate) const MOVES: [&str; 11] = [
+    DROP_INCIDENTS_BY_STATE,
+    DROP_INCIDENTS_BY_OPENING,
+    DROP_CALLS_BY_INCIDENT,
+    DROP_TURNS_BY_INCIDENT,
+    DROP_REPORTS_BY_OUTCOME,
+    OFFERS,
+    INCIDENTS_BY_STATE,
+    INCIDENTS_BY_OPENING,
+    CALLS_BY_INCIDENT,
+    TURNS_BY_INCIDENT,
+    REPORTS_BY_OUTCOME,
+];
+
+/// How many of these drop an index.
+pub(crate) const DROPS: usize = 5;

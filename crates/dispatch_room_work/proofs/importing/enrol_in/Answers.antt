@@ -16,6 +16,6 @@ returns-clause-imported g c =
       conn = refl;
       terminals = opened.0;
       room = opened.1;
-      is = record { is = opened.2; same = c.in_ok-room.ensures.same early };
-      imported = c.enrol-done.ensures.imported clean opened.0 opened.1 opened.2;
+      is = opened.2;
+      imported = c.enrol-done.ensures.imported clean opened.0 opened.1 opened.2.is;
     })

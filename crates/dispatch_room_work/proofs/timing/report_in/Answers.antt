@@ -9,8 +9,8 @@ more_of : {A E : Type 0} {P Q : A → Type 0} (done : Result A E) → ((a : A) �
 more_of (Ok a) more is = more a is
 more_of (Err e) more is = tt
 
-pub returns : goal.returns
-returns g c =
+pub returns-clause-reported : goal.returns-clause-reported
+returns-clause-reported g c =
     let room = c.in_ok-room.room in
     let closed = c.report_of-report.new.room in
     let told = c.report_of-report.ensures in
@@ -22,10 +22,10 @@ returns g c =
       conn = refl;
       terminals = opened.0;
       room = opened.1;
-      is = record { is = opened.2; same = c.in_ok-room.ensures.same (told.clean clean) };
-      still = told.same clean opened.0 opened.1 opened.2;
+      is = opened.2;
+      still = told.same clean opened.0 opened.1 opened.2.is;
       zone = zone_of c.in_ok-room.zone;
       of_plan = c.in_ok-room.ensures.zone;
-      report = more_of c.report_of-report.result (λ _ is. is opened.0 opened.1 opened.2) (told.report clean);
+      report = more_of c.report_of-report.result (λ _ is. is opened.0 opened.1 opened.2.is) (told.report clean);
       fault = told.fault;
     })

@@ -1,16 +1,17 @@
-use Rattle.std.proofs.Common.{arith, refl, subst, ◌∙◌}
+use Rattle.std.proofs.Common.{arith, subst, ◌∙◌}
 use Rattle.sqlite.specs.Effect.{Database}
 use Rattle.sqlite.specs.Held.{state}
 use Rattle.sqlite.specs.State.{HasCleanDisk}
 use Rattle.room_tables.specs.Numbering.{AreAllNumbered}
-use Rattle.room_tables_sql.proofs.ReadLaws.{and, but, fails, looked, told, wants}
+use Rattle.room_tables.proofs.Inside.{inside_then}
+use Rattle.room_tables_sql.proofs.ReadLaws.{fails_inside, told_inside}
 use Rattle.room_store_opening.specs.Opening.{HasHouse, HasRows}
 use Rattle.room_store_opening.proofs.whole.read_whole.Goals as goal
 
 pub returns-clause-stands : goal.returns-clause-stands
 returns-clause-stands g c clean =
-    let second = state g.S.Store c.are_numbered.new.conn in
-    let third = state g.S.Store c.read_house.new.conn in
+    let second = state g.S.Store c.are_numbered.new.tx.conn.now in
+    let third = state g.S.Store c.read_house.new.tx.conn.now in
     let clean_third : HasCleanDisk third = omega (arith, c.read_rows.ensures.reads.survives.clean) in
     let clean_second : HasCleanDisk second = omega (arith, clean_third, c.read_house.ensures.reads.survives.clean) in
     let to_second = (c.in_ok-are_numbered.ensures.reads.ok clean_second).0.now_is in
@@ -37,25 +38,20 @@ returns-clause-stands g c clean =
     }
 
 pub returns-in_err-are_numbered-clause-reads : goal.returns-in_err-are_numbered-clause-reads
-returns-in_err-are_numbered-clause-reads g c = fails c.from_residual.ensures.0 c.in_err-are_numbered.ensures.reads
+returns-in_err-are_numbered-clause-reads g c = fails_inside c.from_residual.ensures.0 c.in_err-are_numbered.ensures.reads
 
 pub returns-then-not-branch-clause-reads : goal.returns-then-not-branch-clause-reads
-returns-then-not-branch-clause-reads g c = wants refl (looked c.in_ok-are_numbered.ensures.reads)
+returns-then-not-branch-clause-reads g c = told_inside _ c.in_ok-are_numbered.ensures.reads
 
 pub returns-in_err-house-clause-reads : goal.returns-in_err-house-clause-reads
-returns-in_err-house-clause-reads g c =
-    let one = looked c.in_ok-are_numbered.ensures.reads in
-    but one c.from_residual-in_err-house.ensures.0 c.in_err-house.ensures.reads
+returns-in_err-house-clause-reads g c = inside_then c.in_ok-are_numbered.ensures.reads _ (fails_inside c.from_residual-in_err-house.ensures.0 c.in_err-house.ensures.reads)
 
 pub returns-in_err-rows-clause-reads : goal.returns-in_err-rows-clause-reads
 returns-in_err-rows-clause-reads g c =
-    let one = looked c.in_ok-are_numbered.ensures.reads in
-    let two = and one c.in_ok-house.ensures.reads in
-    but two c.from_residual-in_err-rows.ensures.0 c.in_err-rows.ensures.reads
+    let two = inside_then c.in_ok-are_numbered.ensures.reads _ c.in_ok-house.ensures.reads in
+    inside_then two _ (fails_inside c.from_residual-in_err-rows.ensures.0 c.in_err-rows.ensures.reads)
 
 pub returns-clause-reads : goal.returns-clause-reads
 returns-clause-reads g c =
-    let one = looked c.in_ok-are_numbered.ensures.reads in
-    let two = and one c.in_ok-house.ensures.reads in
-    let three = and two c.in_ok-rows.ensures.reads in
-    told three
+    let two = inside_then c.in_ok-are_numbered.ensures.reads _ c.in_ok-house.ensures.reads in
+    told_inside _ (inside_then two _ c.in_ok-rows.ensures.reads)

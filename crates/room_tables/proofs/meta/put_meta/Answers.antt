@@ -1,7 +1,7 @@
-use Rattle.std.proofs.Common.{arith}
+use Rattle.std.proofs.Common.{arith, ◌∙◌}
 use Rattle.sqlite.specs.Held.{state}
 use Rattle.sqlite.specs.State.{HasCleanDisk}
-use Rattle.room_tables_rows.proofs.Starts.{put_meta_makes, put_meta_begins}
+use Rattle.room_tables_rows.proofs.Starts.{put_meta_makes, put_meta_begins, put_meta_renews}
 use Rattle.room_tables_sql.proofs.WriteLaws.{unwritten, wrote}
 use Rattle.room_tables.proofs.meta.put_meta.Goals as goal
 
@@ -14,6 +14,12 @@ pub returns-clause-begun : goal.returns-clause-begun
 returns-clause-begun g c clean =
     let early : HasCleanDisk (state g.S.Store c.args.tx.now.conn.now) = omega (arith, c.write.ensures.writes.survives.clean) in
     put_meta_begins c.args.zone.now _ _ _ (c.requires.inside.room early) (c.in_ok-write.ensures.ok clean) (rw c.meta_columns.ensures at (c.in_ok-write.ensures.ran clean))
+
+pub returns-clause-renews : goal.returns-clause-renews
+returns-clause-renews g c clean was =
+    let early : HasCleanDisk (state g.S.Store c.args.tx.now.conn.now) = omega (arith, c.write.ensures.writes.survives.clean) in
+    let it = put_meta_renews 1 c.args.zone.now c.args.zone.now _ _ _ (c.requires.inside.room early) (rw c.meta_columns.ensures at (c.in_ok-write.ensures.ran clean)) was in
+    record { inside = c.in_ok-write.ensures.ok clean; schema = it.0.schema_is ∙ c.requires.inside.room early; only = it.0; zone = c.args.zone.now; was = was; is = it.1 }
 
 pub returns-clause-why : goal.returns-clause-why
 returns-clause-why g c clean = tt

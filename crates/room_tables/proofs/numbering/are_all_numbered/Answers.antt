@@ -9,20 +9,20 @@ use Rattle.room_tables.proofs.numbering.are_all_numbered.Goals as goal
 
 pub is_numbered-requires-clause-selects : goal.is_numbered-requires-clause-selects
 is_numbered-requires-clause-selects g c clean =
-    let left = subst (Left (state g.S.Store c.args.conn.now).now.trees) (at_drop_more (map (λ text. text.now)) c.args.texts.now c.loop-text.text-index _ c.loop-text-test.true) (c.loop-text.invariant.left clean) in
+    let left = subst (Left (state g.S.Store c.args.tx.now.conn.now).now.trees) (at_drop_more (map (λ text. text.now)) c.args.texts.now c.loop-text.text-index _ c.loop-text-test.true) (c.loop-text.invariant.left clean) in
     next_selects _ _ _ left
 
 pub loop-text-preserved : goal.loop-text-preserved
 loop-text-preserved g c =
-    let old = state g.S.Store c.args.conn.now in
-    let mid = state g.S.Store c.loop-text.conn in
-    let new = state g.S.Store c.is_numbered.new.conn in
+    let old = state g.S.Store c.args.tx.now.conn.now in
+    let mid = state g.S.Store c.loop-text.tx.conn.now in
+    let new = state g.S.Store c.is_numbered.new.tx.conn.now in
     let before = c.loop-text.invariant in
     let early = λ (clean : HasCleanDisk new). let e : HasCleanDisk mid = omega (arith, c.is_numbered.ensures.reads.survives.clean) in e in
     record {
       survives = survives_then old mid new (λ _. ⊥) (λ _. ⊥) (λ _. ⊥) (λ _ db none. none) (λ _ db none. none) before.survives c.is_numbered.ensures.reads.survives;
-      stays = λ clean. record { so_far = inr (unchanged_after (before.stays (early clean)) c.is_numbered.new.conn (c.in_ok-is_numbered.ensures.reads.ok clean)) };
-      mode = λ e. c.is_numbered.ensures.reads.mode (before.mode e);
+      stays = λ clean. record { so_far = inr (unchanged_after (before.stays (early clean)) c.is_numbered.new.tx.conn.now (c.in_ok-is_numbered.ensures.reads.ok clean)) };
+      same_reference = c.is_numbered.ensures.same_reference ∙ before.same_reference;
       left = λ clean.
           less_left old.now.trees _ _ _ (rw (trees_stay (before.stays (early clean))) at (c.in_ok-is_numbered.ensures.numbered clean))
           (subst (Left old.now.trees) (at_drop_more (map (λ text. text.now)) c.args.texts.now c.loop-text.text-index _ c.loop-text-test.true) (before.left (early clean))) c.if-not-branch.false;
@@ -30,15 +30,15 @@ loop-text-preserved g c =
 
 pub returns-then-not-branch-clause-numbered : goal.returns-then-not-branch-clause-numbered
 returns-then-not-branch-clause-numbered g c clean =
-    let old = state g.S.Store c.args.conn.now in
+    let old = state g.S.Store c.args.tx.now.conn.now in
     let before = c.loop-text.invariant in
-    let early : HasCleanDisk (state g.S.Store c.loop-text.conn) = omega (arith, c.is_numbered.ensures.reads.survives.clean) in
+    let early : HasCleanDisk (state g.S.Store c.loop-text.tx.conn.now) = omega (arith, c.is_numbered.ensures.reads.survives.clean) in
     let one = one_numbered old.now.trees _ _ _ (rw (trees_stay (before.stays early)) at (c.in_ok-is_numbered.ensures.numbered clean))
     (subst (Left old.now.trees) (at_drop_more (map (λ text. text.now)) c.args.texts.now c.loop-text.text-index _ c.loop-text-test.true) (before.left early)) in
     (λ yes. absurd (true≢false (sym yes)), λ numbered. sym c.if-not-branch.true ∙ one numbered)
 
 pub returns-clause-numbered : goal.returns-clause-numbered
 returns-clause-numbered g c clean =
-    let trees = (state g.S.Store c.args.conn.now).now.trees in
+    let trees = (state g.S.Store c.args.tx.now.conn.now).now.trees in
     let none = at_drop_all (map (λ text. text.now)) c.args.texts.now c.loop-text.text-index c.loop-text-test.false in
     (λ yes. none_left trees (subst (Left trees) none (c.loop-text.invariant.left clean)), λ numbered. refl)

@@ -1,4 +1,4 @@
-use Rattle.std.proofs.Common.{◌≡◌, drop, map, false}
+use Rattle.std.proofs.Common.{◌≡◌, drop, map}
 use Rattle.sqlite.specs.Held.{state}
 use Rattle.sqlite.specs.State.{HasCleanDisk, Survives}
 use Rattle.room_tables.proofs.Repeats.{Stays}
@@ -7,11 +7,11 @@ use Rattle.room_tables.proofs.numbering.are_all_numbered.Given as goal
 
 abbrev pub invariant-loop-text : goal.invariant-loop-text
 invariant-loop-text g l =
-    let old = state g.S.Store l.fn.conn in
-    let now = state g.S.Store l.conn in
+    let old = state g.S.Store l.fn.tx.conn.now in
+    let now = state g.S.Store l.tx.conn.now in
     record {
       survives : Survives old now (λ _. ⊥);
-      stays : HasCleanDisk now → Stays (state g.S.Store) l.fn.conn l.text-index l.conn;
-      mode : l.fn.conn.in_transaction ≡ false → l.conn.in_transaction ≡ false;
+      stays : HasCleanDisk now → Stays (state g.S.Store) l.fn.tx.conn.now l.text-index l.tx.conn.now;
+      same_reference : l.tx.conn.ghost_name ≡ l.fn.tx.conn.ghost_name;
       left : HasCleanDisk now → Left old.now.trees (map (λ text. text.now) (drop l.text-index l.texts));
     }

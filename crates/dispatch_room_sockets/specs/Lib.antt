@@ -1,0 +1,2 @@
+-- what is read from a peer and thrown away
+pub mod Thrown

@@ -1,0 +1,11 @@
+//! The sockets of a room's connections: each read and each write ends by a moment that is known
+//! before it, so that no peer holds the room, and an answer that closes a connection arrives.
+#![tactic(auto)]
+
+mod paces;
+pub mod parting;
+pub mod readers;
+pub mod sides;
+mod tries;
+pub mod waits;
+pub mod writers;

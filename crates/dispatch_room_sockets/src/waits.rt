@@ -1,0 +1,48 @@
+//! How long a connection is waited for.
+ghost use Rattle.std.specs.Prelude.{◌≡◌, ◌+◌, ◌*◌, ◌<◌, ◌≤◌, IfSome, min};
+ghost use Rattle.std.specs.Duration.{as_nanos, max_nanos};
+
+use std::time::{Clock, Duration};
+
+const TURN: u32 = 5;
+
+/// How long a connection is waited for.
+#[derive(Clone, Copy)]
+pub struct Waits {
+    /// For the first byte of a message.
+    pub idle: Duration,
+    /// From the first byte of a message until it is whole, and from the first of an answer until
+    /// the connection is parted from or says more.
+    pub patience: Duration,
+}
+
+impl Waits {
+    /// How long a connection has its turn: so many times as long as a pause and a message may take.
+    pub(crate) fn turn(self) -> Duration
+        ensures { as_nanos result ≡
+            min (min (as_nanos self.idle + as_nanos self.patience) max_nanos * 5) max_nanos }
+    {
+        self.idle.saturating_add(self.patience).saturating_mul(TURN)
+    }
+}
+
+/// The earlier of two moments.
+pub(crate) fn earlier(one: Duration, other: Duration) -> Duration
+    ensures { as_nanos result ≡ min (as_nanos one) (as_nanos other) }
+{
+    if one.saturating_sub(other).is_zero() {
+        one
+    } else {
+        other
+    }
+}
+
+/// How long it is until a moment of a clock: none where it has come, or where the clock can't be
+/// read.
+pub(crate) fn time_until<C: Clock>(clock: &C, moment: Duration) -> Option<Duration>
+    ensures { IfSome result (λ left. (0 < as_nanos left) × (as_nanos left ≤ as_nanos moment)) }
+{
+    let now = clock.monotonic().ok()?;
+    let left = moment.saturating_sub(now);
+    if left.is_zero() { None } else { Some(left) }
+}

@@ -1,0 +1,2 @@
+-- what was found is told of the file
+mod ExaminedLaws

@@ -1,0 +1,75 @@
+-- What is told of a file: how much its room has, or what is wrong with it.
+use Rattle.std.specs.Prelude.{List, Some, ◌≡◌}
+use Rattle.sqlite.specs.Effect.{Database}
+use Rattle.sqlite_trees.specs.Tree.{Trees}
+use Rattle.room_place.specs.Plans.{Layout}
+use Rattle.room_place.specs.declared.plans.Area.{Area}
+use Rattle.room_types.specs.declared.fleet.Terminal.{Terminal}
+use Rattle.room_types.specs.declared.slices.DivisionRows.{DivisionRows}
+use Rattle.room_model.specs.Enrol.{AreTerminals}
+use Rattle.room_model.specs.Slices.{room_of}
+use Rattle.room_model.specs.WellFormed.{IsWellFormed}
+use Rattle.room_store_check.specs.Faults.{first_disagreement}
+use Rattle.room_store_check.specs.Misfits.{IsMisfit}
+use Rattle.room_store_check.specs.Summaries.{summary_of}
+use Rattle.room_store_check.specs.Wrong.{IsWrong}
+use Rattle.room_store_check.specs.declared.disagreements.Disagreement.{Disagreement}
+use Rattle.room_store_check.specs.declared.disagreements.TerminalFault.{TerminalFault}
+use Rattle.room_store_check.specs.declared.summaries.Summary.{Summary}
+use Rattle.room_tables_schema.specs.Versions.{HasTables}
+use Rattle.room_tables.specs.Stands.{Stands}
+use Rattle.room_store_writes.specs.Houses.{house_of}
+use Rattle.room_store_opening.specs.Opening.{HoldsRoom, IsOldRoom}
+use Rattle.room_store_examining.specs.declared.examining.Wrong.{Wrong}
+use Rattle.room_store_examining.specs.declared.examining.Wrong.TheVariants as wrong
+use Rattle.room_store_opening.specs.declared.taking.TakeFault.{TakeFault}
+use Rattle.room_store_opening.specs.declared.taking.TakeFault.TheVariants as fault
+
+-- how a fault of reading is told
+abbrev pub wrong_of : TakeFault → Wrong
+wrong_of fault.NotARoom = wrong.NoPlan
+wrong_of fault.Memory = wrong.Memory
+wrong_of fault.Storage = wrong.Storage
+
+-- The tables stand for this plan, and for some rows and terminals of which this holds.
+pub record HoldsRows (trees : Trees) (plan : Layout) (Says : DivisionRows → List Terminal → Type 0) : Type 0 where
+  pub rows : DivisionRows
+  pub terminals : List Terminal
+  pub stands : Stands trees (house_of plan terminals) (room_of plan.areas rows)
+  pub says : Says rows terminals
+
+-- these are a well-formed room with terminals that fit it, of which there is so much
+abbrev pub IsAmount : List Area → Summary → DivisionRows → List Terminal → Type 0
+IsAmount plan summary rows terminals =
+    IsWellFormed (room_of plan rows)
+    × AreTerminals (room_of plan rows) terminals
+    × (summary ≡ summary_of plan rows terminals)
+
+-- The tables hold a room of this plan that has so much.
+abbrev pub IsSummaryOf : Trees → Layout → Summary → Type 0
+IsSummaryOf trees plan summary = HoldsRows trees plan (IsAmount plan.areas summary)
+
+-- they disagree in this, and in nothing before it
+abbrev pub DisagreeIn : List Area → DivisionRows → Disagreement → Type 0
+DisagreeIn plan rows x = IsWrong (room_of plan rows) x × (first_disagreement plan rows ≡ Some x)
+
+-- they are a well-formed room, and the terminals don't fit it, for this
+abbrev pub MisfitFor : List Area → DivisionRows → List Terminal → TerminalFault → Type 0
+MisfitFor plan rows terminals x = IsWellFormed (room_of plan rows) × IsMisfit (room_of plan rows) terminals x
+
+-- what is wrong with rows and terminals that were read
+abbrev pub Weighs : List Area → DivisionRows → List Terminal → Wrong → Type 0
+Weighs plan rows terminals (wrong.Rows x) = DisagreeIn plan rows x
+Weighs plan rows terminals (wrong.Terminals x) = MisfitFor plan rows terminals x
+Weighs plan rows terminals wrong.Memory = Unit {0}
+Weighs plan rows terminals other = ⊥
+
+-- What is told to be wrong holds of the file.
+abbrev pub Explains : Database → Wrong → Type 0
+Explains now wrong.OldRoom = IsOldRoom now
+Explains now wrong.Tables = ¬ HasTables now.schema
+Explains now wrong.NoPlan = ¬ HoldsRoom now.trees
+Explains now (wrong.Rows x) = (plan : Layout) × HoldsRows now.trees plan (λ rows terminals. DisagreeIn plan.areas rows x)
+Explains now (wrong.Terminals x) = (plan : Layout) × HoldsRows now.trees plan (λ rows terminals. MisfitFor plan.areas rows terminals x)
+Explains now wrong.Memory = Unit {0}
+Explains now wrong.Storage = Unit {0}

@@ -1,0 +1,2 @@
+-- what is told of a file
+pub mod Examined

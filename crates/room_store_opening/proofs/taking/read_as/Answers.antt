@@ -1,0 +1,44 @@
+use Rattle.std.proofs.Common.{ap, arith, subst, sym, ◌∙◌}
+use Rattle.std.proofs.lemmas.Result.{IfErr-weaker}
+use Rattle.sqlite.specs.Effect.{Database}
+use Rattle.sqlite.specs.Held.{state}
+use Rattle.sqlite.specs.State.{HasCleanDisk}
+use Rattle.room_model.specs.Slices.{room_of}
+use Rattle.room_tables.proofs.RoomReads.{kept}
+use Rattle.room_tables_sql.proofs.WriteLaws.{commits_more}
+use Rattle.room_store_writes.proofs.CommitLaws.{ok_then}
+use Rattle.room_store_writes.specs.Houses.{house_of}
+use Rattle.room_store_opening.proofs.TakeLaws.{becomes_holds, may_write_on, ok_holds, reads_commit}
+use Rattle.room_store_opening.specs.Opening.{Becomes}
+use Rattle.room_store_opening.proofs.taking.read_as.Goals as goal
+
+pub returns-clause-stands : goal.returns-clause-stands
+returns-clause-stands g c clean =
+    let mid = state g.S.Store c.make_lacking.new.tx.conn.now in
+    ok_holds c.read_whole.result _ _ _ (c.read_whole.ensures.reads.ok clean) (c.read_whole.ensures.stands clean)
+    (λ x same stands. kept mid (state g.S.Store c.read_whole.new.tx.conn.now) same (house_of x.house.plan x.house.terminals.items) (room_of x.house.plan.areas x.rows) stands)
+
+pub returns-clause-becomes : goal.returns-clause-becomes
+returns-clause-becomes g c clean =
+    let old = state g.S.Store c.args.tx.now.conn.now in
+    let early : HasCleanDisk (state g.S.Store c.make_lacking.new.tx.conn.now) = omega (arith, c.read_whole.ensures.reads.survives.clean) in
+    ok_then c.read_whole.result _ _ (λ same. subst (λ (db : Database). Becomes c.args.tables old.now.trees db.trees) (sym same.0.now_is) (c.in_ok-make_lacking.ensures.becomes early)) (c.read_whole.ensures.reads.ok clean)
+
+pub returns-clause-is_open : goal.returns-clause-is_open
+returns-clause-is_open g c clean =
+    let early : HasCleanDisk (state g.S.Store c.make_lacking.new.tx.conn.now) = omega (arith, c.read_whole.ensures.reads.survives.clean) in
+    ok_then c.read_whole.result _ _ (λ same. (c.make_lacking.ensures.commits.kept early).was_open same.0.was_open) (c.read_whole.ensures.reads.ok clean)
+
+pub returns-clause-inside : goal.returns-clause-inside
+returns-clause-inside g c =
+    may_write_on g.S.Store c.make_lacking.new.tx.conn.now c.read_whole.new.tx.conn.now c.read_whole.result c.in_ok-make_lacking.ensures.inside c.read_whole.ensures.reads
+
+pub returns-clause-no_room : goal.returns-clause-no_room
+returns-clause-no_room g c clean =
+    let old = state g.S.Store c.args.tx.now.conn.now in
+    let mid = state g.S.Store c.make_lacking.new.tx.conn.now in
+    let early : HasCleanDisk mid = omega (arith, c.read_whole.ensures.reads.survives.clean) in
+    IfErr-weaker c.read_whole.result _ _ (λ e none is holds. none is (becomes_holds c.args.tables old.now.trees mid.now.trees (c.in_ok-make_lacking.ensures.becomes early) holds)) (c.read_whole.ensures.no_room clean)
+
+pub returns-clause-commits : goal.returns-clause-commits
+returns-clause-commits g c = commits_more c.make_lacking.ensures.commits (reads_commit c.read_whole.result c.read_whole.ensures.reads)

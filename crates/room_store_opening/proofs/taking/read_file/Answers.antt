@@ -1,0 +1,49 @@
+use Rattle.std.proofs.Common.{arith, rules, ◌≡◌}
+use Rattle.std.specs.Prelude.{IfErr, IfOk}
+use Rattle.sqlite.specs.Held.{state}
+use Rattle.sqlite.specs.State.{HasCleanDisk}
+use Rattle.sqlite.proofs.Callers.{survives_begin}
+use Rattle.room_model.specs.Slices.{room_of}
+use Rattle.room_tables_sql.proofs.ReadLaws.{still}
+use Rattle.room_store_writes.proofs.CommitLaws.{undone_leaves}
+use Rattle.room_store_writes.specs.Houses.{house_of}
+use Rattle.room_store_opening.proofs.TakeLaws.{becomes_back, ok_holds}
+use Rattle.room_store_opening.specs.Opening.{HoldsBy, StandsBy, WritesNothing}
+use Rattle.room_store_opening.specs.declared.taking.TakeFault.TheVariants.{NotARoom}
+use Rattle.room_store_opening.proofs.taking.read_file.Goals as goal
+
+pub returns-clause-stands : goal.returns-clause-stands
+returns-clause-stands g c =
+    let old = state g.S.Store c.args.conn.now in
+    let last = state g.S.Store c.read_as-found.new.tx.conn.now in
+    let end = state g.S.Store c.rollback.new.self.0 in
+    let begun = c.transaction-tx.ensures.begun in
+    let all : HasCleanDisk end → IfOk c.read_as-found.result (λ x. StandsBy c.args.tables old.now.trees (house_of x.house.plan x.house.terminals.items) (room_of x.house.plan.areas x.rows)) = λ clean.
+    let early : HasCleanDisk last = omega (arith, c.rollback.ensures.survives.clean) in
+    ok_holds c.read_as-found.result _ _ _ (rw begun at c.read_as-found.ensures.becomes early) (c.read_as-found.ensures.stands early) (λ x becomes stands. becomes_back c.args.tables old.now.trees last.now.trees becomes _ _ stands) in
+    search rules
+
+pub returns-clause-no_room : goal.returns-clause-no_room
+returns-clause-no_room g c =
+    let old = state g.S.Store c.args.conn.now in
+    let last = state g.S.Store c.read_as-found.new.tx.conn.now in
+    let end = state g.S.Store c.rollback.new.self.0 in
+    let begun = c.transaction-tx.ensures.begun in
+    let all : HasCleanDisk end → IfErr c.read_as-found.result (λ e. e ≡ NotARoom → ¬ HoldsBy c.args.tables old.now.trees) = λ clean.
+    let early : HasCleanDisk last = omega (arith, c.rollback.ensures.survives.clean) in
+    rw begun at c.read_as-found.ensures.no_room early in
+    search rules
+
+pub returns-clause-nothing : goal.returns-clause-nothing
+returns-clause-nothing g c =
+    let old = c.args.conn.now in
+    let last = c.read_as-found.new.tx.conn.now in
+    let end = c.rollback.new.self.0 in
+    let begun = c.transaction-tx.ensures.begun in
+    let all : WritesNothing (state g.S.Store old) (state g.S.Store end) = record {
+      left = λ clean.
+          let early : HasCleanDisk (state g.S.Store last) = omega (arith, c.rollback.ensures.survives.clean) in
+          undone_leaves g.S.Store old last end (rw begun at c.read_as-found.ensures.commits.kept early) (c.rollback.ensures.undone clean) c.requires.committed;
+      survives = still (survives_begin g.S.Store old (state g.S.Store last) (λ _. ⊥) (rw begun at c.read_as-found.ensures.commits.survives)) c.rollback.ensures.survives;
+    } in
+    search rules

@@ -1,0 +1,405 @@
+//! A file's tables taken as a room: what they lack is made, all is read and judged, in one
+//! transaction. It is committed where they hold a well-formed room, and undone where they don't, or
+//! where nothing lacked.
+ghost use Rattle.std.specs.Prelude.{◌≡◌, ◌↔◌, Err, Ok, cond, false, IsOk, IsTrue, IfErr, IfOk, OnErr, OnOk};
+ghost use Rattle.sqlite.specs.Held.{state};
+ghost use Rattle.sqlite.specs.State.{HasCleanDisk, IsRolledBack, Shows, Survives};
+ghost use Rattle.room_tables_sql.specs.Outcomes.{CommitsNothing};
+ghost use Rattle.room_model.specs.Enrol.{AreTerminals};
+ghost use Rattle.room_model.specs.Slices.{room_of};
+ghost use Rattle.room_model.specs.WellFormed.{IsWellFormed};
+ghost use Rattle.room_tables_schema.specs.Connections.{MayWrite};
+ghost use Rattle.room_tables_schema.specs.Schema.{first_schema, first_tables_schema, room_schema};
+ghost use Rattle.room_tables.specs.Stands.{Stands};
+ghost use Rattle.room_store_writes.specs.Houses.{house_of};
+ghost use Rattle.room_store_writes.specs.Writing.{Leaves};
+ghost use Rattle.room_store_opening.specs.Opening.{
+  Becomes,
+  HoldsBy,
+  HoldsRoom,
+  IsMoved,
+  IsPlanOf,
+  MayBecome,
+  StandsBy,
+  Takes,
+  WritesNothing,
+  schema_of,
+};
+ghost use Rattle.room_store_opening.specs.declared.taking.TakeFault.TheVariants.{Memory, NotARoom};
+ghost use Rattle.room_store_opening.specs.declared.taking.Tables.TheVariants.{Whole};
+
+use crate::opening::is_room_of;
+use crate::whole::{RoomFile, read_whole};
+use room_place::plans::Plan;
+use room_store_check::rooms::is_well_formed;
+use room_store_check::terminals::do_terminals_fit;
+use room_tables::meta::tell_version;
+use room_tables_rows::meta::VERSION;
+use room_tables_schema::faults::Fault;
+use room_tables_schema::making::{make_indexes, make_last};
+use sqlite::{Alter, Connection, Transaction};
+use std::alloc::Global;
+
+/// Which tables and indexes a file has.
+#[derive(Clone, Copy)]
+pub enum Tables {
+    /// Those of a room.
+    Whole,
+    /// A room's tables without the indexes that find its working rows.
+    Unindexed,
+    /// Those of a room of the first version.
+    First,
+    /// The first version's tables without these indexes.
+    FirstUnindexed,
+}
+
+/// Why a file is not taken as a room.
+#[derive(Clone, Copy)]
+pub enum TakeFault {
+    /// The tables stand for no well-formed room.
+    NotARoom,
+    Memory,
+    Storage,
+}
+
+impl From<Fault> for TakeFault {
+    ghost use Rattle.room_store_opening.specs.Opening.{take_fault};
+
+    ghost from_gives = { λ fault why. why ≡ take_fault fault };
+
+    fn from(fault: Fault) -> TakeFault {
+        match fault {
+            Fault::Memory => TakeFault::Memory,
+            Fault::Storage => TakeFault::Storage,
+        }
+    }
+}
+
+/// The plan of the room that a file's tables hold. A fault leaves the file as it was.
+pub(crate) fn take<S: Alter>(
+    alloc: Global,
+    conn: &mut Connection<S>,
+    tables: Tables,
+) -> Result<Plan, TakeFault>
+    requires tables { (state S.Store conn.old).now.schema ≡ schema_of tables }
+    requires outside { conn.old.in_transaction ≡ false }
+    requires committed { IsTrue (state S.Store conn.old).is_open
+        → (state S.Store conn.old).now ≡ (state S.Store conn.old).committed }
+    ensures room { HasCleanDisk (state S.Store conn.new)
+        → IfOk result (IsPlanOf (state S.Store conn.new).now.trees) }
+    ensures takes { HasCleanDisk (state S.Store conn.new)
+        → OnOk result (Takes tables (state S.Store conn.old) (state S.Store conn.new)) }
+    ensures no_room { HasCleanDisk (state S.Store conn.new)
+        → IfErr result (λ e. e ≡ NotARoom → ¬ HoldsBy tables (state S.Store conn.old).now.trees) }
+    ensures leaves { HasCleanDisk (state S.Store conn.new)
+        → OnErr result (Leaves (state S.Store conn.old) (state S.Store conn.new)) }
+    ensures untouched { IfErr result (λ e. e ≡ NotARoom
+        → WritesNothing (state S.Store conn.old) (state S.Store conn.new)) }
+    ensures ended { conn.new.in_transaction ≡ false }
+    ensures survives { Survives (state S.Store conn.old) (state S.Store conn.new)
+        (MayBecome tables (state S.Store conn.old).now.trees) }
+{
+    match tables {
+        Tables::Whole => look_in(alloc, conn, tables),
+        _ => take_in(alloc, conn, tables),
+    }
+}
+
+// The plan of the room that whole tables hold. Nothing is written, not even a commit of nothing,
+// which would write the head of a file that another program kept otherwise.
+fn look_in<S: Alter>(
+    alloc: Global,
+    conn: &mut Connection<S>,
+    tables: Tables,
+) -> Result<Plan, TakeFault>
+    requires whole { tables ≡ Whole }
+    requires tables { (state S.Store conn.old).now.schema ≡ schema_of tables }
+    requires outside { conn.old.in_transaction ≡ false }
+    requires committed { IsTrue (state S.Store conn.old).is_open
+        → (state S.Store conn.old).now ≡ (state S.Store conn.old).committed }
+    ensures room { HasCleanDisk (state S.Store conn.new)
+        → IfOk result (IsPlanOf (state S.Store conn.new).now.trees) }
+    ensures takes { HasCleanDisk (state S.Store conn.new)
+        → OnOk result (Takes tables (state S.Store conn.old) (state S.Store conn.new)) }
+    ensures no_room { HasCleanDisk (state S.Store conn.new)
+        → IfErr result (λ e. e ≡ NotARoom → ¬ HoldsBy tables (state S.Store conn.old).now.trees) }
+    ensures leaves { HasCleanDisk (state S.Store conn.new)
+        → OnErr result (Leaves (state S.Store conn.old) (state S.Store conn.new)) }
+    ensures untouched { IfErr result (λ e. e ≡ NotARoom
+        → WritesNothing (state S.Store conn.old) (state S.Store conn.new)) }
+    ensures ended { conn.new.in_transaction ≡ false }
+    ensures survives { Survives (state S.Store conn.old) (state S.Store conn.new)
+        (MayBecome tables (state S.Store conn.old).now.trees) }
+{
+    let found = look(alloc, conn);
+    if_open(conn, found)
+}
+
+// The plan of the room that a room's tables hold.
+fn look<S: Alter>(alloc: Global, conn: &mut Connection<S>) -> Result<Plan, TakeFault>
+    requires schema { (state S.Store conn.old).now.schema ≡ room_schema }
+    requires outside { conn.old.in_transaction ≡ false }
+    requires committed { IsTrue (state S.Store conn.old).is_open
+        → (state S.Store conn.old).now ≡ (state S.Store conn.old).committed }
+    ensures room { HasCleanDisk (state S.Store conn.new)
+        → IfOk result (IsPlanOf (state S.Store conn.old).now.trees) }
+    ensures no_room { HasCleanDisk (state S.Store conn.new)
+        → IfErr result (λ e. e ≡ NotARoom → ¬ HoldsRoom (state S.Store conn.old).now.trees) }
+    ensures nothing { WritesNothing (state S.Store conn.old) (state S.Store conn.new) }
+    ensures ended { conn.new.in_transaction ≡ false }
+{
+    match read_file(alloc, conn, Tables::Whole) {
+        Ok(whole) => sound_plan(alloc, whole),
+        Err(fault) => Err(fault),
+    }
+}
+
+/// All that a file's tables hold, read in a transaction that is undone. What they lack is made for
+/// as long.
+pub fn read_file<S: Alter>(
+    alloc: Global,
+    conn: &mut Connection<S>,
+    tables: Tables,
+) -> Result<RoomFile, TakeFault>
+    requires tables { (state S.Store conn.old).now.schema ≡ schema_of tables }
+    requires outside { conn.old.in_transaction ≡ false }
+    requires committed { IsTrue (state S.Store conn.old).is_open
+        → (state S.Store conn.old).now ≡ (state S.Store conn.old).committed }
+    ensures stands { HasCleanDisk (state S.Store conn.new)
+        → IfOk result (λ x. StandsBy tables (state S.Store conn.old).now.trees
+        (house_of x.house.plan x.house.terminals.items) (room_of x.house.plan.areas x.rows)) }
+    ensures no_room { HasCleanDisk (state S.Store conn.new)
+        → IfErr result (λ e. e ≡ NotARoom → ¬ HoldsBy tables (state S.Store conn.old).now.trees) }
+    ensures nothing { WritesNothing (state S.Store conn.old) (state S.Store conn.new) }
+    ensures ended { conn.new.in_transaction ≡ false }
+{
+    let mut tx = conn.transaction();
+    let found = read_as(alloc, &mut tx, tables);
+    tx.rollback();
+    found
+}
+
+// What was found, if the connection is open still: only an open one tells a version.
+fn if_open<S: Alter>(
+    conn: &mut Connection<S>,
+    found: Result<Plan, TakeFault>,
+) -> Result<Plan, TakeFault>
+    requires outside { conn.old.in_transaction ≡ false }
+    ensures plan { IfOk result (λ plan. found ≡ Ok plan) }
+    ensures no_room { IfErr result (λ e. e ≡ NotARoom → found ≡ Err NotARoom) }
+    ensures is_open { HasCleanDisk (state S.Store conn.new)
+        → OnOk result (IsTrue (state S.Store conn.new).is_open) }
+    ensures nothing { WritesNothing (state S.Store conn.old) (state S.Store conn.new) }
+    ensures ended { conn.new.in_transaction ≡ false }
+{
+    let plan = found?;
+    if is_room_of(conn, VERSION)? {
+        Ok(plan)
+    } else {
+        Err(TakeFault::Storage)
+    }
+}
+
+// The plan of the room that tables hold once what they lack is made.
+pub(crate) fn take_in<S: Alter>(
+    alloc: Global,
+    conn: &mut Connection<S>,
+    tables: Tables,
+) -> Result<Plan, TakeFault>
+    requires tables { (state S.Store conn.old).now.schema ≡ schema_of tables }
+    requires outside { conn.old.in_transaction ≡ false }
+    requires committed { IsTrue (state S.Store conn.old).is_open
+        → (state S.Store conn.old).now ≡ (state S.Store conn.old).committed }
+    ensures room { HasCleanDisk (state S.Store conn.new)
+        → IfOk result (IsPlanOf (state S.Store conn.new).now.trees) }
+    ensures takes { HasCleanDisk (state S.Store conn.new)
+        → OnOk result (Takes tables (state S.Store conn.old) (state S.Store conn.new)) }
+    ensures no_room { HasCleanDisk (state S.Store conn.new)
+        → IfErr result (λ e. e ≡ NotARoom → ¬ HoldsBy tables (state S.Store conn.old).now.trees) }
+    ensures leaves { HasCleanDisk (state S.Store conn.new)
+        → OnErr result (Leaves (state S.Store conn.old) (state S.Store conn.new)) }
+    ensures untouched { IfErr result (λ e. e ≡ NotARoom
+        → WritesNothing (state S.Store conn.old) (state S.Store conn.new)) }
+    ensures ended { conn.new.in_transaction ≡ false }
+    ensures survives { Survives (state S.Store conn.old) (state S.Store conn.new)
+        (MayBecome tables (state S.Store conn.old).now.trees) }
+{
+    let mut tx = conn.transaction();
+    let found = find_room(alloc, &mut tx, tables);
+    finish(tx, found)
+}
+
+// Ends the transaction: commits it where a room was found, and undoes it where not.
+fn finish<S: Alter>(
+    tx: Transaction<'_, S>,
+    found: Result<Plan, TakeFault>,
+) -> Result<Plan, TakeFault>
+    requires { HasCleanDisk (state S.Store tx.conn.now)
+        → OnOk found (IsTrue (state S.Store tx.conn.now).in_transaction) }
+    ensures plan { IfOk result (λ plan. found ≡ Ok plan) }
+    ensures no_room { IfErr result (λ e. e ≡ NotARoom → found ≡ Err NotARoom) }
+    ensures ok { HasCleanDisk (state S.Store tx.exit.0.now)
+        → OnOk result (Shows (state S.Store tx.entry.conn.now) (state S.Store tx.exit.0.now)
+        (state S.Store tx.entry.conn.now).now (state S.Store tx.entry.conn.now).now false) }
+    ensures err { HasCleanDisk (state S.Store tx.exit.0.now)
+        → OnErr result (IsRolledBack (state S.Store tx.entry.conn.now)
+        (state S.Store tx.exit.0.now)) }
+    ensures ended { tx.exit.0.now.in_transaction ≡ false }
+    ensures survives { Survives (state S.Store tx.entry.conn.now) (state S.Store tx.exit.0.now)
+        (λ db. IsOk found × (db ≡ (state S.Store tx.entry.conn.now).now.trees)) }
+{
+    match found {
+        Ok(plan) => match tx.commit() {
+            Ok(()) => Ok(plan),
+            Err(error) => Err(TakeFault::from(Fault::from(error))),
+        },
+        Err(fault) => {
+            tx.rollback();
+            Err(fault)
+        }
+    }
+}
+
+// Makes what the tables lack, and finds the room that they hold then.
+fn find_room<S: Alter>(
+    alloc: Global,
+    tx: &mut Transaction<'_, S>,
+    tables: Tables,
+) -> Result<Plan, TakeFault>
+    requires tables { HasCleanDisk (state S.Store tx.old.conn.now)
+        → (state S.Store tx.old.conn.now).now.schema ≡ schema_of tables }
+    requires inside { HasCleanDisk (state S.Store tx.old.conn.now)
+        → IsTrue (state S.Store tx.old.conn.now).in_transaction }
+    ensures room { HasCleanDisk (state S.Store tx.new.conn.now)
+        → IfOk result (IsPlanOf (state S.Store tx.new.conn.now).now.trees) }
+    ensures becomes { HasCleanDisk (state S.Store tx.new.conn.now)
+        → OnOk result (Becomes tables (state S.Store tx.old.conn.now).now.trees
+        (state S.Store tx.new.conn.now).now.trees) }
+    ensures is_open { HasCleanDisk (state S.Store tx.new.conn.now)
+        → OnOk result (IsTrue (state S.Store tx.old.conn.now).is_open) }
+    ensures inside { OnOk result (MayWrite S.Store tx.new.conn.now) }
+    ensures no_room { HasCleanDisk (state S.Store tx.new.conn.now)
+        → IfErr result (λ e. e ≡ NotARoom
+        → ¬ HoldsBy tables (state S.Store tx.old.conn.now).now.trees) }
+    ensures commits { CommitsNothing S.Store tx.old.conn.now tx.new.conn.now }
+    ensures same_reference { tx.new.conn.ghost_name ≡ tx.old.conn.ghost_name }
+{
+    match read_as(alloc, tx, tables) {
+        Ok(whole) => sound_plan(alloc, whole),
+        Err(fault) => Err(fault),
+    }
+}
+
+// Makes what the tables lack, and reads all that they hold then.
+fn read_as<S: Alter>(
+    alloc: Global,
+    tx: &mut Transaction<'_, S>,
+    tables: Tables,
+) -> Result<RoomFile, TakeFault>
+    requires tables { HasCleanDisk (state S.Store tx.old.conn.now)
+        → (state S.Store tx.old.conn.now).now.schema ≡ schema_of tables }
+    requires inside { HasCleanDisk (state S.Store tx.old.conn.now)
+        → IsTrue (state S.Store tx.old.conn.now).in_transaction }
+    ensures stands { HasCleanDisk (state S.Store tx.new.conn.now)
+        → IfOk result (λ x. Stands (state S.Store tx.new.conn.now).now.trees
+        (house_of x.house.plan x.house.terminals.items) (room_of x.house.plan.areas x.rows)) }
+    ensures becomes { HasCleanDisk (state S.Store tx.new.conn.now)
+        → OnOk result (Becomes tables (state S.Store tx.old.conn.now).now.trees
+        (state S.Store tx.new.conn.now).now.trees) }
+    ensures is_open { HasCleanDisk (state S.Store tx.new.conn.now)
+        → OnOk result (IsTrue (state S.Store tx.old.conn.now).is_open) }
+    ensures inside { OnOk result (MayWrite S.Store tx.new.conn.now) }
+    ensures no_room { HasCleanDisk (state S.Store tx.new.conn.now)
+        → IfErr result (λ e. e ≡ NotARoom
+        → ¬ HoldsBy tables (state S.Store tx.old.conn.now).now.trees) }
+    ensures commits { CommitsNothing S.Store tx.old.conn.now tx.new.conn.now }
+    ensures same_reference { tx.new.conn.ghost_name ≡ tx.old.conn.ghost_name }
+{
+    make_lacking(alloc, tx, tables)?;
+    read_whole(alloc, tx)
+}
+
+// Makes what the tables lack of a room's.
+fn make_lacking<S: Alter>(
+    alloc: Global,
+    tx: &mut Transaction<'_, S>,
+    tables: Tables,
+) -> Result<(), Fault>
+    requires tables { HasCleanDisk (state S.Store tx.old.conn.now)
+        → (state S.Store tx.old.conn.now).now.schema ≡ schema_of tables }
+    requires inside { HasCleanDisk (state S.Store tx.old.conn.now)
+        → IsTrue (state S.Store tx.old.conn.now).in_transaction }
+    ensures becomes { HasCleanDisk (state S.Store tx.new.conn.now)
+        → OnOk result (Becomes tables (state S.Store tx.old.conn.now).now.trees
+        (state S.Store tx.new.conn.now).now.trees) }
+    ensures inside { OnOk result (MayWrite S.Store tx.new.conn.now) }
+    ensures commits { CommitsNothing S.Store tx.old.conn.now tx.new.conn.now }
+    ensures same_reference { tx.new.conn.ghost_name ≡ tx.old.conn.ghost_name }
+{
+    match tables {
+        Tables::Whole => Ok(()),
+        Tables::Unindexed => make_indexes(tx),
+        Tables::First => renew(alloc, tx, true),
+        Tables::FirstUnindexed => renew(alloc, tx, false),
+    }
+}
+
+// Makes a room's tables of those of the first version.
+fn renew<S: Alter>(
+    alloc: Global,
+    tx: &mut Transaction<'_, S>,
+    is_indexed: bool,
+) -> Result<(), Fault>
+    requires tables { HasCleanDisk (state S.Store tx.old.conn.now)
+        → (state S.Store tx.old.conn.now).now.schema
+        ≡ cond is_indexed first_schema first_tables_schema }
+    requires inside { HasCleanDisk (state S.Store tx.old.conn.now)
+        → IsTrue (state S.Store tx.old.conn.now).in_transaction }
+    ensures moved { HasCleanDisk (state S.Store tx.new.conn.now)
+        → OnOk result (IsMoved (state S.Store tx.old.conn.now).now.trees
+        (state S.Store tx.new.conn.now).now.trees) }
+    ensures inside { OnOk result (MayWrite S.Store tx.new.conn.now) }
+    ensures commits { CommitsNothing S.Store tx.old.conn.now tx.new.conn.now }
+    ensures same_reference { tx.new.conn.ghost_name ≡ tx.old.conn.ghost_name }
+{
+    make_last(tx, is_indexed)?;
+    tell_version(alloc, tx)
+}
+
+// The plan of a file whose rows make a well-formed room that the terminals fit.
+fn sound_plan(alloc: Global, whole: RoomFile) -> Result<Plan, TakeFault>
+    ensures sound { IfOk result (λ plan. (plan ≡ whole.house.plan)
+        × IsWellFormed (room_of whole.house.plan.areas whole.rows)
+        × AreTerminals (room_of whole.house.plan.areas whole.rows) whole.house.terminals.items) }
+    ensures no_room { IfErr result (λ e. e ≡ NotARoom
+        → ¬ (IsWellFormed (room_of whole.house.plan.areas whole.rows)
+        × AreTerminals (room_of whole.house.plan.areas whole.rows) whole.house.terminals.items)) }
+{
+    let test = is_sound(alloc, &whole);
+    let RoomFile { house, rows } = whole;
+    drop(rows);
+    match test {
+        Ok(true) => Ok(house.plan),
+        Ok(false) => Err(TakeFault::NotARoom),
+        Err(fault) => Err(fault),
+    }
+}
+
+// Whether the rows make a well-formed room that the terminals fit.
+fn is_sound(alloc: Global, whole: &RoomFile) -> Result<bool, TakeFault>
+    ensures test { IfOk result (λ yes. IsTrue yes
+        ↔ (IsWellFormed (room_of whole.now.house.plan.areas whole.now.rows)
+        × AreTerminals
+        (room_of whole.now.house.plan.areas whole.now.rows) whole.now.house.terminals.items)) }
+    ensures memory { IfErr result (λ e. e ≡ Memory) }
+{
+    let plan = &whole.house.plan;
+    let Ok(formed) = is_well_formed(alloc, plan, &whole.rows) else {
+        return Err(TakeFault::Memory);
+    };
+    let Ok(fit) = do_terminals_fit(alloc, plan, &whole.rows, whole.house.terminals.as_slice())
+    else {
+        return Err(TakeFault::Memory);
+    };
+    Ok(formed && fit)
+}

@@ -1,0 +1,394 @@
+"""What a peer does to the others who wait for the room, and what it gets itself: silence, single
+bytes, an answer that nobody reads, requests without a pause, and what follows a last request."""
+# needs: python3 sqlite3
+# builds: dispatch_room
+import contextlib
+import os
+import random
+import resource
+import signal
+import socket
+import stat
+import subprocess
+import time
+
+from room import (PLAN, PROGRAM, TestCase, ask, call, free_port, made, message, read_answer, run,
+                  serving, sql)
+
+LOANS = message('deskone1', 'GET /loans')
+NO_LOANS = (200, '{"loans":[]}')
+CALLED = (200, '{"division":1,"incident":1,"linked":false}')
+TOO_LONG = (413, '{"error":"BodyTooLong","number":32}')
+BAD = (400, '{"error":"BadMessage","number":30}')
+MANY = 1000
+STREAMS = 10_000
+
+
+def connect(port):
+    return socket.create_connection(('127.0.0.1', port), timeout=30)
+
+
+def given(peer):
+    """What a peer gets until its connection ends or is reset."""
+    with contextlib.suppress(ConnectionError):
+        return peer.makefile('rb').read()
+    return b'reset'
+
+
+def answers_of(peer):
+    """The answers that a peer gets until its connection ends."""
+    stream, answers = peer.makefile('rb'), []
+    while answer := read_answer(stream):
+        answers.append(answer)
+    return answers
+
+
+def sends(peer, byte, pause, most):
+    """Sends a byte after each pause; for how many seconds that went well, at most so many."""
+    began = time.monotonic()
+    with contextlib.suppress(ConnectionError):
+        while time.monotonic() - began < most:
+            peer.sendall(byte)
+            time.sleep(pause)
+    return time.monotonic() - began
+
+
+def took(work):
+    """How many seconds it took, and what it gave."""
+    began = time.monotonic()
+    done = work()
+    return time.monotonic() - began, done
+
+
+class ServedTestCase(TestCase):
+    def setUp(self):
+        super().setUp()
+        self.room = made(self.folder / 'room.db')
+
+    def served(self, *words):
+        """The room is served by its own times, where no others are told; gives the port."""
+        words = words or ['--patience', '2']  # what is served without a word is patient
+        port, self.process = self.enterContext(serving(self.room, MANY, *words))
+        return port
+
+    def check_wait(self, what, port, least, most):
+        """Someone else asks, is answered, and waits so many seconds."""
+        seconds, answers = took(lambda: ask(port, LOANS))
+        self.check(f'{what}: the next is answered', answers, [NO_LOANS])
+        self.check(f'{what}: after {seconds:.2f} s', least <= seconds <= most, True)
+
+
+class Waits(ServedTestCase):
+    def test_silent_peers(self):
+        """Each that says nothing takes the idle wait, and no more."""
+        port = self.served()
+        with contextlib.ExitStack() as silent:
+            for _ in range(5):
+                silent.enter_context(connect(port))
+            self.check_wait('five that say nothing', port, 0.9, 6)
+
+    def test_single_bytes(self):
+        """A message has its patience from its first byte, however it drips."""
+        port = self.served('--patience', '1')
+        with connect(port) as peer:
+            seconds = sends(peer, b'G', 0.1, 10)
+        self.check(f'it is let go after {seconds:.2f} s', 0.9 < seconds < 6, True)
+        with connect(port) as peer:
+            peer.sendall(LOANS[:-1])
+            self.check_wait('a message that is not whole', port, 0.9, 6)
+            self.check('it gets no answer', given(peer), b'')
+
+    def test_second_message(self):
+        """A message that begins with the one before has the same patience, from the answer."""
+        port = self.served('--patience', '2', '--idle', '500')
+        with connect(port) as peer:
+            stream = peer.makefile('rb')
+            peer.sendall(LOANS + LOANS[:5])
+            self.check('the first', read_answer(stream), NO_LOANS)
+            time.sleep(1)
+            peer.sendall(LOANS[5:])
+            self.check('the second, after a second', read_answer(stream), NO_LOANS)
+            peer.sendall(LOANS[:5])
+            time.sleep(1)
+            peer.sendall(LOANS[5:])
+            self.check('the third, after another', read_answer(stream), NO_LOANS)
+
+    def test_idle(self):
+        """Between messages a connection is kept as long as it may idle."""
+        for words, pause, kept in [((), 0, True), ((), 0.6, False),
+                                   (('--idle', '2000'), 0.6, True), (('--idle', '20'), 0.2, False)]:
+            port = self.served(*words)
+            with connect(port) as peer:
+                stream = peer.makefile('rb')
+                peer.sendall(LOANS)
+                self.assertEqual(read_answer(stream), NO_LOANS)
+                time.sleep(pause)
+                with contextlib.suppress(ConnectionError):
+                    peer.sendall(LOANS)
+                answer = None
+                with contextlib.suppress(ConnectionError):
+                    answer = read_answer(stream)
+                self.check(f'{words} and a pause of {pause} s', answer, NO_LOANS if kept else None)
+            self.process.kill()
+            self.process.wait(timeout=10)
+
+    def test_answer_that_is_not_read(self):
+        """Who does not read is let go, and gets the same answers on another connection."""
+        port = self.served('--patience', '1')
+        with socket.socket() as peer:
+            peer.setsockopt(socket.SOL_SOCKET, socket.SO_RCVBUF, 4096)
+            peer.settimeout(30)
+            peer.connect(('127.0.0.1', port))
+            began = time.monotonic()
+            with contextlib.suppress(ConnectionError, TimeoutError):
+                peer.sendall(call(1) + 100_000 * message('deskone1', 'GET /points'))
+            seconds = time.monotonic() - began
+            # (until its turn ends answers may find room in the system, and then their patience)
+            self.check(f'it is let go after {seconds:.2f} s', 0.9 < seconds < 10, True)
+        self.check('the call once more', ask(port, call(1)), [CALLED])
+        self.check('its row', sql_of(self.room, self.process), '1\n')
+
+    def test_requests_without_a_pause(self):
+        """A connection has its turn, and ends between messages."""
+        port = self.served('--patience', '1', '--idle', '1000')
+        with connect(port) as busy, busy.makefile('rb') as stream:
+            began, asked, answered = time.monotonic(), 0, 0
+            with contextlib.suppress(ConnectionError):
+                while time.monotonic() - began < 20:
+                    time.sleep(0.001)  # it has 100,000 reads at most, and shall not use them up
+                    busy.sendall(LOANS)
+                    asked += 1
+                    if read_answer(stream) != NO_LOANS:
+                        break
+                    answered += 1
+            seconds = time.monotonic() - began
+        self.check(f'its turn ends after {seconds:.2f} s', 9.9 < seconds < 18, True)
+        self.check('each but the last is answered', asked - answered, 1)
+        self.check_wait('the next', port, 0, 5)
+
+    def test_requests_that_are_never_all_read(self):
+        """Who sends on before it reads has its turn too: a part of a message is always there."""
+        port = self.served('--patience', '1', '--idle', '100')
+        with connect(port) as busy:
+            began, ended = time.monotonic(), False
+            busy.setblocking(False)
+            left = b''
+            while not ended and time.monotonic() - began < 30:
+                left = left or 100 * LOANS
+                with contextlib.suppress(BlockingIOError, InterruptedError):
+                    try:
+                        left = left[busy.send(left):]
+                        ended = busy.recv(65536) == b''
+                    except ConnectionError:
+                        ended = True
+            seconds = time.monotonic() - began
+        self.check(f'its turn ends after {seconds:.2f} s', 5 < seconds < 18, True)
+        self.check_wait('the next', port, 0, 5)
+
+
+def sql_of(room, process):
+    """The calls of a room, once its program has ended."""
+    process.terminate()
+    process.wait(timeout=10)
+    run('times', room, 1, '2026-03-29')
+    return sql(room, 'SELECT count(*) FROM calls')
+
+
+class ClosingAnswers(ServedTestCase):
+    """An answer that closes its connection arrives, whatever its peer still sends."""
+
+    def setUp(self):
+        super().setUp()
+        self.port = free_port()
+        self.start()
+
+    def start(self):
+        words = [PROGRAM, 'serve', self.room, f'127.0.0.1:{self.port}']
+        self.process = self.enterContext(subprocess.Popen(words, stdout=subprocess.PIPE))
+        self.addCleanup(self.process.kill)
+        self.assertEqual(self.process.stdout.readline(), b'serving\n')
+
+    def talk(self, stream, pause=0.0):
+        """Sends a stream whole, and then reads."""
+        with connect(self.port) as peer:
+            with contextlib.suppress(ConnectionError):
+                peer.sendall(stream)
+            time.sleep(pause)
+            return answers_of(peer)
+
+    def test_large_bodies(self):
+        for size in [1025, 100_000, 1_000_000, 10_000_000]:
+            stream = message('deskone1', 'POST /points/1', size * 'b')
+            self.check(f'a body of {size} bytes', self.talk(stream), [TOO_LONG])
+
+    def test_what_follows(self):
+        for count in [1, 100, 10_000]:
+            self.check(f'{count} messages behind one that is refused',
+                       self.talk(b'nonsense\r\n\r\n' + count * LOANS), [BAD])
+            self.check(f'{count} behind one that asks to close',
+                       self.talk(LOANS.replace(b'Host', b'Connection: close\r\nHost')
+                                 + count * LOANS), [NO_LOANS])
+
+    def test_slow_reader(self):
+        stream = message('deskone1', 'POST /points/1', 1_000_000 * 'b')
+        self.check('who reads later', self.talk(stream, 0.5), [TOO_LONG])
+
+    def test_who_sends_on(self):
+        """Bytes that go on without an end are read for a while, and others are served after."""
+        with connect(self.port) as peer:
+            peer.sendall(b'nonsense\r\n\r\n')
+            seconds = sends(peer, b'x', 0.05, 20)
+        self.check(f'it is let go after {seconds:.2f} s', seconds < 3, True)
+        self.check_wait('the next', self.port, 0, 1)
+
+    def test_many(self):
+        """Of many streams no answer is cut."""
+        choose, cut = random.Random(1), []
+        for number in range(STREAMS):
+            stream = b'nonsense\r\n\r\n' + choose.randrange(1, 3000) * b'GET / HTTP/1.1\r\n'
+            try:
+                answers = self.talk(stream)
+            except ConnectionError as error:
+                answers = repr(error)
+            if answers != [BAD]:
+                cut.append((number, answers))
+        self.check(f'of {STREAMS} streams', cut, [])
+
+
+class Descriptors(ServedTestCase):
+    """A program that may open no more files."""
+
+    def limit(self, more):
+        """It may open so many files more than it has open."""
+        names = os.listdir(f'/proc/{self.process.pid}/fd')
+        most = resource.prlimit(self.process.pid, resource.RLIMIT_NOFILE)[1]
+        resource.prlimit(self.process.pid, resource.RLIMIT_NOFILE,
+                         (max(map(int, names)) + 1 + more, most))
+
+    def seconds(self):
+        """The seconds of a processor that the program took so far."""
+        with open(f'/proc/{self.process.pid}/stat') as it:
+            fields = it.read().rsplit(')', 1)[1].split()
+        return (int(fields[11]) + int(fields[12])) / os.sysconf('SC_CLK_TCK')
+
+    def test_none_for_a_connection(self):
+        port = self.served()
+        self.limit(0)
+        with connect(port):
+            time.sleep(0.3)  # a place may have been kept for this one
+        with connect(port) as waits:
+            waits.sendall(LOANS)
+            before = self.seconds()
+            time.sleep(1)
+            spent = self.seconds() - before
+            self.check(f'it does not spin: {spent} s of a processor', spent < 0.1, True)
+            self.limit(8)
+            self.check('who waited is answered', read_answer(waits.makefile('rb')), NO_LOANS)
+        self.check('and who comes then', ask(port, LOANS), [NO_LOANS])
+
+    def test_one_for_a_connection(self):
+        port = self.served()
+        self.limit(1)
+        with connect(port) as peer:
+            self.check('it comes to nothing', given(peer), b'')
+        self.limit(8)
+        self.check('the next', ask(port, LOANS), [NO_LOANS])
+
+
+class Signals(ServedTestCase):
+    def test_held(self):
+        """A program that is held and let go on in the middle of a message goes on with it."""
+        port = self.served('--idle', '5000')
+        with connect(port) as peer:
+            for cut in [0, 1, 20]:
+                peer.sendall(LOANS[:cut])
+                time.sleep(0.05)
+                self.process.send_signal(signal.SIGSTOP)
+                os.waitid(os.P_PID, self.process.pid, os.WSTOPPED)
+                self.process.send_signal(signal.SIGCONT)
+                time.sleep(0.05)
+                peer.sendall(LOANS[cut:])
+                self.check(f'held after {cut} bytes', read_answer(peer.makefile('rb')), NO_LOANS)
+
+    def test_ends(self):
+        """Either signal ends it at once, and what was answered is there."""
+        # What runs in the background may ignore an interrupt, and what it starts ignores it too.
+        before = signal.signal(signal.SIGINT, signal.SIG_DFL)
+        self.addCleanup(signal.signal, signal.SIGINT, before)
+        for number, what in enumerate([signal.SIGTERM, signal.SIGINT], 1):
+            port = self.served()
+            with connect(port) as peer:
+                place = f'TQ3{number:02}800'
+                peer.sendall(call(number, place))
+                self.check(f'{what.name}: a call', read_answer(peer.makefile('rb'))[0], 200)
+                self.process.send_signal(what)
+                self.check(f'{what.name}: its status', self.process.wait(timeout=5), -what)
+                self.check(f'{what.name}: who is served gets no more', given(peer), b'')
+            run('times', self.room, 1, '2026-03-29')
+            self.check(f'{what.name}: the calls', sql(self.room, 'SELECT count(*) FROM calls'),
+                       f'{number}\n')
+
+
+ELSEWHERE = ['0.0.0.0:8080', '[::]:8080', '192.168.1.1:8080', '128.0.0.1:8080', '[::2]:8080',
+             '[::ffff:127.0.0.1]:8080', '126.255.255.255:8080', 'localhost:8080', 'nowhere',
+             '127.0.0.1', '127.0.0.1:65536', '']
+
+
+class Addresses(ServedTestCase):
+    def test_elsewhere(self):
+        """It is told why, and nothing is opened."""
+        missing = self.folder / 'no.db'
+        for address in ELSEWHERE:
+            for room in [self.room, missing]:
+                status, out, told = run('serve', room, address, '--connections', '1')
+                self.check(f'{address} of {room.name}', (status, out), (2, ''))
+                with self.subTest(address):
+                    self.assertIn('an address of this machine alone', told)
+                    self.assertIn('proxy with TLS', told)
+        self.check('no file is made', missing.exists(), False)
+
+    def test_here(self):
+        for family, host, text in [(socket.AF_INET, '127.0.0.1', '127.0.0.1'),
+                                   (socket.AF_INET, '127.1.2.3', '127.1.2.3'),
+                                   (socket.AF_INET6, '::1', '[::1]')]:
+            port = free_port()
+            words = [PROGRAM, 'serve', self.room, f'{text}:{port}']
+            with subprocess.Popen(words, stdout=subprocess.PIPE) as process, \
+                    socket.socket(family) as peer:
+                self.assertEqual(process.stdout.readline(), b'serving\n')
+                peer.settimeout(30)
+                peer.connect((host, port))
+                peer.sendall(LOANS)
+                self.check(text, read_answer(peer.makefile('rb')), NO_LOANS)
+                process.kill()
+
+
+def mode(file):
+    return f'{stat.S_IMODE(os.stat(file).st_mode):o}'
+
+
+class Modes(TestCase):
+    """Who can read a room's file."""
+
+    def setUp(self):
+        super().setUp()
+        self.addCleanup(os.umask, os.umask(0))
+        self.room = self.folder / 'room.db'
+
+    def test_made(self):
+        self.check('init', run('init', self.room, PLAN)[2], '')
+        self.check('the file', mode(self.room), '600')
+        with serving(self.room, 1) as (port, _):
+            ask(port, call(1))
+            self.check('its log', mode(f'{self.room}-wal'), '600')
+
+    def test_open_to_others(self):
+        run('init', self.room, PLAN)
+        for bits in [0o640, 0o620, 0o604, 0o602, 0o666]:
+            self.room.chmod(bits)
+            status, _, told = run('times', self.room, 1, '2026-03-29')
+            self.check(f'{bits:o}: it is told', (status, told.startswith('warning: ')), (0, True))
+            with self.subTest(f'{bits:o}'):
+                self.assertIn(f'chmod 600 {self.room}', told)
+        self.room.chmod(0o600)
+        self.check('its owner alone', run('times', self.room, 1, '2026-03-29')[2], '')
