@@ -138,6 +138,8 @@ TABLES = [
         load("incidents_opened", "INCIDENTS_OPENED", "(from to : ℤ) (d : ℕ)", "λ x. int_le from (pos x.opened) && (int_lt (pos x.opened) to && x.division == d)",
              compared("Ge", "at_least", "opened", "Int from", "at_least-integers (pos x.opened) from"), compared("Lt", "below", "opened", "Int to", "below-integers (pos x.opened) to"),
              equal_by_value("division", "number d", "equal-numbers x.division d")),
+        load("incidents_since", "INCIDENTS_SINCE", "(from : ℤ) (d : ℕ)", "λ x. int_le from (pos x.opened) && x.division == d",
+             compared("Ge", "at_least", "opened", "Int from", "at_least-integers (pos x.opened) from"), equal_by_value("division", "number d", "equal-numbers x.division d")),
     ]),
     Table("calls", "call", "Call", ["x.position", "x.serial"], loads=[incident_rows("calls_of", "CALLS_OF")]),
     Table("vehicles", "vehicle", "Vehicle", ["x.callsign"], loads=[owned("vehicles_held", "VEHICLES_HELD", "vehicle", "holder")]),

@@ -1,7 +1,7 @@
 -- What the statuses of vehicles and what incidents lack imply.
 use Rattle.std.proofs.Common.{◌≡◌, ◌-◌, ℕ, true, false, refl, arith, ◌==◌}
 use Rattle.std.specs.Prelude.{nat_le}
-use Rattle.room_types.specs.Codes.{is_busy, is_free, is_mobilised}
+use Rattle.room_types.specs.Codes.{is_busy, is_free}
 use Rattle.room_types.specs.declared.codes.Status.TheVariants.{AtHospital, AtScene, Available, Leaving, Mobilised, OffDuty, Offered, Returning}
 use Rattle.room_types.specs.declared.codes.Status.{Status}
 
@@ -14,16 +14,6 @@ free_idle Leaving e = cc
 free_idle AtHospital e = cc
 free_idle Returning e = refl
 free_idle Offered e = refl
-
-pub mobilised_busy : (s : Status) → is_mobilised s ≡ true → is_busy s ≡ true
-mobilised_busy OffDuty e = cc
-mobilised_busy Available e = cc
-mobilised_busy Mobilised e = refl
-mobilised_busy AtScene e = refl
-mobilised_busy Leaving e = refl
-mobilised_busy AtHospital e = refl
-mobilised_busy Returning e = cc
-mobilised_busy Offered e = cc
 
 -- nothing is lacking where as many were got
 pub met : (need got lack : ℕ) → lack ≡ need - got → (lack == 0) ≡ nat_le need got

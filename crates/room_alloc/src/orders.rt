@@ -1,15 +1,14 @@
 //! A vehicle's order for an incident, and its end by the desk.
-ghost use Rattle.std.specs.Prelude.{◌≡◌, ◌+◌, ℕ, List, IfOk, None, Some, false, true, nat_le, if◌then◌else◌};
+ghost use Rattle.std.specs.Prelude.{◌≡◌, ◌+◌, ℕ, List, IfOk, None, Some, false, true, nat_le, if◌then◌else◌, option_copied};
 ghost use Rattle.room_place.specs.declared.plans.Area.{Area};
-ghost use Rattle.room_types.specs.Codes.{is_mobilised};
 ghost use Rattle.room_types.specs.Needs.{need_of};
 ghost use Rattle.room_types.specs.Slices.{assignment_at, vehicle_at};
 ghost use Rattle.room_types.specs.declared.codes.Status.TheVariants as status;
 ghost use Rattle.room_model.specs.Moments.{first_of, number_limit};
 ghost use Rattle.room_model.specs.Queries.{open_turn, served};
 ghost use Rattle.room_model.specs.Slices.{room_of};
-ghost use Rattle.room_model.specs.Vehicles.{assignment_row, mobilise, stand_down, turn_row};
-ghost use Rattle.room_alloc.specs.Orders.{as_mobilised, as_stood_down};
+ghost use Rattle.room_model.specs.Vehicles.{assignment_row, mobilise, stand_down, turn_row, turn_stood_down};
+ghost use Rattle.room_alloc.specs.Orders.{as_mobilised, as_stood_down, put_turn};
 
 use crate::held::held;
 use room_incident::active::active;
@@ -132,8 +131,8 @@ fn order_for(incident: &Incident, vehicle: &Vehicle, order: Number, at: Moment) 
     }
 }
 
-/// A mobilised vehicle returning, and its turn ended as stood down. The caller drops its
-/// assignment.
+/// A mobilised vehicle returning, and its open turn ended as stood down, where the slice has one.
+/// The caller drops its assignment.
 ///
 /// Refused as `held` refuses, then as `WrongStatus` where the vehicle is not mobilised.
 #[tactic(auto, unfolding(room_model::specs::Vehicles::stand_down, room_model::specs::Decisions::refuse_if))]
@@ -141,7 +140,7 @@ pub fn stand_down(
     slice: &Slice,
     callsign: &Callsign,
     at: Moment,
-) -> Result<(Vehicle, Turn), Refusal>
+) -> Result<(Vehicle, Option<Turn>), Refusal>
     ensures { (plan : List Area)
         → as_stood_down result ≡ stand_down slice.now.division callsign.now at
         (room_of plan slice.now.rows) }
@@ -150,12 +149,7 @@ pub fn stand_down(
     if !vehicle.status.is_mobilised() {
         return Err(Refusal::WrongStatus);
     }
-    let turn = open_turn(slice, callsign, vehicle);
-    let ended = Turn {
-        ended: Some(at),
-        stood_down: true,
-        ..*turn
-    };
+    let ended = ended(open_turn(slice, callsign, vehicle), at);
     let returning = Vehicle {
         status: Status::Returning,
         ..*vehicle
@@ -163,17 +157,27 @@ pub fn stand_down(
     Ok((returning, ended))
 }
 
-// The open turn, which a mobilised vehicle has.
-fn open_turn<'a>(slice: &'a Slice, callsign: &Callsign, vehicle: &Vehicle) -> &'a Turn
-    requires there { vehicle_at callsign.now slice.now.rows ≡ Some vehicle.now }
-    requires mobilised { is_mobilised vehicle.now.status ≡ true }
-    ensures { (plan : List Area) → open_turn slice.now.division callsign.now
-        (room_of plan slice.now.rows) ≡ Some result.now }
+fn ended(turn: Option<&Turn>, at: Moment) -> Option<Turn>
+    ensures { put_turn result ≡ turn_stood_down at (option_copied turn.entry) }
+{
+    match turn {
+        Some(turn) => Some(Turn {
+            ended: Some(at),
+            stood_down: true,
+            ..*turn
+        }),
+        None => None,
+    }
+}
+
+// The vehicle's open turn.
+fn open_turn<'a>(slice: &'a Slice, callsign: &Callsign, vehicle: &Vehicle) -> Option<&'a Turn>
+    requires { vehicle_at callsign.now slice.now.rows ≡ Some vehicle.now }
+    ensures { (plan : List Area)
+        → option_copied result ≡ open_turn slice.now.division callsign.now
+        (room_of plan slice.now.rows) }
 {
     // It also tells that the turns are in order, so that the first open one is this one.
     let _in_order = slice.rows.turns.as_slice();
-    match slice.rows.open_turn(vehicle) {
-        Some(turn) => turn,
-        None => unreachable!(),
-    }
+    slice.rows.open_turn(vehicle)
 }

@@ -18,9 +18,9 @@ abbrev pub Decides : Verdict → Result Decision Refusal → Type 0
 Decides wanted (Ok x) = wanted ≡ Ok x
 Decides wanted (Err e) = (e ≡ refusal.Memory) ⊎ (wanted ≡ Err e)
 
--- The rows are those of division d's that the ask may read, or all of them.
-abbrev pub AreRead : ℕ → Ask → Room → Room → Type 0
-AreRead d a rows r = (rows ≡ working d a r) ⊎ (rows ≡ own d r)
+-- The rows are those of division d's that the ask reads at this moment, or all of them.
+abbrev pub AreRead : ℕ → Ask → ℕ → Room → Room → Type 0
+AreRead d a at rows r = (rows ≡ working d a at r) ⊎ (rows ≡ own d r)
 
 -- The report that a crew's ask reads has this number. An order reads none, so that any number serves.
 abbrev pub IsInHand : Ask → ℕ → Type 0

@@ -25,14 +25,14 @@ use room_types::tables::Call;
 use std::alloc::Global;
 
 /// A call that the room has not kept, placed in the slice's division (the caller sees to both).
-/// Where the slice's rows are those that the call may read, or the division's whole share, the
+/// Where the slice's rows are those that the call reads, or the division's whole share, the
 /// decision is the room's, in every well-formed room.
 pub fn decide_call(alloc: Global, slice: &Slice, new: &NewCall) -> Result<Decision, Refusal>
     ensures { (r : Room) (f : CallForm) → IsWellFormed r
         → new.now ≡ new_call new.now.position f new.now.at
         → kept_call new.now.position f.serial r ≡ None
         → division_of r.plan f.place ≡ Some slice.now.division
-        → AreRead slice.now.division (CallAsk f) (room_of r.plan slice.now.rows) r
+        → AreRead slice.now.division (CallAsk f) new.now.at (room_of r.plan slice.now.rows) r
         → Decides (take_call new.now r) result }
 {
     match take_call(slice, new) {

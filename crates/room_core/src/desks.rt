@@ -16,8 +16,8 @@ use room_types::slices::Slice;
 use std::alloc::Global;
 
 /// What a division's desk asks. In every well-formed room of this plan the decision is the room's,
-/// where the slice's rows are those that the request may read, and where they are the division's
-/// whole share. A request that is for no desk is refused as `WrongRole`.
+/// where the slice's rows are those that the request reads, and where they are the division's whole
+/// share. A request that is for no desk is refused as `WrongRole`.
 pub fn decide_desk(
     alloc: Global,
     plan: &Plan,
@@ -26,7 +26,7 @@ pub fn decide_desk(
     at: Moment,
 ) -> Result<Decision, Refusal>
     ensures { (r : Room) → IsWellFormed r → r.plan ≡ plan.now.areas
-        → AreRead slice.now.division ask.now (room_of r.plan slice.now.rows) r
+        → AreRead slice.now.division ask.now at (room_of r.plan slice.now.rows) r
         → Decides (desk_asks slice.now.division ask.now at r) result }
 {
     decide(alloc, plan, slice, ask, at)

@@ -1,9 +1,12 @@
 //! What a desk asks about the vehicles that it holds, decided on its division's rows.
-ghost use Rattle.std.specs.Prelude.{◌≡◌, List};
+ghost use Rattle.std.specs.Prelude.{◌≡◌, List, Ok, IfErr, IfOk};
 ghost use Rattle.room_place.specs.declared.plans.Area.{Area};
+ghost use Rattle.room_types.specs.declared.refusals.Refusal.TheVariants.{Memory};
+ghost use Rattle.room_model.specs.Decisions.{done};
 ghost use Rattle.room_model.specs.Points.{set_point, show_points};
 ghost use Rattle.room_model.specs.Slices.{room_of};
 ghost use Rattle.room_model.specs.Vehicles.{duty, off, show_vehicles, stand_down, standby};
+ghost use Rattle.room_alloc.specs.Orders.{put_turn};
 ghost use Rattle.room_fleet.specs.Duty.{as_decided};
 ghost use Rattle.room_core.specs.Deciding.{Decides};
 
@@ -20,7 +23,7 @@ use room_types::changes::Change;
 use room_types::numbers::{Cover, Moment, PointNumber};
 use room_types::refusals::Refusal;
 use room_types::slices::Slice;
-use room_types::tables::Vehicle;
+use room_types::tables::{Turn, Vehicle};
 use std::alloc::Global;
 
 #[tactic(auto, unfolding(room_model::specs::Vehicles::show_vehicles))]
@@ -44,11 +47,20 @@ pub(crate) fn stand_down(
         (stand_down slice.now.division callsign.now at (room_of plan slice.now.rows)) result }
 {
     match orders::stand_down(slice, callsign, at) {
-        Ok((vehicle, turn)) => Decision::done(alloc)
-            .with(Change::PutTurn(turn))?
+        Ok((vehicle, turn)) => put_turn(alloc, turn)?
             .with(Change::DropAssignment(vehicle.callsign))?
             .with(Change::PutVehicle(vehicle)),
         Err(refusal) => Err(refusal),
+    }
+}
+
+fn put_turn(alloc: Global, turn: Option<Turn>) -> Result<Decision, Refusal>
+    ensures ok { IfOk result (λ x. Ok x ≡ done (put_turn turn)) }
+    ensures memory { IfErr result (λ e. e ≡ Memory) }
+{
+    match turn {
+        Some(turn) => Decision::done(alloc).with(Change::PutTurn(turn)),
+        None => Ok(Decision::done(alloc)),
     }
 }
 

@@ -1,9 +1,9 @@
 -- A call, and what a share becomes by it.
-use Rattle.std.proofs.Common.{ap, eqb-true, inl, inr, sym, ◌∙◌}
+use Rattle.std.proofs.Common.{ap, eq-eqb, eqb-true, inl, inr, sym, ◌∙◌}
 use Rattle.std.proofs.lemmas.Cmp.{nat_cmp_total}
 use Rattle.std.proofs.lemmas.Map.Lookups.{exact_unsigned}
 use Rattle.std.specs.Ordering.{nat_cmp}
-use Rattle.std.specs.Prelude.{Bool, List, None, Option, Some, [], cond, false, nat_le, refl, true, ℕ, ◌&&◌, ◌+◌, ◌==◌, ◌||◌, ◌∷◌, ◌≡◌, ◌⊎◌}
+use Rattle.std.specs.Prelude.{Bool, List, None, Option, Some, [], cond, false, nat_le, refl, true, ℕ, ◌&&◌, ◌+◌, ◌==◌, ◌∷◌, ◌≡◌, ◌⊎◌}
 use Rattle.room_place.specs.Choice.{Among, least, least_from}
 use Rattle.room_place.specs.Places.{distance}
 use Rattle.room_place.specs.declared.places.Place.{Place}
@@ -27,20 +27,20 @@ use Rattle.room_model.proofs.Others.{apart_from, incident_foreign, none_own}
 use Rattle.room_model.proofs.Changes.{all_plain, call_in_all, plain_allowed}
 use Rattle.room_model.proofs.DecisionLaws.{by_refuse}
 use Rattle.room_model.proofs.OwnChanges.{own_apply_own}
-use Rattle.room_model.proofs.OwnDesk.{call_own, last_number_own}
-use Rattle.room_model.proofs.Tests.{among_filter, filter_filter, left_true, row_key}
+use Rattle.room_model.proofs.OwnDesk.{call_own}
+use Rattle.room_model.proofs.Tests.{among_filter, both_true, filter_filter, is_equal, keep_row, left_true, right_true, row_key}
 use Rattle.room_model.specs.Alone.{share_by, told_by}
 use Rattle.room_model.specs.Calls.{call_in, call_kept, call_somewhere, call_taken, new_call, new_incident, take_call, with_call}
 use Rattle.room_types.specs.Codes.{is_active}
 use Rattle.room_model.specs.Crossing.{CallIn, cross_call, cross_position, is_division_of}
 use Rattle.room_model.specs.Decisions.{changes_of}
-use Rattle.room_model.specs.Moments.{age, number_limit}
+use Rattle.room_model.specs.Moments.{number_limit}
 use Rattle.room_model.specs.Queries.{is_candidate, is_nearer, kept_call, last_number, link_target}
 use Rattle.room_model.specs.Room.{IsInOrder, Room, apply}
 use Rattle.room_model.specs.Shares.{IsPlain, own}
 use Rattle.room_model.specs.Step.{position_asks}
 use Rattle.room_model.specs.WellFormed.{IsWellFormed}
-use Rattle.room_model.specs.Working.{names_incident, names_moment, reads_incident, reads_number, working}
+use Rattle.room_model.specs.Working.{reads_calls, reads_division, reads_incident, reads_number, working}
 use Rattle.room_types.specs.declared.asks.Ask.TheVariants as ask
 
 -- the least of a list is one of it
@@ -87,28 +87,25 @@ module _ (d h : ℕ) (r : Room) (w : IsWellFormed r) (apart : h == d ≡ false) 
   unfolding call_in
   call_leaves = own_foreign d r (changes_of (call_in h new r)) w.order (taken_leaves (link_target h new.place new.at r) (last_number h r) refl refl)
 
--- ---- by the working rows
-both_weaker : (a b c x : Bool) → a && (b && c) ≡ true → a && (b || x) ≡ true
-both_weaker true true c x h = refl
-both_weaker true false c x h = cc
-both_weaker false b c x h = cc
-
-module _ (d : ℕ) (r : Room) (order : IsInOrder r) (a : Ask) where
-  target_working : (p : Place) (at : ℕ) → link_target d p at (working d a r) ≡ link_target d p at r
+-- ---- by the rows that it reads
+module _ (d : ℕ) (r : Room) (order : IsInOrder r) (f : CallForm) (at : ℕ) where
+  target_read : (p : Place) → link_target d p at (working d (ask.Call f) at r) ≡ link_target d p at r
   unfolding link_target
-  target_working p at = ap (least (is_nearer p)) (filter_filter (is_candidate d p at) (λ i. i.division == d && reads_incident a i) r.incidents (λ i e. both_weaker (i.division == d) (is_active i.state) (nat_le (distance i.place p) 200 && nat_le (age at i.opened) 900) (names_incident a i.number || names_moment a i.opened) e))
+  target_read p = ap (least (is_nearer p)) (filter_filter (is_candidate d p at) (λ i. i.division == d && reads_incident (ask.Call f) at i) r.incidents (λ i e. both_true _ _ (left_true _ _ e) (right_true (nat_le (distance i.place p) 200) _ (right_true (is_active i.state) _ (right_true (i.division == d) _ e)))))
 
-  number_working : last_number d (working d a r) ≡ last_number d r
+  number_read : last_number d (working d (ask.Call f) at r) ≡ last_number d r
   unfolding last_number
-  number_working = last_number_own d r order
+  number_read =
+      row_filter nat_cmp division_key nat_cmp_total (λ x. owns_division d x && reads_division (ask.Call f)) r.divisions d order.divisions
+      ∙ keep_row nat_cmp division_key (λ x. owns_division d x && reads_division (ask.Call f)) r.divisions d (λ x h. both_true _ _ (eq-eqb x.number d (sym (exact_unsigned d x.number (is_equal _ h)))) refl)
 
-  kept_working : (p s : ℕ) → kept_call p s r ≡ None → kept_call p s (working d a r) ≡ None
+  kept_read : (p s : ℕ) → kept_call p s r ≡ None → kept_call p s (working d (ask.Call f) at r) ≡ None
   unfolding kept_call
-  kept_working p s e = row_filter pair_cmp call_key pairs_total _ r.calls (p, s) order.calls ∙ ap (keep (λ c. c.division == d && reads_number d a r c.incident)) e
+  kept_read p s e = row_filter pair_cmp call_key pairs_total _ r.calls (p, s) order.calls ∙ ap (keep (λ c. c.division == d && (reads_calls (ask.Call f) && reads_number d (ask.Call f) r c.incident))) e
 
-  call_in_working : (new : NewCall) → call_in d new (working d a r) ≡ call_in d new r
+  call_in_read : (p : ℕ) → call_in d (new_call p f at) (working d (ask.Call f) at r) ≡ call_in d (new_call p f at) r
   unfolding call_in
-  call_in_working new i = call_taken d new (target_working new.place new.at i) (number_working i)
+  call_in_read p i = call_taken d (new_call p f at) (target_read f.place i) (number_read i)
 
 -- ---- wherever it is placed
 module _ (d : ℕ) (r : Room) (w : IsWellFormed r) (p : ℕ) (f : CallForm) (at : ℕ) where
@@ -129,8 +126,8 @@ module _ (d : ℕ) (r : Room) (w : IsWellFormed r) (p : ℕ) (f : CallForm) (at 
   pub call_by_share : kept_call p f.serial r ≡ None → division_of r.plan f.place ≡ Some d → take_call call (own d r) ≡ take_call call r
   call_by_share k e = new_taken (own d r) d (kept_own k) e ∙ call_own d r w.order call ∙ sym (new_taken r d k e)
 
-  pub call_by_working : kept_call p f.serial r ≡ None → division_of r.plan f.place ≡ Some d → take_call call (working d (ask.Call f) r) ≡ take_call call r
-  call_by_working k e = new_taken (working d (ask.Call f) r) d (kept_working d r w.order (ask.Call f) p f.serial k) e ∙ call_in_working d r w.order (ask.Call f) call ∙ sym (new_taken r d k e)
+  pub call_by_working : kept_call p f.serial r ≡ None → division_of r.plan f.place ≡ Some d → take_call call (working d (ask.Call f) at r) ≡ take_call call r
+  call_by_working k e = new_taken (working d (ask.Call f) at r) d (kept_read d r w.order f at p f.serial k) e ∙ call_in_read d r w.order f at p ∙ sym (new_taken r d k e)
 
   placed : (o : Option ℕ) → kept_call p f.serial r ≡ None → division_of r.plan f.place ≡ o → own d (apply r (changes_of (call_somewhere o call r))) ≡ share_by d (own d r) (cond (is_division_of d o) (Some (CallIn taken)) None)
   placed None k e = refl

@@ -46,3 +46,4 @@ pub mod VehicleChanges
 pub mod VehicleRows
 pub mod WorkingDesk
 pub mod WorkingLaw
+pub mod WorkingQueue

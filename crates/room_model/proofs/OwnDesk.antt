@@ -22,7 +22,7 @@ use Rattle.room_types.specs.declared.tables.Turn.{Turn}
 use Rattle.room_types.specs.declared.tables.Vehicle.{Vehicle}
 use Rattle.room_types.specs.Texts.{Callsign}
 use Rattle.room_model.proofs.AskLaws.{accept_same, clear_same, close_same, decline_same, duty_same, give_back_same, incidents_same, lend_same, loans_same, merge_same, mobilise_same, needs_same, off_same, offers_same, points_same, propose_same, queue_same, recall_same, stand_down_same, standby_same, times_same, vehicles_same, withdraw_same}
-use Rattle.room_model.proofs.Sights.{SeesIncident, SeesVehicles, sees_beside}
+use Rattle.room_model.proofs.Sights.{SeesCover, SeesIncident, SeesVehicle, SeesVehicles, sees_beside}
 use Rattle.room_model.proofs.Tests.{any_filter, filter_filter, filter_map_among, filter_map_filter, is_equal, keep_keep, keep_row, left_true}
 use Rattle.room_model.specs.Calls.{call_in, call_taken}
 use Rattle.room_types.specs.Codes.{is_active, is_mobilised}
@@ -56,7 +56,13 @@ module _ (d : ℕ) (r : Room) (in_order : IsInOrder r) where
   calls_own n = filter_filter _ (owns_call d) r.calls (λ x h. left_true _ _ h)
 
   pub sees_incident_own : (n : ℕ) → SeesIncident d n (own d r) r
-  sees_incident_own n = record { same_incident = incident_own n; same_served = served_own n; same_attended = attended_own n; same_calls = calls_own n }
+  sees_incident_own n = record { same_incident = incident_own n; same_served = served_own n; same_attended = attended_own n }
+
+  sees_vehicle_own : (c : Callsign) → SeesVehicle d c (own d r) r
+  sees_vehicle_own c = record { same_held = sees_own.same_held c; same_lent = sees_own.same_lent c }
+
+  sees_cover_own : SeesCover d (own d r) r
+  sees_cover_own = record { same_point = sees_own.same_point; same_holders = sees_own.same_holders }
 
   pub active_own : active_incidents d (own d r) ≡ active_incidents d r
   unfolding active_incidents
@@ -139,30 +145,30 @@ module _ (d : ℕ) (r : Room) (in_order : IsInOrder r) where
   -- ---- the decisions
   pub desk_own : (a : Ask) (at : ℕ) → desk_asks d a at (own d r) ≡ desk_asks d a at r
   desk_own (ask.Call f) at = refl
-  desk_own ask.Incidents at = incidents_same d (own d r) r sees_own active_own (λ i m. sees_incident_own i.number)
-  desk_own (ask.Propose n) at = propose_same d (own d r) r sees_own n at (sees_incident_own n)
-  desk_own (ask.Mobilise n c) at = mobilise_same d (own d r) r sees_own n c at (sees_incident_own n)
-  desk_own (ask.Needs n needs) at = needs_same d (own d r) r sees_own n needs (sees_incident_own n)
-  desk_own (ask.Merge n m) at = merge_same d (own d r) r sees_own n m (sees_incident_own n) (incident_own m)
-  desk_own (ask.Close n) at = close_same d (own d r) r sees_own n (sees_incident_own n)
-  desk_own ask.Vehicles at = vehicles_same d (own d r) r sees_own
-  desk_own (ask.StandDown c) at = stand_down_same d (own d r) r sees_own c at (turn_own c)
-  desk_own (ask.Standby c p) at = standby_same d (own d r) r sees_own c p at
-  desk_own (ask.Duty c place until) at = duty_same d (own d r) r sees_own c place until at
-  desk_own (ask.Off c) at = off_same d (own d r) r sees_own c
-  desk_own (ask.Lend c to until) at = lend_same d (own d r) r sees_own c to until at
-  desk_own (ask.Withdraw c) at = withdraw_same d (own d r) r sees_own c
-  desk_own (ask.Decline c) at = decline_same d (own d r) r sees_own c
-  desk_own (ask.Accept c) at = accept_same d (own d r) r sees_own c at
-  desk_own (ask.Recall c) at = recall_same d (own d r) r sees_own c
-  desk_own (ask.GiveBack c) at = give_back_same d (own d r) r sees_own c
-  desk_own ask.Queue at = queue_same d (own d r) r sees_own at (entries_own at)
-  desk_own (ask.Clear c n) at = clear_same d (own d r) r sees_own c n (report_own c n)
-  desk_own ask.Points at = points_same d (own d r) r sees_own at
+  desk_own ask.Incidents at = incidents_same d (own d r) r active_own (λ i m. sees_incident_own i.number) (λ i m. calls_own i.number)
+  desk_own (ask.Propose n) at = propose_same d (own d r) r n at (sees_incident_own n) sees_cover_own (λ k. sees_own.same_eligible k at)
+  desk_own (ask.Mobilise n c) at = mobilise_same d (own d r) r n c at (sees_vehicle_own c) (sees_incident_own n)
+  desk_own (ask.Needs n needs) at = needs_same d (own d r) r n needs (sees_incident_own n)
+  desk_own (ask.Merge n m) at = merge_same d (own d r) r n m (sees_incident_own n) (calls_own n) (incident_own m)
+  desk_own (ask.Close n) at = close_same d (own d r) r n (sees_incident_own n)
+  desk_own ask.Vehicles at = vehicles_same d (own d r) r sees_own.same_all_held sees_own.same_assignment
+  desk_own (ask.StandDown c) at = stand_down_same d (own d r) r c at (sees_vehicle_own c) (λ v e. turn_own c)
+  desk_own (ask.Standby c p) at = standby_same d (own d r) r c p at (sees_vehicle_own c) (λ n e. sees_own.same_point n)
+  desk_own (ask.Duty c place until) at = duty_same d (own d r) r c place until at (sees_vehicle_own c)
+  desk_own (ask.Off c) at = off_same d (own d r) r c (sees_vehicle_own c)
+  desk_own (ask.Lend c to until) at = lend_same d (own d r) r c to until at (sees_vehicle_own c) refl
+  desk_own (ask.Withdraw c) at = withdraw_same d (own d r) r c (sees_vehicle_own c) (sees_own.same_offered_by c)
+  desk_own (ask.Decline c) at = decline_same d (own d r) r c (sees_own.same_offered_to c)
+  desk_own (ask.Accept c) at = accept_same d (own d r) r c at (sees_own.same_offered_to c)
+  desk_own (ask.Recall c) at = recall_same d (own d r) r c (sees_vehicle_own c)
+  desk_own (ask.GiveBack c) at = give_back_same d (own d r) r c (sees_vehicle_own c) (sees_own.same_borrowed c)
+  desk_own ask.Queue at = queue_same d (own d r) r at (entries_own at)
+  desk_own (ask.Clear c n) at = clear_same d (own d r) r c n (report_own c n)
+  desk_own ask.Points at = points_same d (own d r) r at sees_own.same_points (λ n. sees_own.same_holders n at)
   desk_own (ask.SetPoint n place cover) at = refl
-  desk_own ask.Loans at = loans_same d (own d r) r sees_own
-  desk_own ask.Offers at = offers_same d (own d r) r sees_own
-  desk_own (ask.Times from to) at = times_same d (own d r) r sees_own from to (opened_own from to)
+  desk_own ask.Loans at = loans_same d (own d r) r sees_own.same_loans
+  desk_own ask.Offers at = offers_same d (own d r) r sees_own.same_offers
+  desk_own (ask.Times from to) at = times_same d (own d r) r from to (opened_own from to)
   desk_own ask.Order at = refl
   desk_own (ask.Report p) at = refl
 

@@ -13,7 +13,7 @@ use Rattle.room_types.specs.declared.tables.Turn.{Turn}
 use Rattle.room_types.specs.Texts.{Callsign}
 use Rattle.room_model.proofs.Tests.{filter_filter, is_equal, keep_keep, keep_row, left_true, or_left, or_right}
 use Rattle.room_model.specs.Proposals.{eligible}
-use Rattle.room_model.specs.Queries.{all_held, assignment_of, borrowed, calls_of, held, holders, incident_of, is_attended, lent, loans_of, offered_by, offered_to, offers_of, point_of, points_of, served}
+use Rattle.room_model.specs.Queries.{all_held, assignment_of, borrowed, held, holders, incident_of, is_attended, lent, loans_of, offered_by, offered_to, offers_of, point_of, points_of, served}
 use Rattle.room_model.specs.Room.{IsInOrder, Room}
 use Rattle.room_model.specs.Shares.{own}
 
@@ -34,12 +34,21 @@ pub record SeesVehicles (d : ℕ) (s r : Room) : Type 0 where
   pub same_holders : (n at : ℕ) → holders d n at s ≡ holders d n at r
   pub same_eligible : (k : Kind) (at : ℕ) → eligible d k at s ≡ eligible d k at r
 
--- the division's incident of a number, with its calls and turns
+-- the vehicle of a callsign, where division d holds it, or the loan that it lends it by
+pub record SeesVehicle (d : ℕ) (c : Callsign) (s r : Room) : Type 0 where
+  pub same_held : held d c s ≡ held d c r
+  pub same_lent : lent d c s ≡ lent d c r
+
+-- the points, and the vehicles that hold them
+pub record SeesCover (d : ℕ) (s r : Room) : Type 0 where
+  pub same_point : (n : ℕ) → point_of d n s ≡ point_of d n r
+  pub same_holders : (n at : ℕ) → holders d n at s ≡ holders d n at r
+
+-- the division's incident of a number, with its turns
 pub record SeesIncident (d n : ℕ) (s r : Room) : Type 0 where
   pub same_incident : incident_of d n s ≡ incident_of d n r
   pub same_served : (k : Kind) → served d n k s ≡ served d n k r
   pub same_attended : is_attended d n s ≡ is_attended d n r
-  pub same_calls : calls_of d n s ≡ calls_of d n r
 
 -- the share of vehicles, beside whatever incidents, calls, turns and reports
 abbrev pub beside : ℕ → Room → List Incident → List Call → List Turn → List Report → Room

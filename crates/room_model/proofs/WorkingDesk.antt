@@ -1,173 +1,238 @@
--- A desk's decision is made by the working rows of its ask.
+-- What an ask of a desk asks of the room, it is told alike by the rows that it reads.
 use Rattle.std.proofs.Common.{ap, eq-eqb, eqb-true, subst, sym, ◌∙◌}
+use Rattle.std.proofs.lemmas.Bool.{le-leb}
+use Rattle.std.proofs.lemmas.Cmp.{tied_itself}
 use Rattle.std.specs.Ordering.{is_eq}
-use Rattle.std.specs.Prelude.{Bool, None, Option, Some, cond, false, filter, filter_map, is_none, is_some, length, nat_lt, not, refl, true, ℕ, ◌&&◌, ◌++◌, ◌==◌, ◌||◌, ◌≡◌}
+use Rattle.std.specs.Prelude.{Bool, None, Option, Some, cond, false, is_none, is_some, length, refl, true, ℕ, ◌&&◌, ◌==◌, ◌||◌, ◌≡◌, ◌≤◌}
 use Rattle.room_place.specs.Choice.{Among, first}
 use Rattle.room_types.proofs.KeyedLaws.{row_filter}
+use Rattle.room_types.specs.Codes.{is_active}
 use Rattle.room_types.specs.Keyed.{keep, row_at}
-use Rattle.room_types.specs.Keys.{incident_key, numbered_cmp, owns_loan, owns_offer, owns_point, owns_vehicle, pair_cmp, report_key, same_callsign, turn_key}
-use Rattle.room_types.specs.Orders.{exact_pair, numbered_total, pairs_total}
-use Rattle.room_types.specs.declared.answers.Entry.{Entry}
+use Rattle.room_types.specs.Keys.{assignment_key, callsign_cmp, incident_key, loan_key, numbered_cmp, offer_key, owns_assignment, owns_loan, owns_offer, owns_point, owns_vehicle, pair_cmp, point_key, report_key, same_callsign, turn_key, vehicle_key}
+use Rattle.room_types.specs.Orders.{callsigns_total, exact_callsigns, exact_pair, numbered_total, pairs_total}
+use Rattle.room_types.specs.Slices.{IsActive}
+use Rattle.room_types.specs.Texts.{Callsign}
 use Rattle.room_types.specs.declared.asks.Ask.{Ask}
 use Rattle.room_types.specs.declared.codes.Kind.{Kind}
-use Rattle.room_types.specs.declared.codes.Kind.TheVariants.{Ambulance, Car, Support}
 use Rattle.room_types.specs.declared.tables.Incident.{Incident}
-use Rattle.room_types.specs.declared.tables.Point.{Point}
 use Rattle.room_types.specs.declared.tables.Report.{Report}
 use Rattle.room_types.specs.declared.tables.Turn.{Turn}
 use Rattle.room_types.specs.declared.tables.Vehicle.{Vehicle}
-use Rattle.room_types.specs.Texts.{Callsign}
-use Rattle.room_model.proofs.Sights.{SeesIncident, SeesVehicles, sees_beside}
-use Rattle.room_model.proofs.Tests.{among_filter, and_same, any_filter, both_true, filter_among, filter_filter, filter_map_among, filter_map_filter, first_among, guard_none, guarded_none, is_equal, keep_keep_row, keep_row, left_true, none_of, or_left, or_right, right_true, row_among, row_key}
-use Rattle.room_types.specs.Codes.{is_active, is_mobilised, is_normal}
-use Rattle.room_model.specs.Moments.{age}
-use Rattle.room_model.specs.Queries.{active_incidents, calls_of, incident_of, is_attended, open_turn, report_of, served}
-use Rattle.room_model.specs.Queue.{entries, exception, overdue, shift_over, slow, slow_incident, slow_turn, unanswered, uncovered, unread, unread_turn, unserved}
-use Rattle.room_model.specs.Room.{IsInOrder, Room}
-use Rattle.room_types.specs.Slices.{IsActive}
-use Rattle.room_model.specs.WellFormed.{TurnIsActive}
-use Rattle.room_model.specs.Working.{names_incident, names_moment, names_report, reads_incident, reads_number, reads_report, working}
+use Rattle.room_model.proofs.Sights.{SeesCover, SeesIncident, SeesVehicle}
+use Rattle.room_model.proofs.Tests.{among_filter, any_filter, both_true, filter_among, filter_filter, first_among, is_equal, keep_keep, keep_keep_row, keep_row, left_true, none_of, or_left, or_right, right_true, row_among, row_key}
+use Rattle.room_model.specs.Proposals.{eligible}
+use Rattle.room_model.specs.Queries.{active_incidents, all_held, assignment_of, borrowed, calls_of, held, holders, incident_of, is_attended, lent, loans_of, offered_by, offered_to, offers_of, open_turn, point_of, points_of, report_of, served}
+use Rattle.room_model.specs.WellFormed.{IsWellFormed, OpenAgrees, TurnAgrees, TurnIsActive}
+use Rattle.room_model.specs.Room.{Room}
+use Rattle.room_model.specs.Working.{is_last_turn, names_incident, names_moment, names_turn, reads_active, reads_assignments, reads_calls, reads_incident, reads_loan, reads_number, reads_offer, reads_point, reads_report, reads_vehicle, working}
+use Rattle.room_types.specs.declared.asks.Ask.TheVariants as ask
 
-module _ (d : ℕ) (a : Ask) (r : Room) (in_order : IsInOrder r) (active : (c : Callsign) (n : ℕ) → TurnIsActive r (row_at numbered_cmp turn_key r.turns (c, n))) where
-  pub sees_working : SeesVehicles d (working d a r) r
-  sees_working = sees_beside d r in_order (filter (λ i. i.division == d && reads_incident a i) r.incidents) (filter (λ c. c.division == d && reads_number d a r c.incident) r.calls) (filter (λ t. t.division == d && reads_number d a r t.incident) r.turns) (filter (λ x. x.division == d && reads_report a x) r.reports)
+-- what is read of a callsign is read of a row that has it
+of_its_name : (reads : Callsign → Bool) (c k : Callsign) → is_eq (callsign_cmp c k) ≡ true → reads c ≡ true → reads k ≡ true
+of_its_name reads c k e h = subst (λ n. reads n ≡ true) (exact_callsigns c k (is_equal _ e)) h
 
-  -- ---- the calls and turns of an incident that is read
-  read_turn : (t : Turn) (n : ℕ) → reads_number d a r n ≡ true → t.division == d ≡ true → t.incident == n ≡ true → t.division == d && reads_number d a r t.incident ≡ true
-  read_turn t n h e f = both_true _ _ e (subst (λ m. reads_number d a r m ≡ true) (sym (eqb-true t.incident n f)) h)
+kept_some : {X : Type 0} (p : X → Bool) (o : Option X) (x : X) → keep p o ≡ Some x → o ≡ Some x
+kept_some p None x e = cc
+kept_some p (Some y) x e = (elim (p y) as (λ (b : Bool). cond b (Some y) None ≡ Some x → Some y ≡ Some x) [ true ↦ λ f. f | false ↦ λ f. cc ]) e
 
-  served_read : (n : ℕ) → reads_number d a r n ≡ true → (k : Kind) → served d n k (working d a r) ≡ served d n k r
+active_is : (o : Option Incident) → IsActive o → is_some (keep (λ i. is_active i.state) o) ≡ true
+active_is None h = absurd h
+active_is (Some i) h = ap (λ (b : Bool). is_some (cond b (Some i) None)) h
+
+module _ (d : ℕ) (a : Ask) (at : ℕ) (r : Room) (formed : IsWellFormed r) where
+  -- ---- one vehicle, and what stands beside it
+  held_named : (c : Callsign) → reads_vehicle a c ≡ true → held d c (working d a at r) ≡ held d c r
+  unfolding held
+  held_named c h =
+      ap (keep (λ v. v.holder == d)) (row_filter callsign_cmp vehicle_key callsigns_total (λ v. owns_vehicle d v && reads_vehicle a v.callsign) r.vehicles c formed.order.vehicles)
+      ∙ keep_keep_row callsign_cmp vehicle_key (λ v. v.holder == d) (λ v. owns_vehicle d v && reads_vehicle a v.callsign) r.vehicles c (λ x e g. both_true _ _ g (of_its_name (reads_vehicle a) c x.callsign e h))
+
+  lent_named : (c : Callsign) → reads_loan a c ≡ true → lent d c (working d a at r) ≡ lent d c r
+  unfolding lent
+  lent_named c h =
+      ap (keep (λ l. l.lender == d)) (row_filter callsign_cmp loan_key callsigns_total (λ l. owns_loan d l && reads_loan a l.callsign) r.loans c formed.order.loans)
+      ∙ keep_keep_row callsign_cmp loan_key (λ l. l.lender == d) (λ l. owns_loan d l && reads_loan a l.callsign) r.loans c (λ x e g. both_true _ _ (or_left _ _ g) (of_its_name (reads_loan a) c x.callsign e h))
+
+  pub borrowed_named : (c : Callsign) → reads_loan a c ≡ true → borrowed d c (working d a at r) ≡ borrowed d c r
+  unfolding borrowed
+  borrowed_named c h =
+      ap (keep (λ l. l.borrower == d)) (row_filter callsign_cmp loan_key callsigns_total (λ l. owns_loan d l && reads_loan a l.callsign) r.loans c formed.order.loans)
+      ∙ keep_keep_row callsign_cmp loan_key (λ l. l.borrower == d) (λ l. owns_loan d l && reads_loan a l.callsign) r.loans c (λ x e g. both_true _ _ (or_right _ _ g) (of_its_name (reads_loan a) c x.callsign e h))
+
+  pub offered_by_named : (c : Callsign) → reads_offer a c ≡ true → offered_by d c (working d a at r) ≡ offered_by d c r
+  unfolding offered_by
+  offered_by_named c h =
+      ap (keep (λ o. o.lender == d)) (row_filter callsign_cmp offer_key callsigns_total (λ o. owns_offer d o && reads_offer a o.callsign) r.offers c formed.order.offers)
+      ∙ keep_keep_row callsign_cmp offer_key (λ o. o.lender == d) (λ o. owns_offer d o && reads_offer a o.callsign) r.offers c (λ x e g. both_true _ _ (or_left _ _ g) (of_its_name (reads_offer a) c x.callsign e h))
+
+  pub offered_to_named : (c : Callsign) → reads_offer a c ≡ true → offered_to d c (working d a at r) ≡ offered_to d c r
+  unfolding offered_to
+  offered_to_named c h =
+      ap (keep (λ o. o.borrower == d)) (row_filter callsign_cmp offer_key callsigns_total (λ o. owns_offer d o && reads_offer a o.callsign) r.offers c formed.order.offers)
+      ∙ keep_keep_row callsign_cmp offer_key (λ o. o.borrower == d) (λ o. owns_offer d o && reads_offer a o.callsign) r.offers c (λ x e g. both_true _ _ (or_right _ _ g) (of_its_name (reads_offer a) c x.callsign e h))
+
+  pub sees_vehicle : (c : Callsign) → reads_vehicle a c ≡ true → reads_loan a c ≡ true → SeesVehicle d c (working d a at r) r
+  sees_vehicle c h g = record { same_held = held_named c h; same_lent = lent_named c g }
+
+  -- ---- all vehicles, loans, offers, and points
+  pub all_held_read : ((k : Callsign) → reads_vehicle a k ≡ true) → all_held d (working d a at r) ≡ all_held d r
+  unfolding all_held
+  all_held_read all = filter_filter _ (λ v. owns_vehicle d v && reads_vehicle a v.callsign) r.vehicles (λ x h. both_true _ _ h (all x.callsign))
+
+  pub assignment_read : (c : Callsign) → reads_assignments a ≡ true → assignment_of d c (working d a at r) ≡ assignment_of d c r
+  unfolding assignment_of
+  assignment_read c h =
+      ap (keep (λ x. x.division == d)) (row_filter callsign_cmp assignment_key callsigns_total (λ x. owns_assignment d x && reads_assignments a) r.assignments c formed.order.assignments)
+      ∙ keep_keep (λ x. x.division == d) (λ x. owns_assignment d x && reads_assignments a) _ (λ x g. both_true _ _ g h)
+
+  pub loans_read : ((k : Callsign) → reads_loan a k ≡ true) → loans_of d (working d a at r) ≡ loans_of d r
+  unfolding loans_of
+  loans_read all = filter_filter _ (λ l. owns_loan d l && reads_loan a l.callsign) r.loans (λ x h. both_true _ _ h (all x.callsign))
+
+  pub offers_read : ((k : Callsign) → reads_offer a k ≡ true) → offers_of d (working d a at r) ≡ offers_of d r
+  unfolding offers_of
+  offers_read all = filter_filter _ (λ o. owns_offer d o && reads_offer a o.callsign) r.offers (λ x h. both_true _ _ h (all x.callsign))
+
+  pub point_named : (n : ℕ) → reads_point a n ≡ true → point_of d n (working d a at r) ≡ point_of d n r
+  unfolding point_of
+  point_named n h =
+      row_filter pair_cmp point_key pairs_total (λ p. owns_point d p && reads_point a p.number) r.points (d, n) formed.order.points
+      ∙ keep_row pair_cmp point_key (λ p. owns_point d p && reads_point a p.number) r.points (d, n) (λ x g.
+      let key : (d, n) ≡ point_key x = exact_pair (d, n) (point_key x) (is_equal _ g) in
+      both_true _ _ (eq-eqb x.division d (sym (ap (λ (p : ℕ × ℕ). p.0) key))) (subst (λ m. reads_point a m ≡ true) (ap (λ (p : ℕ × ℕ). p.1) key) h))
+
+  pub points_read : ((n : ℕ) → reads_point a n ≡ true) → points_of d (working d a at r) ≡ points_of d r
+  unfolding points_of
+  points_read all = filter_filter _ (λ p. owns_point d p && reads_point a p.number) r.points (λ x h. both_true _ _ h (all x.number))
+
+  pub holders_read : ((k : Callsign) → reads_vehicle a k ≡ true) → (n now : ℕ) → holders d n now (working d a at r) ≡ holders d n now r
+  unfolding holders
+  holders_read all n now = filter_filter _ (λ v. owns_vehicle d v && reads_vehicle a v.callsign) r.vehicles (λ x h. both_true _ _ (left_true _ _ (left_true _ _ h)) (all x.callsign))
+
+  pub eligible_read : ((k : Callsign) → reads_vehicle a k ≡ true) → (k : Kind) (now : ℕ) → eligible d k now (working d a at r) ≡ eligible d k now r
+  eligible_read all k now = filter_filter _ (λ v. owns_vehicle d v && reads_vehicle a v.callsign) r.vehicles (λ x h. both_true _ _ (left_true _ _ (left_true _ _ h)) (all x.callsign))
+
+  pub sees_cover : ((k : Callsign) → reads_vehicle a k ≡ true) → ((n : ℕ) → reads_point a n ≡ true) → SeesCover d (working d a at r) r
+  sees_cover all points = record { same_point = λ n. point_named n (points n); same_holders = holders_read all }
+
+  -- ---- the turns and calls of an incident that is read
+  read_turn : (t : Turn) (n : ℕ) → reads_number d a r n ≡ true → t.division == d ≡ true → t.incident == n ≡ true → t.division == d && (reads_number d a r t.incident || names_turn d a r t) ≡ true
+  read_turn t n h e f = both_true _ _ e (or_left _ _ (subst (λ m. reads_number d a r m ≡ true) (sym (eqb-true t.incident n f)) h))
+
+  served_read : (n : ℕ) → reads_number d a r n ≡ true → (k : Kind) → served d n k (working d a at r) ≡ served d n k r
   unfolding served
-  served_read n h k = ap length (filter_filter _ (λ t. t.division == d && reads_number d a r t.incident) r.turns (λ t g. read_turn t n h (left_true _ _ g) (left_true _ _ (right_true _ _ g))))
+  served_read n h k = ap length (filter_filter _ (λ t. t.division == d && (reads_number d a r t.incident || names_turn d a r t)) r.turns (λ t g. read_turn t n h (left_true _ _ g) (left_true _ _ (right_true _ _ g))))
 
-  attended_read : (n : ℕ) → reads_number d a r n ≡ true → is_attended d n (working d a r) ≡ is_attended d n r
+  attended_read : (n : ℕ) → reads_number d a r n ≡ true → is_attended d n (working d a at r) ≡ is_attended d n r
   unfolding is_attended
-  attended_read n h = any_filter _ (λ t. t.division == d && reads_number d a r t.incident) r.turns (λ t g. read_turn t n h (left_true _ _ g) (left_true _ _ (right_true _ _ g)))
+  attended_read n h = any_filter _ (λ t. t.division == d && (reads_number d a r t.incident || names_turn d a r t)) r.turns (λ t g. read_turn t n h (left_true _ _ g) (left_true _ _ (right_true _ _ g)))
 
-  calls_read : (n : ℕ) → reads_number d a r n ≡ true → calls_of d n (working d a r) ≡ calls_of d n r
+  pub calls_read : (n : ℕ) → reads_calls a ≡ true → reads_number d a r n ≡ true → calls_of d n (working d a at r) ≡ calls_of d n r
   unfolding calls_of
-  calls_read n h = filter_filter _ (λ c. c.division == d && reads_number d a r c.incident) r.calls (λ c g. both_true _ _ (left_true _ _ g) (subst (λ m. reads_number d a r m ≡ true) (sym (eqb-true c.incident n (right_true _ _ g))) h))
+  calls_read n calls h = filter_filter _ (λ c. c.division == d && (reads_calls a && reads_number d a r c.incident)) r.calls (λ c g. both_true _ _ (left_true _ _ g) (both_true _ _ calls (subst (λ m. reads_number d a r m ≡ true) (sym (eqb-true c.incident n (right_true _ _ g))) h)))
 
-  sees_read : (n : ℕ) → reads_number d a r n ≡ true → incident_of d n (working d a r) ≡ incident_of d n r → SeesIncident d n (working d a r) r
-  sees_read n h e = record { same_incident = e; same_served = served_read n h; same_attended = attended_read n h; same_calls = calls_read n h }
+  sees_read : (n : ℕ) → reads_number d a r n ≡ true → incident_of d n (working d a at r) ≡ incident_of d n r → SeesIncident d n (working d a at r) r
+  sees_read n h e = record { same_incident = e; same_served = served_read n h; same_attended = attended_read n h }
 
   -- ---- incidents that the ask names
-  pub incident_named : (n : ℕ) → names_incident a n ≡ true → incident_of d n (working d a r) ≡ incident_of d n r
+  pub incident_named : (n : ℕ) → names_incident a n ≡ true → incident_of d n (working d a at r) ≡ incident_of d n r
   unfolding incident_of
   incident_named n h =
-      row_filter pair_cmp incident_key pairs_total (λ i. i.division == d && reads_incident a i) r.incidents (d, n) in_order.incidents
-      ∙ keep_row pair_cmp incident_key (λ i. i.division == d && reads_incident a i) r.incidents (d, n) (λ x g.
+      row_filter pair_cmp incident_key pairs_total (λ i. i.division == d && reads_incident a at i) r.incidents (d, n) formed.order.incidents
+      ∙ keep_row pair_cmp incident_key (λ i. i.division == d && reads_incident a at i) r.incidents (d, n) (λ x g.
       let key : (d, n) ≡ incident_key x = exact_pair (d, n) (incident_key x) (is_equal _ g) in
-      both_true _ _ (eq-eqb x.division d (sym (ap (λ (p : ℕ × ℕ). p.0) key))) (or_right (is_active x.state) _ (or_left _ _ (subst (λ m. names_incident a m ≡ true) (ap (λ (p : ℕ × ℕ). p.1) key) h))))
+      both_true _ _ (eq-eqb x.division d (sym (ap (λ (p : ℕ × ℕ). p.0) key))) (or_right (reads_active a && is_active x.state) _ (or_left _ _ (subst (λ m. names_incident a m ≡ true) (ap (λ (p : ℕ × ℕ). p.1) key) h))))
 
-  pub sees_named : (n : ℕ) → names_incident a n ≡ true → SeesIncident d n (working d a r) r
-  sees_named n h = sees_read n (or_left _ _ h) (incident_named n h)
+  pub number_named : (n : ℕ) → names_incident a n ≡ true → reads_number d a r n ≡ true
+  number_named n h = or_right (reads_active a && is_some (keep (λ i. is_active i.state) (incident_of d n r))) _ h
 
-  -- ---- active incidents
-  active_reads : (o : Option Incident) (n : ℕ) → IsActive o → is_some (keep (reads_incident a) o) ≡ true
-  active_reads None n h = absurd h
-  active_reads (Some i) n h = ap (λ (b : Bool). is_some (cond b (Some i) None)) (or_left (is_active i.state) (names_incident a i.number || names_moment a i.opened) h)
+  pub sees_named : (n : ℕ) → names_incident a n ≡ true → SeesIncident d n (working d a at r) r
+  sees_named n h = sees_read n (number_named n h) (incident_named n h)
 
-  pub active_number : (n : ℕ) → IsActive (incident_of d n r) → reads_number d a r n ≡ true
-  active_number n h = or_right (names_incident a n) _ (active_reads (incident_of d n r) n h)
+  -- ---- the active incidents, where they are read
+  module _ (shows : reads_active a ≡ true) where
+    pub active_number : (n : ℕ) → IsActive (incident_of d n r) → reads_number d a r n ≡ true
+    active_number n h = or_left _ (names_incident a n) (both_true _ _ shows (active_is (incident_of d n r) h))
 
-  keep_active : (o : Option Incident) → IsActive o → ((i : Incident) → o ≡ Some i → i.division == d ≡ true) → keep (λ i. i.division == d && reads_incident a i) o ≡ o
-  keep_active None h f = refl
-  keep_active (Some i) h f = ap (λ (b : Bool). cond b (Some i) None) (both_true (i.division == d) (reads_incident a i) (f i refl) (or_left (is_active i.state) (names_incident a i.number || names_moment a i.opened) h))
+    reads_one : (i : Incident) → is_active i.state ≡ true → reads_incident a at i ≡ true
+    reads_one i h = or_left _ (names_incident a i.number || names_moment a at i.opened) (both_true _ _ shows h)
 
-  pub incident_active : (n : ℕ) → IsActive (incident_of d n r) → incident_of d n (working d a r) ≡ incident_of d n r
-  unfolding incident_of
-  incident_active n h =
-      row_filter pair_cmp incident_key pairs_total (λ i. i.division == d && reads_incident a i) r.incidents (d, n) in_order.incidents
-      ∙ keep_active (row_at pair_cmp incident_key r.incidents (d, n)) h (λ i e. eq-eqb i.division d (sym (ap (λ (p : ℕ × ℕ). p.0) (row_key pair_cmp incident_key pairs_total exact_pair r.incidents (d, n) i e))))
+    keep_active : (o : Option Incident) → IsActive o → ((i : Incident) → o ≡ Some i → i.division == d ≡ true) → keep (λ i. i.division == d && reads_incident a at i) o ≡ o
+    keep_active None h f = refl
+    keep_active (Some i) h f = ap (λ (b : Bool). cond b (Some i) None) (both_true (i.division == d) (reads_incident a at i) (f i refl) (reads_one i h))
 
-  pub active_incidents_working : active_incidents d (working d a r) ≡ active_incidents d r
-  unfolding active_incidents
-  active_incidents_working = filter_filter _ (λ i. i.division == d && reads_incident a i) r.incidents (λ i g. both_true (i.division == d) (reads_incident a i) (left_true (i.division == d) (is_active i.state) g) (or_left (is_active i.state) (names_incident a i.number || names_moment a i.opened) (right_true (i.division == d) (is_active i.state) g)))
+    pub incident_active : (n : ℕ) → IsActive (incident_of d n r) → incident_of d n (working d a at r) ≡ incident_of d n r
+    unfolding incident_of
+    incident_active n h =
+        row_filter pair_cmp incident_key pairs_total (λ i. i.division == d && reads_incident a at i) r.incidents (d, n) formed.order.incidents
+        ∙ keep_active (row_at pair_cmp incident_key r.incidents (d, n)) h (λ i e. eq-eqb i.division d (sym (ap (λ (p : ℕ × ℕ). p.0) (row_key pair_cmp incident_key pairs_total exact_pair r.incidents (d, n) i e))))
 
-  active_found : (i : Incident) → Among i r.incidents → i.division == d ≡ true → is_active i.state ≡ true → IsActive (incident_of d i.number r)
-  unfolding incident_of
-  active_found i m e h =
-      subst IsActive (sym (row_among pair_cmp incident_key pairs_total r.incidents i in_order.incidents m) ∙ ap (λ (n : ℕ). row_at pair_cmp incident_key r.incidents (n, i.number)) (eqb-true i.division d e)) h
+    pub active_incidents_read : active_incidents d (working d a at r) ≡ active_incidents d r
+    unfolding active_incidents
+    active_incidents_read = filter_filter _ (λ i. i.division == d && reads_incident a at i) r.incidents (λ i g. both_true (i.division == d) (reads_incident a at i) (left_true (i.division == d) (is_active i.state) g) (reads_one i (right_true (i.division == d) (is_active i.state) g)))
 
-  sees_active : (i : Incident) → Among i r.incidents → i.division == d ≡ true → is_active i.state ≡ true → SeesIncident d i.number (working d a r) r
-  sees_active i m e h = let found = active_found i m e h in sees_read i.number (active_number i.number found) (incident_active i.number found)
+    active_found : (i : Incident) → Among i r.incidents → i.division == d ≡ true → is_active i.state ≡ true → IsActive (incident_of d i.number r)
+    unfolding incident_of
+    active_found i m e h =
+        subst IsActive (sym (row_among pair_cmp incident_key pairs_total r.incidents i formed.order.incidents m) ∙ ap (λ (n : ℕ). row_at pair_cmp incident_key r.incidents (n, i.number)) (eqb-true i.division d e)) h
 
-  pub sees_shown : (i : Incident) → Among i (active_incidents d r) → SeesIncident d i.number (working d a r) r
-  unfolding active_incidents
-  sees_shown i m = let parts = among_filter (λ i. i.division == d && is_active i.state) r.incidents i m in sees_active i parts.0 (left_true _ _ parts.1) (right_true _ _ parts.1)
+    pub sees_active : (i : Incident) → Among i r.incidents → i.division == d ≡ true → is_active i.state ≡ true → SeesIncident d i.number (working d a at r) r
+    sees_active i m e h = let found = active_found i m e h in sees_read i.number (active_number i.number found) (incident_active i.number found)
 
-  -- ---- open turns
-  open_active : (t : Turn) → Among t r.turns → t.division == d ≡ true → is_none t.ended ≡ true → IsActive (incident_of d t.incident r)
-  unfolding incident_of
-  open_active t m e h =
-      subst (λ (n : ℕ). IsActive (row_at pair_cmp incident_key r.incidents (n, t.incident))) (eqb-true t.division d e)
-      (subst (TurnIsActive r) (row_among numbered_cmp turn_key numbered_total r.turns t in_order.turns m) (active t.callsign t.order) (none_of t.ended h))
+    pub sees_shown : (i : Incident) → Among i (active_incidents d r) → SeesIncident d i.number (working d a at r) r
+    unfolding active_incidents
+    sees_shown i m = let parts = among_filter (λ i. i.division == d && is_active i.state) r.incidents i m in sees_active i parts.0 (left_true _ _ parts.1) (right_true _ _ parts.1)
 
-  pub turn_working : (c : Callsign) → open_turn d c (working d a r) ≡ open_turn d c r
-  unfolding open_turn
-  turn_working c = ap first (filter_among _ (λ t. t.division == d && reads_number d a r t.incident) r.turns (λ t m g. both_true _ _ (left_true _ _ g) (active_number t.incident (open_active t m (left_true _ _ g) (right_true (same_callsign t.callsign c) _ (right_true _ _ g))))))
+    pub calls_shown : reads_calls a ≡ true → (i : Incident) → Among i (active_incidents d r) → calls_of d i.number (working d a at r) ≡ calls_of d i.number r
+    unfolding active_incidents
+    calls_shown calls i m = let parts = among_filter (λ i. i.division == d && is_active i.state) r.incidents i m in calls_read i.number calls (active_number i.number (active_found i parts.0 (left_true _ _ parts.1) (right_true _ _ parts.1)))
 
-  found_active : (c : Callsign) (t : Turn) → open_turn d c r ≡ Some t → IsActive (incident_of d t.incident r)
-  unfolding open_turn
-  found_active c t h =
-      let parts = among_filter (λ t. t.division == d && (same_callsign t.callsign c && is_none t.ended)) r.turns t (first_among _ t h) in
-      open_active t parts.0 (left_true _ _ parts.1) (right_true (same_callsign t.callsign c) _ (right_true _ _ parts.1))
+    -- ---- their open turns
+    open_active : (t : Turn) → Among t r.turns → t.division == d ≡ true → is_none t.ended ≡ true → IsActive (incident_of d t.incident r)
+    unfolding incident_of
+    open_active t m e h =
+        subst (λ (n : ℕ). IsActive (row_at pair_cmp incident_key r.incidents (n, t.incident))) (eqb-true t.division d e)
+        (subst (TurnIsActive r) (row_among numbered_cmp turn_key numbered_total r.turns t formed.order.turns m) (formed.active t.callsign t.order) (none_of t.ended h))
+
+    pub open_turn_read : (c : Callsign) → open_turn d c (working d a at r) ≡ open_turn d c r
+    unfolding open_turn
+    open_turn_read c = ap first (filter_among _ (λ t. t.division == d && (reads_number d a r t.incident || names_turn d a r t)) r.turns (λ t m g. both_true _ _ (left_true _ _ g) (or_left _ _ (active_number t.incident (open_active t m (left_true _ _ g) (right_true (same_callsign t.callsign c) _ (right_true _ _ g)))))))
+
+    pub found_active : (c : Callsign) (t : Turn) → open_turn d c r ≡ Some t → IsActive (incident_of d t.incident r)
+    unfolding open_turn
+    found_active c t h =
+        let parts = among_filter (λ t. t.division == d && (same_callsign t.callsign c && is_none t.ended)) r.turns t (first_among _ t h) in
+        open_active t parts.0 (left_true _ _ parts.1) (right_true (same_callsign t.callsign c) _ (right_true _ _ parts.1))
 
   -- ---- reports
-  pub report_named : (c : Callsign) (n : ℕ) → ((x : Report) → is_eq (numbered_cmp (c, n) (report_key x)) ≡ true → reads_report a x ≡ true) → report_of d c n (working d a r) ≡ report_of d c n r
+  pub report_named : (c : Callsign) (n : ℕ) → ((x : Report) → is_eq (numbered_cmp (c, n) (report_key x)) ≡ true → reads_report a x ≡ true) → report_of d c n (working d a at r) ≡ report_of d c n r
   unfolding report_of
   report_named c n h =
-      ap (keep (λ x. x.division == d)) (row_filter numbered_cmp report_key numbered_total (λ x. x.division == d && reads_report a x) r.reports (c, n) in_order.reports)
+      ap (keep (λ x. x.division == d)) (row_filter numbered_cmp report_key numbered_total (λ x. x.division == d && reads_report a x) r.reports (c, n) formed.order.reports)
       ∙ keep_keep_row numbered_cmp report_key (λ x. x.division == d) (λ x. x.division == d && reads_report a x) r.reports (c, n) (λ x e g. both_true _ _ g (h x e))
 
-  -- ---- the queue
-  unserved_by : (at : ℕ) (i : Incident) → ((h : i.division == d ≡ true) (g : is_active i.state ≡ true) → SeesIncident d i.number (working d a r) r) → unserved d at (working d a r) i ≡ unserved d at r i
-  unserved_by at i f =
-      ap (λ (b : Bool). cond b (Some (record { rank = 1; since = i.opened; number = i.number; callsign = None })) None)
-      (and_same (i.division == d) _ _ (λ h. and_same (is_active i.state) _ _ (λ g. let see = f h g in
-      ap (λ (n : Kind → ℕ). (n Ambulance == 0 && (n Car == 0 && n Support == 0)) && nat_lt 180 (age at i.opened)) (λ j k. see.same_served k j))))
+-- ---- the turn of a vehicle's last order
+module _ (d : ℕ) (at : ℕ) (r : Room) (formed : IsWellFormed r) (c : Callsign) (v : Vehicle) where
+  last_open : (t : Turn) → row_at callsign_cmp vehicle_key r.vehicles c ≡ Some v → Among t r.turns → t.callsign ≡ c → is_none t.ended ≡ true → (1 ≤ v.last_order) × ((v.callsign, v.last_order) ≡ turn_key t)
+  last_open t there among called unended =
+      let found : row_at numbered_cmp turn_key r.turns (c, t.order) ≡ Some t = subst (λ k. row_at numbered_cmp turn_key r.turns (k, t.order) ≡ Some t) called (row_among numbered_cmp turn_key numbered_total r.turns t formed.order.turns among) in
+      let agrees : TurnAgrees (Some v) t.order (Some t) = subst (λ o. TurnAgrees o t.order (Some t)) there (subst (TurnAgrees (row_at callsign_cmp vehicle_key r.vehicles c) t.order) found (formed.turns c t.order)) in
+      let last : OpenAgrees v t.order t None = subst (OpenAgrees v t.order t) (none_of t.ended unended) agrees.2 in
+      let named : v.callsign ≡ t.callsign = sym (row_key callsign_cmp vehicle_key callsigns_total exact_callsigns r.vehicles c v there) ∙ sym called in
+      (subst (λ n. 1 ≤ n) last.0 agrees.0, λ i. (named i, sym last.0 i))
 
-  unserved_working : (at : ℕ) → filter_map (unserved d at (working d a r)) (filter (λ i. i.division == d && reads_incident a i) r.incidents) ≡ filter_map (unserved d at r) r.incidents
-  unserved_working at =
-      filter_map_among (unserved d at (working d a r)) (unserved d at r) _ (λ i m. unserved_by at i (λ h g. sees_active i (among_filter (λ i. i.division == d && reads_incident a i) r.incidents i m).0 h g))
-      ∙ filter_map_filter (unserved d at r) (λ i. i.division == d && reads_incident a i) r.incidents (λ i h. guard_none (i.division == d) (is_active i.state) (names_incident a i.number || names_moment a i.opened) _ _ h)
+  there : held d c r ≡ Some v → row_at callsign_cmp vehicle_key r.vehicles c ≡ Some v
+  unfolding held
+  there e = kept_some (λ x. x.holder == d) _ v e
 
-  off_share : {X : Type 0} (b c : Bool) (o : Option X) → b ≡ false → cond (b && c) o None ≡ None
-  off_share b c o h = rw h refl
+  is_last : (t : Turn) → held d c r ≡ Some v → Among t r.turns → t.callsign ≡ c → is_none t.ended ≡ true → names_turn d (ask.StandDown c) r t ≡ true
+  is_last t e among called unended =
+      let last = last_open t (there e) among called unended in
+      ap (λ o. is_last_turn o t) e
+      ∙ both_true _ _ (le-leb 1 v.last_order last.0) (ap is_eq (ap (λ k. numbered_cmp k (turn_key t)) last.1 ∙ tied_itself numbered_total (turn_key t)))
 
-  unread_working : (at : ℕ) → filter_map (unread d at (working d a r)) (filter (owns_vehicle d) r.vehicles) ≡ filter_map (unread d at r) r.vehicles
-  unread_working at =
-      ap (λ (f : Vehicle → Option Entry). filter_map f (filter (owns_vehicle d) r.vehicles)) (λ j v. cond (v.holder == d && is_mobilised v.status) (unread_turn at v (turn_working v.callsign j)) None)
-      ∙ filter_map_filter (unread d at r) (owns_vehicle d) r.vehicles (λ v h. off_share (v.holder == d) _ _ h)
-
-  slow_turn_same : (at : ℕ) (v : Vehicle) (o : Option Turn) → ((t : Turn) → o ≡ Some t → IsActive (incident_of d t.incident r)) → slow_turn d at (working d a r) v o ≡ slow_turn d at r v o
-  slow_turn_same at v None h = refl
-  slow_turn_same at v (Some t) h = ap (slow_incident at v) (incident_active t.incident (h t refl))
-
-  slow_same : (at : ℕ) (v : Vehicle) → slow d at (working d a r) v ≡ slow d at r v
-  slow_same at v =
-      ap (λ o. cond (v.holder == d && is_mobilised v.status) (slow_turn d at (working d a r) v o) None) (turn_working v.callsign)
-      ∙ ap (λ o. cond (v.holder == d && is_mobilised v.status) o None) (slow_turn_same at v (open_turn d v.callsign r) (found_active v.callsign))
-
-  slow_working : (at : ℕ) → filter_map (slow d at (working d a r)) (filter (owns_vehicle d) r.vehicles) ≡ filter_map (slow d at r) r.vehicles
-  slow_working at =
-      filter_map_among (slow d at (working d a r)) (slow d at r) (filter (owns_vehicle d) r.vehicles) (λ v m. slow_same at v)
-      ∙ filter_map_filter (slow d at r) (owns_vehicle d) r.vehicles (λ v h. off_share (v.holder == d) _ _ h)
-
-  exception_working : filter_map (exception d) (filter (λ x. x.division == d && reads_report a x) r.reports) ≡ filter_map (exception d) r.reports
-  exception_working = filter_map_filter (exception d) (λ x. x.division == d && reads_report a x) r.reports (λ x h. guarded_none (x.division == d) (not (is_normal x.outcome) && not x.cleared) (names_report a x.callsign x.number) _ h)
-
-  uncovered_working : (at : ℕ) → filter_map (uncovered d at (working d a r)) (filter (owns_point d) r.points) ≡ filter_map (uncovered d at r) r.points
-  uncovered_working at =
-      ap (λ (f : Point → Option Entry). filter_map f (filter (owns_point d) r.points)) (λ j p. cond (p.division == d && nat_lt (length (sees_working.same_holders p.number at j)) p.cover) (Some (record { rank = 7; since = 0; number = p.number; callsign = None })) None)
-      ∙ filter_map_filter (uncovered d at r) (owns_point d) r.points (λ p h. off_share (p.division == d) _ _ h)
-
-  pub entries_working : (at : ℕ) → entries d at (working d a r) ≡ entries d at r
-  unfolding entries
-  entries_working at i =
-      unserved_working at i ++ (unread_working at i ++ (slow_working at i ++ (exception_working i
-      ++ (filter_map_filter (overdue d at) (owns_loan d) r.loans (λ l h. off_share (owns_loan d l) _ _ h) i
-      ++ (filter_map_filter (shift_over d at) (owns_vehicle d) r.vehicles (λ v h. off_share (v.holder == d) _ _ h) i
-      ++ (uncovered_working at i
-      ++ filter_map_filter (unanswered d at) (owns_offer d) r.offers (λ o h. off_share (owns_offer d o) _ _ h) i))))))
+  pub last_turn_read : held d c r ≡ Some v → open_turn d c (working d (ask.StandDown c) at r) ≡ open_turn d c r
+  unfolding open_turn
+  last_turn_read e = ap first (filter_among _ (λ t. t.division == d && (reads_number d (ask.StandDown c) r t.incident || names_turn d (ask.StandDown c) r t)) r.turns (λ t m g.
+      let mine = right_true (t.division == d) _ g in
+      both_true _ _ (left_true _ _ g) (or_right (reads_number d (ask.StandDown c) r t.incident) _ (is_last t e m (exact_callsigns t.callsign c (is_equal _ (left_true _ _ mine))) (right_true (same_callsign t.callsign c) _ mine)))))

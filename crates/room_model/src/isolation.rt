@@ -74,7 +74,7 @@ pub fn desks_decide_by_their_rows()
         decided (by_desk d a at) (own d r) ≡ decided (by_desk d a at) r }
     ensures working { (d : ℕ) (r : Room) (a : Ask) (at : ℕ) →
         IsWellFormed r →
-        decided (by_desk d a at) (working d a r) ≡ decided (by_desk d a at) r }
+        decided (by_desk d a at) (working d a at r) ≡ decided (by_desk d a at) r }
 {}
 
 /// A call that is not kept is decided by the rows of the division that it is placed in, and by the
@@ -85,7 +85,7 @@ pub fn new_calls_are_decided_by_their_division()
         decided (by_position p (Call f) at) (own d r) ≡ decided (by_position p (Call f) at) r }
     ensures working { (d p : ℕ) (f : CallForm) (at : ℕ) (r : Room) →
         IsWellFormed r → kept_call p f.serial r ≡ None → division_of r.plan f.place ≡ Some d →
-        decided (by_position p (Call f) at) (working d (Call f) r)
+        decided (by_position p (Call f) at) (working d (Call f) at r)
         ≡ decided (by_position p (Call f) at) r }
 {}
 

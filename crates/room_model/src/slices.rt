@@ -2,7 +2,6 @@
 //! does nothing.
 ghost use Rattle.std.specs.Prelude.{◌≡◌, ◌↔◌, ℕ, List, Some, true};
 ghost use Rattle.room_place.specs.declared.plans.Area.{Area};
-ghost use Rattle.room_place.specs.Plans.{has_division};
 ghost use Rattle.room_types.specs.Crews.{IsCrew};
 ghost use Rattle.room_types.specs.Keyed.{IsKeyed};
 ghost use Rattle.room_types.specs.Keys.{numbered_cmp, turn_key};
@@ -19,13 +18,13 @@ ghost use Rattle.room_model.specs.Slices.{room_of, AreCrewRows};
 ghost use Rattle.room_model.specs.WellFormed.{IsWellFormed};
 ghost use Rattle.room_model.specs.Working.{working};
 
-/// A division's share of a well-formed room, and the working rows of an ask, are a slice's.
+/// A division's share of a well-formed room, and the rows of it that an ask reads, are a slice's.
 pub fn shares_are_slices()
     ensures share { (d : ℕ) (r : Room) (s : DivisionRows) →
-        IsWellFormed r → has_division r.plan d ≡ true → room_of r.plan s ≡ own d r →
+        IsWellFormed r → room_of r.plan s ≡ own d r →
         IsShare d s }
-    ensures working { (d : ℕ) (a : Ask) (r : Room) (s : DivisionRows) →
-        IsWellFormed r → has_division r.plan d ≡ true → room_of r.plan s ≡ working d a r →
+    ensures working { (d : ℕ) (a : Ask) (at : ℕ) (r : Room) (s : DivisionRows) →
+        IsWellFormed r → room_of r.plan s ≡ working d a at r →
         IsShare d s }
 {}
 

@@ -24,7 +24,7 @@ Hands d e r handed told share = (cross d r e ≡ handed) × (told_by (own d r) h
 
 -- the working rows of a desk's ask decide it
 abbrev pub ByWorkingRows : ℕ → Ask → ℕ → Room → Type 0
-ByWorkingRows d ask t r = desk_asks d ask t (working d ask r) ≡ desk_asks d ask t r
+ByWorkingRows d ask t r = desk_asks d ask t (working d ask t r) ≡ desk_asks d ask t r
 
 -- a vehicle's rows decide what its crew asks, and what becomes of them
 abbrev pub ByOneVehicle : Callsign → Ask → ℕ → Room → Type 0

@@ -82,7 +82,7 @@ fn for_desk<S: Alter>(
         → x ≡ decided (by_desk division ask.now at) room) }
     ensures reads { ReadsOnly S.Store conn.old conn.new result }
 {
-    let rows = load_working(alloc, conn, division, ask)?;
+    let rows = load_working(alloc, conn, division, ask, at)?;
     match Slice::build(division, rows) {
         Some(slice) => {
             let decision = decide_desk(alloc, plan, &slice, ask, at);
@@ -187,7 +187,7 @@ fn for_new_call<S: Alter>(
         → division_of room.plan form.now.place ≡ Some division → x ≡ take_call new.now room) }
     ensures reads { ReadsOnly S.Store conn.old conn.new result }
 {
-    let rows = load_working(alloc, conn, division, &Ask::Call(*form))?;
+    let rows = load_working(alloc, conn, division, &Ask::Call(*form), new.at)?;
     match Slice::build(division, rows) {
         Some(slice) => {
             let decision = decide_call(alloc, &slice, new);

@@ -1,10 +1,14 @@
 -- Which reports wait to be cleared.
-use Rattle.std.proofs.Common.{Bool, false, not, refl, true, ℕ, ◌&&◌, ◌≡◌, ◌||◌}
+use Rattle.std.proofs.Common.{Bool, ap, false, not, refl, sym, true, ℕ, ◌&&◌, ◌≡◌, ◌||◌}
 use Rattle.std.specs.Prelude.{◌==◌}
 use Rattle.room_types.specs.Codes.{is_normal, outcome_number}
 use Rattle.room_types.specs.declared.codes.Outcome.{Outcome}
 use Rattle.room_types.specs.declared.codes.Outcome.TheVariants.{Late, Normal, Skipped, Stale, Wrong}
+use Rattle.room_types.specs.declared.asks.Ask.{Ask}
 use Rattle.room_types.specs.declared.tables.Report.{Report}
+use Rattle.room_model.specs.Working.{names_report, reads_exceptions, reads_report}
+use Rattle.room_store_reads.proofs.RoomReads.{or_none}
+use Rattle.room_types.specs.declared.asks.Ask.TheVariants as ask
 
 -- one of this outcome, in the division
 abbrev pub waits : ℕ → Outcome → Report → Bool
@@ -38,3 +42,12 @@ exceptional d x = one_of x.outcome x.cleared (x.division == d)
 
 abbrev pub is_exception : Report → Bool
 is_exception x = not (is_normal x.outcome) && not x.cleared
+
+-- where the exceptions are read, no report is named
+pub shown_report : (a : Ask) (x : Report) → reads_exceptions a ≡ true → is_exception x ≡ reads_report a x
+shown_report ask.Queue x h = sym (or_none (is_exception x))
+shown_report a x h = cc
+
+-- elsewhere the named one alone is read
+pub named_only : (a : Ask) (x : Report) → reads_exceptions a ≡ false → reads_report a x ≡ names_report a x.callsign x.number
+named_only a x h = ap (λ b. b && is_exception x || names_report a x.callsign x.number) h

@@ -1,5 +1,5 @@
 -- Filters of rows, and the tests that they pass.
-use Rattle.std.proofs.Common.{Bool, List, [], arith, cond, false, refl, sym, true, ℕ, ◌&&◌, ◌∙◌, ◌∷◌, ◌≡◌, ◌||◌}
+use Rattle.std.proofs.Common.{Bool, List, [], ap, arith, cond, eq-eqb, false, refl, sym, true, ℕ, ◌&&◌, ◌∙◌, ◌∷◌, ◌≡◌, ◌||◌}
 use Rattle.std.proofs.lemmas.Bool.Decides.{nat_tests}
 use Rattle.std.specs.Ordering.{is_eq, nat_cmp}
 use Rattle.std.specs.Prelude.{filter, ◌==◌}
@@ -53,8 +53,30 @@ pub or_none : (b : Bool) → b || false ≡ b
 or_none true = refl
 or_none false = refl
 
-pub or_turned : (a b c : Bool) → (a || b) || c ≡ (b || c) || a
-or_turned true true c = refl
-or_turned true false true = refl
-or_turned true false false = refl
-or_turned false b c = sym (or_none (b || c))
+pub or_assoc : (a b c : Bool) → a || (b || c) ≡ (a || b) || c
+or_assoc true b c = refl
+or_assoc false b c = refl
+
+pub and_none : (b : Bool) → b && false ≡ false
+and_none true = refl
+and_none false = refl
+
+pub and_all : (b : Bool) → b && true ≡ b
+and_all true = refl
+and_all false = refl
+
+pub and_twice : (b : Bool) → b && b ≡ b && true
+and_twice true = refl
+and_twice false = refl
+
+pub and_swap : (a b : Bool) → a && b ≡ b && a
+and_swap true b = sym (and_all b)
+and_swap false b = sym (and_none b)
+
+-- no row passes a test that is never met
+pub filter_never : {X : Type 0} (p q : X → Bool) (xs : List X) → ((x : X) → q x ≡ false) → filter (λ x. p x && q x) xs ≡ []
+filter_never p q xs e = filter_as _ (λ x. false) xs (λ x. ap (λ b. p x && b) (e x) ∙ and_none (p x)) ∙ filter_none xs
+
+-- a division's number of the same division
+pub pair_at : (d n m : ℕ) → (n == m) ≡ is_eq (pair_cmp (d, n) (d, m))
+pair_at d n m = sym (pair_is d n d m ∙ ap (λ b. b && (n == m)) (eq-eqb d d refl))

@@ -1,3 +1,5 @@
+-- how much of a table a request reads
+pub mod Extents
 -- which incidents a request reads
 pub mod Reading
 -- what the parts of a division's working rows are of the room

@@ -1,7 +1,14 @@
 -- What a request names of the rows that it reads.
-use Rattle.std.specs.Prelude.{Bool, List, None, Option, Some, [], false, int_le, int_lt, pos, ℕ, ℤ, ◌&&◌, ◌==◌, ◌||◌, ◌∷◌}
-use Rattle.room_types.specs.Keys.{same_callsign}
+use Rattle.std.specs.Ordering.{is_eq}
+use Rattle.std.specs.Prelude.{Bool, List, None, Option, Some, [], false, int_le, int_lt, pos, ℕ, ◌&&◌, ◌==◌, ◌||◌, ◌∷◌}
+use Rattle.room_types.specs.Keys.{numbered_cmp, same_callsign, turn_key}
 use Rattle.room_types.specs.Texts.{Callsign}
+use Rattle.room_types.specs.declared.tables.Turn.{Turn}
+use Rattle.room_model.specs.Queries.{held}
+use Rattle.room_model.specs.Room.{Room}
+use Rattle.room_model.specs.Working.{is_last_turn}
+use Rattle.room_store_reads.specs.declared.naming.Moments.{Moments}
+use Rattle.room_store_reads.specs.declared.naming.Moments.TheVariants.{Between, Never, Since}
 
 abbrev pub contains : ℕ → List ℕ → Bool
 contains n [] = false
@@ -12,12 +19,23 @@ abbrev pub is_number : Option ℕ → ℕ → Bool
 is_number None n = false
 is_number (Some m) n = m == n
 
--- a moment of the day that is named, if one is
-abbrev pub is_moment : Option (ℤ × ℤ) → ℕ → Bool
-is_moment None t = false
-is_moment (Some day) t = int_le day.0 (pos t) && int_lt (pos t) day.1
+-- a moment that is read of
+abbrev pub is_moment : Moments → ℕ → Bool
+is_moment Never t = false
+is_moment (Between from to) t = int_le from (pos t) && int_lt (pos t) to
+is_moment (Since from) t = int_le from (pos t)
 
 -- the report that is named, if one is
 abbrev pub is_report : Option (Callsign × ℕ) → Callsign → ℕ → Bool
 is_report None c n = false
 is_report (Some r) c n = same_callsign r.0 c && r.1 == n
+
+-- the vehicle that is named, if one is
+abbrev pub is_last_of : ℕ → Option Callsign → Room → Turn → Bool
+is_last_of d None room t = false
+is_last_of d (Some c) room t = is_last_turn (held d c room) t
+
+-- the turn of the key, if there is one
+abbrev pub is_turn : Option (Callsign × ℕ) → Turn → Bool
+is_turn None t = false
+is_turn (Some k) t = is_eq (numbered_cmp k (turn_key t))

@@ -2,6 +2,7 @@
 #![tactic(auto)]
 
 pub mod crews;
+mod extents;
 mod naming;
 mod unions;
 pub mod working;

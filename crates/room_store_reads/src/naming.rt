@@ -1,12 +1,133 @@
 //! What a request names of the rows that it reads.
-ghost use Rattle.std.specs.Prelude.{◌≡◌, ◌||◌, ℕ};
+ghost use Rattle.std.specs.Prelude.{◌≡◌, ◌||◌, ℕ, IfSome};
+ghost use Rattle.room_types.specs.Keys.{callsign_cmp, pair_cmp};
 ghost use Rattle.room_types.specs.Texts.{Callsign as CallsignText};
-ghost use Rattle.room_model.specs.Working.{names_incident, names_moment, names_report};
-ghost use Rattle.room_store_reads.specs.Reading.{is_moment, is_number, is_report};
+ghost use Rattle.room_types.specs.declared.asks.Ask.TheVariants.{StandDown};
+ghost use Rattle.room_types.specs.declared.tables.Turn.{Turn};
+ghost use Rattle.room_model.specs.Room.{Room};
+ghost use Rattle.room_model.specs.Working.{names_incident, names_moment, names_report, names_turn, reads_active, reads_assignments, reads_calls, reads_division, reads_exceptions, reads_loan, reads_offer, reads_point, reads_vehicle};
+ghost use Rattle.room_store_reads.specs.Extents.{reaches};
+ghost use Rattle.room_store_reads.specs.Reading.{is_last_of, is_moment, is_number, is_report};
 
+use crate::extents::Extent;
+use room_place::plans::DivisionNumber;
 use room_types::asks::Ask;
 use room_types::callsign::Callsign;
-use room_types::numbers::Number;
+use room_types::numbers::{Moment, Number, PointNumber};
+
+// How many seconds before its moment an incident may have been opened that a call is linked to.
+const LINKED_WITHIN: u32 = 900;
+
+/// Whether a request reads its division's own row.
+pub fn reads_division(ask: &Ask) -> bool
+    ensures { result ≡ reads_division ask.now }
+{
+    matches!(ask, Ask::Call(_))
+}
+
+/// The vehicles that a request reads.
+pub fn vehicles_read(ask: &Ask) -> Extent<Callsign>
+    ensures { (k : CallsignText) → reads_vehicle ask.now k ≡ reaches callsign_cmp result k }
+{
+    match *ask {
+        Ask::Propose(_) | Ask::Vehicles | Ask::Queue | Ask::Points => Extent::Everything,
+        Ask::Mobilise(_, callsign)
+        | Ask::StandDown(callsign)
+        | Ask::Standby(callsign, _)
+        | Ask::Duty(callsign, _, _)
+        | Ask::Off(callsign)
+        | Ask::Lend(callsign, _, _)
+        | Ask::Withdraw(callsign)
+        | Ask::Recall(callsign)
+        | Ask::GiveBack(callsign) => Extent::One(callsign),
+        _ => Extent::Nothing,
+    }
+}
+
+/// The assignments that a request reads.
+pub fn assignments_read(ask: &Ask) -> Extent<Callsign>
+    ensures { (k : CallsignText) → reads_assignments ask.now ≡ reaches callsign_cmp result k }
+{
+    match ask {
+        Ask::Vehicles => Extent::Everything,
+        _ => Extent::Nothing,
+    }
+}
+
+/// The points of a division that a request reads.
+pub fn points_read(ask: &Ask, division: DivisionNumber) -> Extent<(DivisionNumber, PointNumber)>
+    ensures { (n : ℕ) → reads_point ask.now n ≡ reaches pair_cmp result (division, n) }
+{
+    match *ask {
+        Ask::Propose(_) | Ask::Queue | Ask::Points => Extent::Everything,
+        Ask::Standby(_, Some(number)) => Extent::One((division, number)),
+        _ => Extent::Nothing,
+    }
+}
+
+/// The loans that a request reads, by their vehicle.
+pub fn loans_read(ask: &Ask) -> Extent<Callsign>
+    ensures { (k : CallsignText) → reads_loan ask.now k ≡ reaches callsign_cmp result k }
+{
+    match *ask {
+        Ask::Queue | Ask::Loans => Extent::Everything,
+        Ask::Mobilise(_, callsign)
+        | Ask::StandDown(callsign)
+        | Ask::Standby(callsign, _)
+        | Ask::Duty(callsign, _, _)
+        | Ask::Off(callsign)
+        | Ask::Lend(callsign, _, _)
+        | Ask::Withdraw(callsign)
+        | Ask::Recall(callsign)
+        | Ask::GiveBack(callsign) => Extent::One(callsign),
+        _ => Extent::Nothing,
+    }
+}
+
+/// The offers that a request reads, by their vehicle.
+pub fn offers_read(ask: &Ask) -> Extent<Callsign>
+    ensures { (k : CallsignText) → reads_offer ask.now k ≡ reaches callsign_cmp result k }
+{
+    match *ask {
+        Ask::Queue | Ask::Offers => Extent::Everything,
+        Ask::Withdraw(callsign) | Ask::Decline(callsign) | Ask::Accept(callsign) => {
+            Extent::One(callsign)
+        }
+        _ => Extent::Nothing,
+    }
+}
+
+/// Whether a request reads the exceptions that are not cleared.
+pub fn reads_exceptions(ask: &Ask) -> bool
+    ensures { result ≡ reads_exceptions ask.now }
+{
+    matches!(ask, Ask::Queue)
+}
+
+/// The report that a request names, of a vehicle and by its number.
+pub fn named_report(ask: &Ask) -> Option<(Callsign, Number)>
+    ensures { (callsign : CallsignText) (number : ℕ)
+        → names_report ask.now callsign number ≡ is_report result callsign number }
+{
+    match *ask {
+        Ask::Clear(callsign, number) => Some((callsign, number)),
+        _ => None,
+    }
+}
+
+/// Whether a request reads the active incidents.
+pub fn reads_active(ask: &Ask) -> bool
+    ensures { result ≡ reads_active ask.now }
+{
+    matches!(ask, Ask::Incidents | Ask::Queue)
+}
+
+/// Whether a request reads the calls of its incidents.
+pub fn reads_calls(ask: &Ask) -> bool
+    ensures { result ≡ reads_calls ask.now }
+{
+    matches!(ask, Ask::Incidents | Ask::Merge(_, _))
+}
 
 /// The incidents that a request names.
 pub fn named_incidents(ask: &Ask) -> (Option<Number>, Option<Number>)
@@ -22,23 +143,35 @@ pub fn named_incidents(ask: &Ask) -> (Option<Number>, Option<Number>)
     }
 }
 
-/// The day whose times are asked for: its first second and the next day's.
-pub fn named_day(ask: &Ask) -> Option<(i64, i64)>
-    ensures { (moment : ℕ) → names_moment ask.now moment ≡ is_moment result moment }
+/// When incidents were opened that a request reads, in seconds of UTC since 1970.
+#[derive(Clone, Copy)]
+pub enum Moments {
+    Never,
+    /// From the first on, and before the second.
+    Between(i64, i64),
+    Since(i64),
+}
+
+/// The day whose times are asked for, or from when on an incident was opened that a call may be
+/// linked to.
+pub fn moments_read(ask: &Ask, at: Moment) -> Moments
+    ensures { (moment : ℕ) → names_moment ask.now at moment ≡ is_moment result moment }
 {
     match *ask {
-        Ask::Times(from, to) => Some((from, to)),
-        _ => None,
+        Ask::Times(from, to) => Moments::Between(from, to),
+        Ask::Call(_) => Moments::Since(i64::from(at.get().saturating_sub(LINKED_WITHIN))),
+        _ => Moments::Never,
     }
 }
 
-/// The report that a request names, of a vehicle and by its number.
-pub fn named_report(ask: &Ask) -> Option<(Callsign, Number)>
-    ensures { (callsign : CallsignText) (number : ℕ)
-        → names_report ask.now callsign number ≡ is_report result callsign number }
+/// The vehicle whose last order's turn a request reads.
+pub fn stood_down(ask: &Ask) -> Option<Callsign>
+    ensures turn { (d : ℕ) (room : Room) (t : Turn)
+        → names_turn d ask.now room t ≡ is_last_of d result room t }
+    ensures ask { IfSome result (λ c. ask.now ≡ StandDown c) }
 {
     match *ask {
-        Ask::Clear(callsign, number) => Some((callsign, number)),
+        Ask::StandDown(callsign) => Some(callsign),
         _ => None,
     }
 }

@@ -1,34 +1,41 @@
-//! The rows of a division that a request of its desk may read, loaded by key and by index.
-ghost use Rattle.std.specs.Prelude.{◌≡◌, ◌&&◌, ◌==◌, ◌||◌, ℕ, Bool, filter, not, IsTrue, IfErr, IfOk, OnOk};
+//! The rows of a division that a request reads, loaded by key and by index.
+ghost use Rattle.std.specs.Prelude.{◌≡◌, ◌&&◌, ◌==◌, ◌||◌, ℕ, Bool, filter, is_some, not, IsTrue, IfErr, IfOk, OnOk};
 ghost use Rattle.sqlite.specs.Held.{state};
 ghost use Rattle.sqlite.specs.State.{HasCleanDisk};
 ghost use Rattle.room_tables.specs.Finding.{Finds};
 ghost use Rattle.room_tables_sql.specs.Outcomes.{ReadsOnly};
-ghost use Rattle.room_types.specs.Keys.{owns_report};
-ghost use Rattle.room_types.specs.Codes.{is_normal, outcome_number};
+ghost use Rattle.room_types.specs.Codes.{is_active, is_normal, outcome_number};
 ghost use Rattle.room_types.specs.Keyed.{keep};
 ghost use Rattle.room_types.specs.declared.tables.Incident.{Incident};
 ghost use Rattle.room_types.specs.declared.tables.Report.{Report};
+ghost use Rattle.room_types.specs.declared.tables.Turn.{Turn};
+ghost use Rattle.room_model.specs.Queries.{held, incident_of};
 ghost use Rattle.room_model.specs.Room.{IsInOrder, Room};
 ghost use Rattle.room_model.specs.Slices.{room_of};
-ghost use Rattle.room_model.specs.Working.{reads_incident, reads_number, reads_report, working};
+ghost use Rattle.room_model.specs.Working.{is_last_turn, reads_active, reads_calls, reads_incident, reads_number, reads_report, working};
 ghost use Rattle.room_tables_schema.specs.declared.faults.Fault.TheVariants.{Memory};
 ghost use Rattle.room_tables_schema.specs.Connections.{HasRoomSchema};
-ghost use Rattle.room_store_reads.specs.Parts.{AreLoans, IsFleet, IsHeld, IsServed, IsWork};
-ghost use Rattle.room_store_reads.specs.Reading.{contains, is_moment, is_number};
+ghost use Rattle.room_store_reads.specs.Parts.{AreLoans, IsFleet, IsHeld, IsWork};
+ghost use Rattle.room_store_reads.specs.Reading.{contains, is_moment, is_number, is_turn};
 
-use crate::naming::{named_day, named_incidents, named_report};
+use crate::extents::{load_extent, load_one, owned_row};
+use crate::naming::{
+    Moments, assignments_read, loans_read, moments_read, named_incidents, named_report,
+    offers_read, points_read, reads_active, reads_calls, reads_division, reads_exceptions,
+    stood_down, vehicles_read,
+};
 use crate::unions::{add_all, add_found};
 use room_place::plans::DivisionNumber;
 use room_tables::calls::calls_of;
-use room_tables::incidents::{active_incidents, incidents_opened};
-use room_tables::loading::{row_at, rows_owned_by};
+use room_tables::incidents::{active_incidents, incidents_opened, incidents_since};
+use room_tables::loading::row_at;
 use room_tables::reports::uncleared_reports;
 use room_tables::turns::turns_of;
 use room_tables_schema::faults::Fault;
 use room_types::asks::Ask;
+use room_types::callsign::Callsign;
 use room_types::codes::Outcome;
-use room_types::numbers::Number;
+use room_types::numbers::{Moment, Number};
 use room_types::rows::Rows;
 use room_types::slices::DivisionRows;
 use room_types::tables::{
@@ -37,28 +44,29 @@ use room_types::tables::{
 use sqlite::{Alter, Connection};
 use std::alloc::Global;
 
-/// The rows of a division that a request of its desk may read, loaded by key and by index. A call
-/// that is placed in the division reads as a desk that names nothing.
+/// The rows of a division that a request reads at a moment: what its desk asks, or a call that is
+/// placed in it.
 pub fn load_working<S: Alter>(
     alloc: Global,
     conn: &mut Connection<S>,
     division: DivisionNumber,
     ask: &Ask,
+    at: Moment,
 ) -> Result<DivisionRows, Fault>
     requires room { HasRoomSchema S.Store conn.old }
     ensures rows { Finds S.Store conn.old conn.new result (λ room x. IsInOrder room
-        → room_of room.plan x ≡ working division ask.now room) }
+        → room_of room.plan x ≡ working division ask.now at room) }
     ensures reads { ReadsOnly S.Store conn.old conn.new result }
 {
+    let held = load_held(alloc, conn, division, ask)?;
+    let work = load_work(alloc, conn, division, ask, at)?;
     let reports = load_reports(alloc, conn, division, ask)?;
-    let work = load_work(alloc, conn, division, ask)?;
-    let held = load_held(alloc, conn, division)?;
     Ok(DivisionRows {
         divisions: held.fleet.divisions,
         incidents: work.incidents,
-        calls: work.served.calls,
+        calls: work.calls,
         vehicles: held.fleet.vehicles,
-        turns: work.served.turns,
+        turns: work.turns,
         assignments: held.fleet.assignments,
         points: held.loans.points,
         loans: held.loans.loans,
@@ -67,7 +75,7 @@ pub fn load_working<S: Alter>(
     })
 }
 
-// What every request of the division may read.
+// What a request reads beside incidents and reports.
 #[derive(Drop)]
 struct Held {
     fleet: Fleet,
@@ -78,18 +86,19 @@ fn load_held<S: Alter>(
     alloc: Global,
     conn: &mut Connection<S>,
     division: DivisionNumber,
+    ask: &Ask,
 ) -> Result<Held, Fault>
     requires room { HasRoomSchema S.Store conn.old }
     ensures rows { Finds S.Store conn.old conn.new result (λ room x. IsInOrder room
-        → IsHeld division room x) }
+        → IsHeld division ask.now room x) }
     ensures reads { ReadsOnly S.Store conn.old conn.new result }
 {
-    let fleet = load_fleet(alloc, conn, division)?;
-    let loans = load_loans(alloc, conn, division)?;
+    let fleet = load_fleet(alloc, conn, division, ask)?;
+    let loans = load_loans(alloc, conn, division, ask)?;
     Ok(Held { fleet, loans })
 }
 
-// The division's row, the vehicles that it holds, and its assignments.
+// The division's row, vehicles that it holds, and its assignments.
 #[derive(Drop)]
 struct Fleet {
     divisions: Rows<Division>,
@@ -101,22 +110,42 @@ fn load_fleet<S: Alter>(
     alloc: Global,
     conn: &mut Connection<S>,
     division: DivisionNumber,
+    ask: &Ask,
 ) -> Result<Fleet, Fault>
     requires room { HasRoomSchema S.Store conn.old }
     ensures rows { Finds S.Store conn.old conn.new result (λ room x. IsInOrder room
-        → IsFleet division room x) }
+        → IsFleet division ask.now room x) }
     ensures reads { ReadsOnly S.Store conn.old conn.new result }
 {
-    let row = row_at::<Division, S>(conn, &division)?;
-    let vehicles = rows_owned_by::<Vehicle, S>(alloc, conn, division)?;
-    let assignments = rows_owned_by::<Assignment, S>(alloc, conn, division)?;
-    let mut divisions = Rows::new(alloc);
-    add_found(&mut divisions, row)?;
+    let divisions = load_division(alloc, conn, division, ask)?;
+    let vehicles = load_extent::<Vehicle, S>(alloc, conn, division, &vehicles_read(ask))?;
+    let assignments = load_extent::<Assignment, S>(alloc, conn, division, &assignments_read(ask))?;
     Ok(Fleet {
         divisions,
         vehicles,
         assignments,
     })
+}
+
+// The division's row. It is looked up whatever is asked: the first read tells a connection that a
+// fault has shut, also where nothing else is read.
+fn load_division<S: Alter>(
+    alloc: Global,
+    conn: &mut Connection<S>,
+    division: DivisionNumber,
+    ask: &Ask,
+) -> Result<Rows<Division>, Fault>
+    requires room { HasRoomSchema S.Store conn.old }
+    ensures rows { Finds S.Store conn.old conn.new result (λ room x. IsInOrder room
+        → x ≡ (working division ask.now 0 room).divisions) }
+    ensures reads { ReadsOnly S.Store conn.old conn.new result }
+{
+    let rows = load_one::<Division, S>(alloc, conn, division, &division)?;
+    if reads_division(ask) {
+        Ok(rows)
+    } else {
+        Ok(Rows::new(alloc))
+    }
 }
 
 // Its points, loans and offers.
@@ -131,15 +160,18 @@ fn load_loans<S: Alter>(
     alloc: Global,
     conn: &mut Connection<S>,
     division: DivisionNumber,
+    ask: &Ask,
 ) -> Result<Loans, Fault>
     requires room { HasRoomSchema S.Store conn.old }
+    requires open { HasCleanDisk (state S.Store conn.old)
+        → IsTrue (state S.Store conn.old).is_open }
     ensures rows { Finds S.Store conn.old conn.new result (λ room x. IsInOrder room
-        → AreLoans division room x) }
+        → AreLoans division ask.now room x) }
     ensures reads { ReadsOnly S.Store conn.old conn.new result }
 {
-    let points = rows_owned_by::<Point, S>(alloc, conn, division)?;
-    let loans = rows_owned_by::<Loan, S>(alloc, conn, division)?;
-    let offers = rows_owned_by::<Offer, S>(alloc, conn, division)?;
+    let points = load_extent::<Point, S>(alloc, conn, division, &points_read(ask, division))?;
+    let loans = load_extent::<Loan, S>(alloc, conn, division, &loans_read(ask))?;
+    let offers = load_extent::<Offer, S>(alloc, conn, division, &offers_read(ask))?;
     Ok(Loans {
         points,
         loans,
@@ -147,7 +179,7 @@ fn load_loans<S: Alter>(
     })
 }
 
-// The reports that wait to be cleared, and the one that the request names.
+// The reports that wait to be cleared, or the one that the request names.
 fn load_reports<S: Alter>(
     alloc: Global,
     conn: &mut Connection<S>,
@@ -155,28 +187,18 @@ fn load_reports<S: Alter>(
     ask: &Ask,
 ) -> Result<Rows<Report>, Fault>
     requires room { HasRoomSchema S.Store conn.old }
+    requires open { HasCleanDisk (state S.Store conn.old)
+        → IsTrue (state S.Store conn.old).is_open }
     ensures rows { Finds S.Store conn.old conn.new result (λ room x. IsInOrder room
         → x ≡ filter (λ y. y.division == division && reads_report ask.now y) room.reports) }
     ensures reads { ReadsOnly S.Store conn.old conn.new result }
 {
-    let mut reports = load_exceptions(alloc, conn, division)?;
-    let named = named_report(ask);
-    match &named {
-        Some((callsign, number)) => {
-            let found = row_at::<Report, S>(conn, &(*callsign, *number))?;
-            add_found(&mut reports, own_report(found, division))?;
-            Ok(reports)
-        }
-        None => Ok(reports),
+    if reads_exceptions(ask) {
+        return load_exceptions(alloc, conn, division);
     }
-}
-
-fn own_report(found: Option<Report>, division: DivisionNumber) -> Option<Report>
-    ensures { result ≡ keep (owns_report division) found }
-{
-    match found {
-        Some(report) if report.division == division => Some(report),
-        _ => None,
+    match named_report(ask) {
+        Some(named) => load_one::<Report, S>(alloc, conn, division, &named),
+        None => Ok(Rows::new(alloc)),
     }
 }
 
@@ -223,7 +245,8 @@ fn add_uncleared<S: Alter>(
 #[derive(Drop)]
 struct Work {
     incidents: Rows<Incident>,
-    served: Served,
+    calls: Rows<Call>,
+    turns: Rows<Turn>,
 }
 
 fn load_work<S: Alter>(
@@ -231,43 +254,82 @@ fn load_work<S: Alter>(
     conn: &mut Connection<S>,
     division: DivisionNumber,
     ask: &Ask,
+    at: Moment,
 ) -> Result<Work, Fault>
     requires room { HasRoomSchema S.Store conn.old }
+    requires open { HasCleanDisk (state S.Store conn.old)
+        → IsTrue (state S.Store conn.old).is_open }
     ensures rows { Finds S.Store conn.old conn.new result (λ room x. IsInOrder room
-        → IsWork division ask.now room x) }
+        → IsWork division ask.now at room x) }
     ensures reads { ReadsOnly S.Store conn.old conn.new result }
 {
-    let incidents = load_incidents(alloc, conn, division, ask)?;
+    let incidents = load_incidents(alloc, conn, division, ask, at)?;
     let numbers = numbers_read(alloc, ask, &incidents)?;
-    let served = load_served(alloc, conn, division, numbers.as_slice())?;
-    Ok(Work { incidents, served })
+    let calls = load_calls(alloc, conn, division, ask, numbers.as_slice())?;
+    let turns = load_turns(alloc, conn, division, ask, numbers.as_slice())?;
+    Ok(Work {
+        incidents,
+        calls,
+        turns,
+    })
 }
 
-// The active incidents, those of the day and those that the request names.
+// The active incidents, those opened at moments that the request reads, and those that it names.
 fn load_incidents<S: Alter>(
+    alloc: Global,
+    conn: &mut Connection<S>,
+    division: DivisionNumber,
+    ask: &Ask,
+    at: Moment,
+) -> Result<Rows<Incident>, Fault>
+    requires room { HasRoomSchema S.Store conn.old }
+    requires open { HasCleanDisk (state S.Store conn.old)
+        → IsTrue (state S.Store conn.old).is_open }
+    ensures rows { Finds S.Store conn.old conn.new result (λ room x. IsInOrder room
+        → x ≡ filter (λ i.
+        i.division == division && reads_incident ask.now at i) room.incidents) }
+    ensures reads { ReadsOnly S.Store conn.old conn.new result }
+{
+    let (first, second) = named_incidents(ask);
+    let mut incidents = load_active(alloc, conn, division, ask)?;
+    add_opened(
+        alloc,
+        conn,
+        division,
+        &moments_read(ask, at),
+        &mut incidents,
+    )?;
+    add_named(conn, division, first, &mut incidents)?;
+    add_named(conn, division, second, &mut incidents)?;
+    Ok(incidents)
+}
+
+fn load_active<S: Alter>(
     alloc: Global,
     conn: &mut Connection<S>,
     division: DivisionNumber,
     ask: &Ask,
 ) -> Result<Rows<Incident>, Fault>
     requires room { HasRoomSchema S.Store conn.old }
-    ensures rows { Finds S.Store conn.old conn.new result (λ room x. IsInOrder room
-        → x ≡ filter (λ i. i.division == division && reads_incident ask.now i) room.incidents) }
+    requires open { HasCleanDisk (state S.Store conn.old)
+        → IsTrue (state S.Store conn.old).is_open }
+    ensures rows { Finds S.Store conn.old conn.new result (λ room x.
+        x ≡ filter (λ i. reads_active ask.now &&
+        (is_active i.state && i.division == division)) room.incidents) }
     ensures reads { ReadsOnly S.Store conn.old conn.new result }
 {
-    let (first, second) = named_incidents(ask);
-    let mut incidents = active_incidents(alloc, conn, division)?;
-    add_opened(alloc, conn, division, named_day(ask), &mut incidents)?;
-    add_named(conn, division, first, &mut incidents)?;
-    add_named(conn, division, second, &mut incidents)?;
-    Ok(incidents)
+    if reads_active(ask) {
+        active_incidents(alloc, conn, division)
+    } else {
+        Ok(Rows::new(alloc))
+    }
 }
 
 fn add_opened<S: Alter>(
     alloc: Global,
     conn: &mut Connection<S>,
     division: DivisionNumber,
-    day: Option<(i64, i64)>,
+    moments: &Moments,
     incidents: &mut Rows<Incident>,
 ) -> Result<(), Fault>
     requires room { HasRoomSchema S.Store conn.old }
@@ -276,16 +338,21 @@ fn add_opened<S: Alter>(
     ensures rows { Finds S.Store conn.old conn.new result (λ room _. IsInOrder room
         → (before : Incident → Bool) → incidents.old ≡ filter before room.incidents
         → incidents.new ≡ filter (λ i.
-        before i || (i.division == division && is_moment day i.opened)) room.incidents) }
+        before i || (i.division == division && is_moment moments.now i.opened)) room.incidents) }
     ensures reads { ReadsOnly S.Store conn.old conn.new result }
 {
-    match &day {
-        Some((from, to)) => {
+    match moments {
+        Moments::Between(from, to) => {
             let opened = incidents_opened(alloc, conn, *from, *to, division)?;
             add_all(incidents, &opened)?;
             Ok(())
         }
-        None => Ok(()),
+        Moments::Since(from) => {
+            let opened = incidents_since(alloc, conn, *from, division)?;
+            add_all(incidents, &opened)?;
+            Ok(())
+        }
+        Moments::Never => Ok(()),
     }
 }
 
@@ -314,21 +381,37 @@ fn add_named<S: Alter>(
     }
 }
 
-// The numbers of the incidents whose calls and turns a request reads.
+// The numbers of the incidents whose turns a request reads.
 fn numbers_read(alloc: Global, ask: &Ask, incidents: &Rows<Incident>) -> Result<Vec<Number>, Fault>
-    ensures ok { IfOk result (λ numbers. (division : ℕ) (room : Room) → IsInOrder room
+    ensures ok { IfOk result (λ numbers. (division at : ℕ) (room : Room) → IsInOrder room
         → incidents.now ≡ filter (λ i.
-        i.division == division && reads_incident ask.now i) room.incidents → (n : ℕ)
+        i.division == division && reads_incident ask.now at i) room.incidents → (n : ℕ)
         → contains n numbers.items ≡ reads_number division ask.now room n) }
     ensures memory { IfErr result (λ e. e ≡ Memory) }
 {
     let (first, second) = named_incidents(ask);
+    let mut numbers = numbers_shown(alloc, ask, incidents)?;
+    push_named(&mut numbers, first)?;
+    push_named(&mut numbers, second)?;
+    Ok(numbers)
+}
+
+// Those of the active incidents, where it reads them.
+fn numbers_shown(alloc: Global, ask: &Ask, incidents: &Rows<Incident>) -> Result<Vec<Number>, Fault>
+    ensures ok { IfOk result (λ numbers. (division at : ℕ) (room : Room) → IsInOrder room
+        → incidents.now ≡ filter (λ i.
+        i.division == division && reads_incident ask.now at i) room.incidents → (n : ℕ)
+        → contains n numbers.items ≡ (reads_active ask.now
+        && is_some (keep (λ i. is_active i.state) (incident_of division n room)))) }
+    ensures memory { IfErr result (λ e. e ≡ Memory) }
+{
     let mut numbers = Vec::new(alloc);
+    if !reads_active(ask) {
+        return Ok(numbers);
+    }
     for incident in incidents.as_slice() {
         numbers.push(incident.number)?;
     }
-    push_named(&mut numbers, first)?;
-    push_named(&mut numbers, second)?;
     Ok(numbers)
 }
 
@@ -346,33 +429,120 @@ fn push_named(numbers: &mut Vec<Number>, number: Option<Number>) -> Result<(), F
     }
 }
 
-// The calls and turns of some incidents.
-#[derive(Drop)]
-struct Served {
-    calls: Rows<Call>,
-    turns: Rows<Turn>,
-}
-
-fn load_served<S: Alter>(
+// The calls of some incidents, where the request reads them.
+fn load_calls<S: Alter>(
     alloc: Global,
     conn: &mut Connection<S>,
     division: DivisionNumber,
+    ask: &Ask,
     numbers: &[Number],
-) -> Result<Served, Fault>
+) -> Result<Rows<Call>, Fault>
     requires room { HasRoomSchema S.Store conn.old }
     requires open { HasCleanDisk (state S.Store conn.old)
         → IsTrue (state S.Store conn.old).is_open }
     ensures rows { Finds S.Store conn.old conn.new result (λ room x. IsInOrder room
-        → IsServed division numbers.now room x) }
+        → x ≡ filter (λ c. c.division == division &&
+        (reads_calls ask.now && contains c.incident numbers.now)) room.calls) }
+    ensures reads { ReadsOnly S.Store conn.old conn.new result }
+{
+    if reads_calls(ask) {
+        calls_of_all(alloc, conn, division, numbers)
+    } else {
+        Ok(Rows::new(alloc))
+    }
+}
+
+fn calls_of_all<S: Alter>(
+    alloc: Global,
+    conn: &mut Connection<S>,
+    division: DivisionNumber,
+    numbers: &[Number],
+) -> Result<Rows<Call>, Fault>
+    requires room { HasRoomSchema S.Store conn.old }
+    requires open { HasCleanDisk (state S.Store conn.old)
+        → IsTrue (state S.Store conn.old).is_open }
+    ensures rows { Finds S.Store conn.old conn.new result (λ room x. IsInOrder room
+        → x ≡ filter (λ c.
+        c.division == division && contains c.incident numbers.now) room.calls) }
     ensures reads { ReadsOnly S.Store conn.old conn.new result }
 {
     let mut calls = Rows::new(alloc);
-    let mut turns = Rows::new(alloc);
     for number in numbers {
         let more = calls_of(alloc, conn, division, *number)?;
         add_all(&mut calls, &more)?;
+    }
+    Ok(calls)
+}
+
+// The turns of some incidents, or that of the named vehicle's last order.
+fn load_turns<S: Alter>(
+    alloc: Global,
+    conn: &mut Connection<S>,
+    division: DivisionNumber,
+    ask: &Ask,
+    numbers: &[Number],
+) -> Result<Rows<Turn>, Fault>
+    requires room { HasRoomSchema S.Store conn.old }
+    requires open { HasCleanDisk (state S.Store conn.old)
+        → IsTrue (state S.Store conn.old).is_open }
+    ensures rows { Finds S.Store conn.old conn.new result (λ room x. IsInOrder room
+        → ((n : ℕ) → contains n numbers.now ≡ reads_number division ask.now room n)
+        → x ≡ (working division ask.now 0 room).turns) }
+    ensures reads { ReadsOnly S.Store conn.old conn.new result }
+{
+    match stood_down(ask) {
+        Some(callsign) => last_turn(alloc, conn, division, &callsign),
+        None => turns_of_all(alloc, conn, division, numbers),
+    }
+}
+
+fn turns_of_all<S: Alter>(
+    alloc: Global,
+    conn: &mut Connection<S>,
+    division: DivisionNumber,
+    numbers: &[Number],
+) -> Result<Rows<Turn>, Fault>
+    requires room { HasRoomSchema S.Store conn.old }
+    requires open { HasCleanDisk (state S.Store conn.old)
+        → IsTrue (state S.Store conn.old).is_open }
+    ensures rows { Finds S.Store conn.old conn.new result (λ room x. IsInOrder room
+        → x ≡ filter (λ t.
+        t.division == division && contains t.incident numbers.now) room.turns) }
+    ensures reads { ReadsOnly S.Store conn.old conn.new result }
+{
+    let mut turns = Rows::new(alloc);
+    for number in numbers {
         let more = turns_of(alloc, conn, division, *number)?;
         add_all(&mut turns, &more)?;
     }
-    Ok(Served { calls, turns })
+    Ok(turns)
+}
+
+// The turn of a held vehicle's last order.
+fn last_turn<S: Alter>(
+    alloc: Global,
+    conn: &mut Connection<S>,
+    division: DivisionNumber,
+    callsign: &Callsign,
+) -> Result<Rows<Turn>, Fault>
+    requires room { HasRoomSchema S.Store conn.old }
+    ensures rows { Finds S.Store conn.old conn.new result (λ room x. IsInOrder room
+        → x ≡ filter (λ t. t.division == division &&
+        is_last_turn (held division callsign.now room) t) room.turns) }
+    ensures reads { ReadsOnly S.Store conn.old conn.new result }
+{
+    let found = row_at::<Vehicle, S>(conn, callsign)?;
+    match last_key(owned_row(found, division)) {
+        Some(key) => load_one::<Turn, S>(alloc, conn, division, &key),
+        None => Ok(Rows::new(alloc)),
+    }
+}
+
+// The key of that turn, where the vehicle is there and had an order.
+fn last_key(vehicle: Option<Vehicle>) -> Option<(Callsign, Number)>
+    ensures { (t : Turn) → is_last_turn vehicle t ≡ is_turn result t }
+{
+    let vehicle = vehicle?;
+    let order = Number::new(vehicle.last_order.get())?;
+    Some((vehicle.callsign, order))
 }

@@ -10,6 +10,7 @@ use room_tables_schema::faults::Fault;
 use room_tables_schema::testing::is_room;
 use room_types::asks::{Ask, Event};
 use room_types::fleet::FleetRow;
+use room_types::numbers::Moment;
 use sqlite::{Alter, Connection};
 use std::alloc::{AllocError, Global};
 use std::process::Abort;
@@ -88,7 +89,7 @@ fn active<S: Alter>(
     division: DivisionNumber,
 ) -> Result<usize, Fault> {
     if is_room(conn.schema()) {
-        let rows = load_working(alloc, conn, division, &Ask::Incidents)?;
+        let rows = load_working(alloc, conn, division, &Ask::Incidents, Moment::of(1000))?;
         Ok(rows.incidents.len())
     } else {
         Ok(0)

@@ -12,7 +12,7 @@ ghost use Rattle.room_types.specs.Keys.{pair_cmp, incident_key};
 ghost use Rattle.room_tables_rows.specs.Incidents.{is_incident_row, incident_row};
 ghost use Rattle.room_tables_schema.specs.Schema.{incidents_table};
 ghost use Rattle.room_tables_schema.specs.Connections.{HasRoomSchema};
-ghost use Rattle.room_tables_rows.specs.declared.incidents.TheConstants.{ACTIVE_INCIDENTS, ALL_INCIDENTS, INCIDENTS_OPENED, INCIDENT_AT, PUT_INCIDENT};
+ghost use Rattle.room_tables_rows.specs.declared.incidents.TheConstants.{ACTIVE_INCIDENTS, ALL_INCIDENTS, INCIDENTS_OPENED, INCIDENTS_SINCE, INCIDENT_AT, PUT_INCIDENT};
 ghost use Rattle.room_tables_rows.proofs.IncidentsTable.{incidents_are};
 ghost use Rattle.room_tables.specs.Failures.{AreNoRows, TellsWhy};
 ghost use Rattle.room_tables.specs.Finding.{Finds};
@@ -22,7 +22,7 @@ use crate::tables::{Statements, Table};
 use room_place::plans::DivisionNumber;
 use room_tables_rows::columns::{Field, second};
 use room_tables_rows::incidents::{
-    ACTIVE_INCIDENTS, ALL_INCIDENTS, INCIDENT_AT, INCIDENTS_OPENED, PUT_INCIDENT,
+    ACTIVE_INCIDENTS, ALL_INCIDENTS, INCIDENT_AT, INCIDENTS_OPENED, INCIDENTS_SINCE, PUT_INCIDENT,
 };
 use room_tables_schema::faults::Fault;
 use room_types::codes::State;
@@ -101,5 +101,28 @@ pub fn incidents_opened<S: Alter>(
         conn,
         INCIDENTS_OPENED,
         &[second(from), second(to), division.store()],
+    )
+}
+
+/// The incidents of a division that were opened from a second of UTC since 1970 on.
+pub fn incidents_since<S: Alter>(
+    alloc: Global,
+    conn: &mut Connection<S>,
+    from: i64,
+    division: DivisionNumber,
+) -> Result<Rows<Incident>, Fault>
+    requires room { HasRoomSchema S.Store conn.old }
+    ensures rows { Finds S.Store conn.old conn.new result (λ room rows.
+        rows ≡ filter (λ i. int_le from (pos i.opened) && i.division == division) room.incidents) }
+    ensures reads { ReadsOnly S.Store conn.old conn.new result }
+    ensures why { TellsWhy S.Store conn.old conn.new result INCIDENTS_SINCE.now (Int from
+        ∷ number division
+        ∷ []) (AreNoRows is_incident_row pair_cmp incident_key incident_row) }
+{
+    load(
+        alloc,
+        conn,
+        INCIDENTS_SINCE,
+        &[second(from), division.store()],
     )
 }

@@ -8,7 +8,7 @@ use Rattle.room_tables_rows.specs.Incidents.{incident_row}
 use Rattle.room_tables_rows.specs.Keys.{pair_cells}
 use Rattle.room_tables_rows.specs.Stands.{House}
 use Rattle.room_tables_rows.specs.Tables.{IsHeld, IsTable, PutsRow, SelectsChosen}
-use Rattle.room_tables_rows.specs.declared.incidents.TheConstants.{ACTIVE_INCIDENTS, ALL_INCIDENTS, INCIDENTS_OPENED, INCIDENT_AT, PUT_INCIDENT}
+use Rattle.room_tables_rows.specs.declared.incidents.TheConstants.{ACTIVE_INCIDENTS, ALL_INCIDENTS, INCIDENTS_OPENED, INCIDENTS_SINCE, INCIDENT_AT, PUT_INCIDENT}
 use Rattle.room_tables_schema.specs.Schema.{incidents_table, room_schema}
 use Rattle.room_tables_sql.proofs.ColumnValues.{cast-Int, cast-number_or_null}
 use Rattle.room_tables_sql.proofs.Comparisons.{and_last, and_then, compare_by, conflict_of_two, equal-by_value, equal-numbers, is_eq-then, tie-numbers}
@@ -70,6 +70,16 @@ incidents_opened_chooses from to d = record { terms = at_least 9 0 ∷ below 9 1
 
 pub incidents_opened_are : (from to : ℤ) (d : ℕ) → Shows incident_row INCIDENTS_OPENED.now (Int from ∷ Int to ∷ number d ∷ []) (λ found house room. found ≡ filter (λ x. int_le from (pos x.opened) && (int_lt (pos x.opened) to && x.division == d)) room.incidents)
 incidents_opened_are from to d = chosen_rows incidents_held INCIDENTS_OPENED.now (Int from ∷ Int to ∷ number d ∷ []) (λ x. int_le from (pos x.opened) && (int_lt (pos x.opened) to && x.division == d)) (incidents_opened_chooses from to d)
+
+pub incidents_since_means : Selects room_schema INCIDENTS_SINCE.now 5 (1 ∷ 2 ∷ 3 ∷ 4 ∷ 5 ∷ 6 ∷ 7 ∷ 8 ∷ 9 ∷ 10 ∷ 11 ∷ 12 ∷ []) (1 ∷ 2 ∷ []) (at_least 9 0 ∷ equals_by_value 1 1 ∷ [])
+unfolding understood everything
+incidents_since_means = record { names = _; command = refl; plain = (refl, refl); unlisted = refl }
+
+pub incidents_since_chooses : (from : ℤ) (d : ℕ) → SelectsChosen incidents_table incident_row INCIDENTS_SINCE.now (Int from ∷ number d ∷ []) (λ x. int_le from (pos x.opened) && x.division == d)
+incidents_since_chooses from d = record { terms = at_least 9 0 ∷ equals_by_value 1 1 ∷ []; selects = incidents_since_means; chooses = record { test = λ r. compare_by Ge (column r 8) (Int from) && equal Binary (column r 0) (number d); tells = λ r. and_then refl (and_last (equal-by_value (column r 1) (number d))); same = λ x. and_then (at_least-integers (pos x.opened) from) (equal-numbers x.division d) } }
+
+pub incidents_since_are : (from : ℤ) (d : ℕ) → Shows incident_row INCIDENTS_SINCE.now (Int from ∷ number d ∷ []) (λ found house room. found ≡ filter (λ x. int_le from (pos x.opened) && x.division == d) room.incidents)
+incidents_since_are from d = chosen_rows incidents_held INCIDENTS_SINCE.now (Int from ∷ number d ∷ []) (λ x. int_le from (pos x.opened) && x.division == d) (incidents_since_chooses from d)
 
 pub put_incident_means : Upserts room_schema PUT_INCIDENT.now 4 incidents_table (1 ∷ 2 ∷ []) 12 (row_values 12) (row_update 12)
 unfolding understood everything

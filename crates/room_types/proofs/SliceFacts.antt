@@ -1,10 +1,10 @@
 -- What a slice's rows agree in, for one that decides on them.
 use Rattle.std.proofs.Common.{false, ◌≡◌, ℕ, true, Some, None, subst}
-use Rattle.std.specs.Prelude.{IfSome, IsSome}
+use Rattle.std.specs.Prelude.{IfSome}
 use Rattle.room_types.specs.Keys.{callsign_cmp, vehicle_key}
 use Rattle.room_types.specs.Orders.{callsigns_total, exact_callsigns}
 use Rattle.room_types.specs.Texts.{Callsign}
-use Rattle.room_types.specs.Sent.{SentAgrees}
+use Rattle.room_types.specs.Sent.{PartsAgree}
 use Rattle.room_types.specs.Codes.{is_busy}
 use Rattle.room_types.specs.Slices.{IsShare, assignment_at, is_share, open_turn, vehicle_at}
 use Rattle.room_types.specs.declared.slices.DivisionRows.{DivisionRows}
@@ -21,17 +21,8 @@ module _ (d : ℕ) (s : DivisionRows) (agrees : is_share d s ≡ true) where
   vehicle_named c v e = subst (λ o. IfSome o (λ x. x.callsign ≡ c)) e (row_key callsign_cmp vehicle_key callsigns_total exact_callsigns s.vehicles c)
 
   -- ---- a vehicle that is there
-  pub vehicle_sent : (c : Callsign) (v : Vehicle) → vehicle_at c s ≡ Some v → SentAgrees v (assignment_at c s) (open_turn v s)
-  vehicle_sent c v e = subst (λ o. IfSome o (λ v. SentAgrees v (assignment_at c s) (open_turn v s))) e (share.vehicles c)
+  pub vehicle_parts : (c : Callsign) (v : Vehicle) → vehicle_at c s ≡ Some v → PartsAgree v (assignment_at c s) (open_turn v s)
+  vehicle_parts c v e = subst (λ o. IfSome o (λ v. PartsAgree v (assignment_at c s) (open_turn v s))) e (share.vehicles c)
 
   pub idle_unassigned : (c : Callsign) (v : Vehicle) → vehicle_at c s ≡ Some v → is_busy v.status ≡ false → assignment_at c s ≡ None
-  idle_unassigned c v e idle = sent.idle_unassigned v _ _ (vehicle_sent c v e) idle
-
-  pub idle_unordered : (c : Callsign) (v : Vehicle) → vehicle_at c s ≡ Some v → is_busy v.status ≡ false → open_turn v s ≡ None
-  idle_unordered c v e idle = sent.idle_unordered v _ _ (vehicle_sent c v e) idle
-
-  pub busy_assigned : (c : Callsign) (v : Vehicle) → vehicle_at c s ≡ Some v → is_busy v.status ≡ true → IsSome (assignment_at c s)
-  busy_assigned c v e busy = sent.busy_assigned v _ _ (vehicle_sent c v e) busy
-
-  pub busy_ordered : (c : Callsign) (v : Vehicle) → vehicle_at c s ≡ Some v → is_busy v.status ≡ true → IsSome (open_turn v s)
-  busy_ordered c v e busy = sent.busy_ordered v _ _ (vehicle_sent c v e) busy
+  idle_unassigned c v e idle = sent.idle_apart v _ _ (vehicle_parts c v e) idle

@@ -1,12 +1,12 @@
 -- The rows of one division, and what they agree in.
-use Rattle.std.specs.Prelude.{◌≡◌, ℕ, ◌≤◌, Bool, true, false, cond, ◌==◌, ◌&&◌, nat_le, Option, Some, None, IsSome, IfSome, is_some, is_none}
+use Rattle.std.specs.Prelude.{◌≡◌, ℕ, ◌≤◌, Bool, true, false, cond, ◌==◌, ◌&&◌, nat_le, Option, Some, None, IfSome, is_some, is_none}
 use Rattle.std.specs.List.{list_all}
 use Rattle.std.specs.Ordering.{nat_cmp}
 use Rattle.room_types.specs.Codes.{is_active}
 use Rattle.room_types.specs.Keyed.{row_at, keep}
 use Rattle.room_types.specs.Keys.{callsign_cmp, pair_cmp, numbered_cmp, division_key, incident_key, vehicle_key, turn_key, assignment_key, owns_division, owns_incident, owns_call, owns_vehicle, owns_turn, owns_assignment, owns_point, owns_loan, owns_offer, owns_report}
 use Rattle.room_types.specs.Texts.{Callsign}
-use Rattle.room_types.specs.Sent.{SentAgrees, sent_agrees}
+use Rattle.room_types.specs.Sent.{PartsAgree, parts_agree}
 use Rattle.room_types.specs.declared.slices.DivisionRows.{DivisionRows}
 use Rattle.room_types.specs.declared.tables.Assignment.{Assignment}
 use Rattle.room_types.specs.declared.tables.Division.{Division}
@@ -52,28 +52,27 @@ abbrev pub IsActive : Option Incident → Type 0
 IsActive None = ⊥
 IsActive (Some i) = is_active i.state ≡ true
 
--- a vehicle has an assignment and an open turn exactly where it is busy
+-- what is there of a vehicle's assignment and open turn belongs to it, and together
 abbrev pub VehicleAgrees : DivisionRows → Callsign → Vehicle → Type 0
-VehicleAgrees s c v = SentAgrees v (assignment_at c s) (open_turn v s)
+VehicleAgrees s c v = PartsAgree v (assignment_at c s) (open_turn v s)
 
--- an assignment is of a held vehicle, to an active incident
-abbrev pub AssignmentAgrees : DivisionRows → Callsign → Assignment → Type 0
-AssignmentAgrees s c a = IsSome (vehicle_at c s) × IsActive (incident_at a.division a.incident s)
+-- the incident of an assignment is active, where it is there
+abbrev pub AssignmentAgrees : DivisionRows → Assignment → Type 0
+AssignmentAgrees s a = IfSome (incident_at a.division a.incident s) (λ i. is_active i.state ≡ true)
 
--- orders are numbered up to the vehicle's last, which alone may be open; a turn of a vehicle that is not held is ended
+-- orders are numbered up to the vehicle's last, which alone may be open
 abbrev pub IsInTurn : Turn → Option Vehicle → Type 0
-IsInTurn t None = is_some t.ended ≡ true
+IsInTurn t None = Unit {0}
 IsInTurn t (Some v) = (t.order ≤ v.last_order) × (t.ended ≡ None → t.order ≡ v.last_order)
 
 abbrev pub TurnAgrees : DivisionRows → Callsign → Turn → Type 0
 TurnAgrees s c t = (1 ≤ t.order) × IsInTurn t (vehicle_at c s)
 
--- the rows are division d's, its own row is there, and they agree
+-- the rows are division d's, and those that are there agree
 pub record IsShare (d : ℕ) (s : DivisionRows) : Type 0 where
   pub owned : AreOwned d s
-  pub division : IsSome (division_at d s)
   pub vehicles : (c : Callsign) → IfSome (vehicle_at c s) (VehicleAgrees s c)
-  pub assignments : (c : Callsign) → IfSome (assignment_at c s) (AssignmentAgrees s c)
+  pub assignments : (c : Callsign) → IfSome (assignment_at c s) (AssignmentAgrees s)
   pub turns : (c : Callsign) (n : ℕ) → IfSome (turn_at c n s) (TurnAgrees s c)
 
 -- ---- the same as tests of each row
@@ -91,17 +90,21 @@ are_owned d s =
     && list_all (owns_report d) s.reports))))))))
 
 abbrev pub vehicle_agrees : DivisionRows → Vehicle → Bool
-vehicle_agrees s v = sent_agrees v (assignment_at v.callsign s) (open_turn v s)
+vehicle_agrees s v = parts_agree v (assignment_at v.callsign s) (open_turn v s)
 
 abbrev pub is_active_one : Option Incident → Bool
 is_active_one None = false
 is_active_one (Some i) = is_active i.state
 
+abbrev pub is_active_if_any : Option Incident → Bool
+is_active_if_any None = true
+is_active_if_any (Some i) = is_active i.state
+
 abbrev pub assignment_agrees : DivisionRows → Assignment → Bool
-assignment_agrees s a = is_some (vehicle_at a.callsign s) && is_active_one (incident_at a.division a.incident s)
+assignment_agrees s a = is_active_if_any (incident_at a.division a.incident s)
 
 abbrev pub is_in_turn : Turn → Option Vehicle → Bool
-is_in_turn t None = is_some t.ended
+is_in_turn t None = true
 is_in_turn t (Some v) = cond (is_some t.ended) (nat_le t.order v.last_order) (t.order == v.last_order)
 
 abbrev pub turn_agrees : DivisionRows → Turn → Bool
@@ -110,7 +113,6 @@ turn_agrees s t = nat_le 1 t.order && is_in_turn t (vehicle_at t.callsign s)
 unfoldable pub is_share : ℕ → DivisionRows → Bool
 is_share d s =
     are_owned d s
-    && (is_some (division_at d s)
     && (list_all (vehicle_agrees s) s.vehicles
     && (list_all (assignment_agrees s) s.assignments
-    && list_all (turn_agrees s) s.turns)))
+    && list_all (turn_agrees s) s.turns))

@@ -7,7 +7,7 @@ ghost use Rattle.room_types.specs.Slices.{is_share, are_owned, vehicle_agrees, a
 
 use crate::numbers::Number;
 use crate::rows::{Row, Rows};
-use crate::sent::sent_agrees;
+use crate::sent::parts_agree;
 use crate::tables::{
     Assignment, Call, Division, Incident, Loan, Offer, Point, Report, Turn, Vehicle,
 };
@@ -28,12 +28,11 @@ pub struct DivisionRows {
     pub reports: Rows<Report>,
 }
 
-/// Rows of one division, its own row among them: all of them, or those that a request of its desk
-/// may read.
+/// Rows of one division: all of them, or those that a request reads.
 ///
-/// A vehicle that it holds has an assignment and an open turn exactly where it is busy. Both are
-/// for one incident, which is active, and of the vehicle's last order. No other vehicle has either,
-/// and no turn has a later order.
+/// Those that are there agree. A vehicle with an assignment or an open turn is busy; both are for
+/// one incident, which is active, and of the vehicle's last order. None of its turns has a later
+/// order.
 #[derive(Drop)]
 pub struct Slice {
     pub division: DivisionNumber,
@@ -45,8 +44,8 @@ impl Slice {
     ghost use Rattle.std.specs.Prelude.{◌≡◌, ◌↔◌, IsSome, IfSome};
     ghost use Rattle.room_types.specs.Slices.{IsShare};
 
-    /// A slice of just these rows. None exactly where a row is not the division's, its own row is
-    /// missing, or the rows disagree. Takes no memory.
+    /// A slice of just these rows. None exactly where a row is not the division's, or the rows
+    /// disagree. Takes no memory.
     pub fn build(division: DivisionNumber, rows: DivisionRows) -> Option<Slice>
         ensures share { IsSome result ↔ IsShare division rows }
         ensures rows { IfSome result (λ slice. (slice.division ≡ division) × (slice.rows ≡ rows)) }
@@ -85,11 +84,7 @@ impl DivisionRows {
         let vehicles_agree = self.vehicles_agree();
         let assignments_agree = self.assignments_agree();
         let turns_agree = self.turns_agree();
-        self.are_owned_by(division)
-            && self.divisions.get(&division).is_some()
-            && vehicles_agree
-            && assignments_agree
-            && turns_agree
+        self.are_owned_by(division) && vehicles_agree && assignments_agree && turns_agree
     }
 
     fn are_owned_by(&self, division: DivisionNumber) -> bool
@@ -134,7 +129,7 @@ impl DivisionRows {
     fn vehicle_agrees(&self, vehicle: &Vehicle) -> bool
         ensures { result ≡ vehicle_agrees self.now vehicle.now }
     {
-        sent_agrees(
+        parts_agree(
             vehicle,
             self.assignments.get(&vehicle.callsign),
             self.open_turn(vehicle),
@@ -147,11 +142,10 @@ impl DivisionRows {
         let incident = self
             .incidents
             .get(&(assignment.division, assignment.incident));
-        let is_active = match incident {
+        match incident {
             Some(incident) => incident.state.is_active(),
-            None => false,
-        };
-        is_active && self.vehicles.get(&assignment.callsign).is_some()
+            None => true,
+        }
     }
 
     fn turn_agrees(&self, turn: &Turn) -> bool
@@ -167,7 +161,7 @@ impl DivisionRows {
                     order == last_order
                 }
             }
-            None => turn.ended.is_some(),
+            None => true,
         }
     }
 }

@@ -6,4 +6,4 @@ pub returns-clause-share : goal.returns-clause-share
 returns-clause-share g d r a at order = desk_own d r order a at
 
 pub returns-clause-working : goal.returns-clause-working
-returns-clause-working g d r a at w = desk_working d r w.order w.active a at
+returns-clause-working g d r a at w = desk_working d r w a at

@@ -5,6 +5,9 @@ use Rattle.room_tables_sql.proofs.ReadLaws.{and, but, fails, looked, told}
 use Rattle.room_tables.proofs.RoomReads.{kept}
 use Rattle.room_store_reads.proofs.working.load_held.Goals as goal
 
+pub load_loans-requires-clause-open : goal.load_loans-requires-clause-open
+load_loans-requires-clause-open g c clean = (c.in_ok-fleet.ensures.reads.ok clean).0.is_open
+
 pub returns-clause-rows : goal.returns-clause-rows
 returns-clause-rows g c clean house room h in_order =
     let first = state g.S.Store c.args.conn.now in

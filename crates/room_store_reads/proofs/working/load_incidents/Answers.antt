@@ -11,7 +11,7 @@ use Rattle.room_store_reads.proofs.working.load_incidents.Goals as goal
 pub returns-clause-rows : goal.returns-clause-rows
 returns-clause-rows g c clean house room h in_order =
     let first = state g.S.Store c.args.conn.now in
-    let second = state g.S.Store c.active_incidents.new.conn in
+    let second = state g.S.Store c.load_active.new.conn in
     let third = state g.S.Store c.add_opened.new.conn in
     let fourth = state g.S.Store c.add_named.new.conn in
     let d = c.args.division in
@@ -25,7 +25,7 @@ returns-clause-rows g c clean house room h in_order =
     let two = c.in_ok-add_opened.ensures.rows clean_third house room in_second in_order _ one in
     let three = c.in_ok-add_named.ensures.rows clean_fourth house room in_third in_order _ two in
     let four = c.in_ok-add_named-2.ensures.rows clean house room in_fourth in_order _ three in
-    four ∙ filter_as _ _ room.incidents (λ i. one_test c.args.ask.now d i (is_number c.named_incidents-first.result.0 i.number) (is_number c.named_incidents-first.result.1 i.number) (is_moment c.named_day.result i.opened) (c.named_incidents-first.ensures i.number) (c.named_day.ensures i.opened))
+    four ∙ filter_as _ _ room.incidents (λ i. one_test c.args.ask.now d c.args.at i (is_number c.named_incidents-first.result.0 i.number) (is_number c.named_incidents-first.result.1 i.number) (is_moment c.moments_read.result i.opened) (c.named_incidents-first.ensures i.number) (c.moments_read.ensures i.opened))
 
 pub returns-in_err-incidents-clause-reads : goal.returns-in_err-incidents-clause-reads
 returns-in_err-incidents-clause-reads g c = fails c.from_residual.ensures.0 c.in_err-incidents.ensures.reads

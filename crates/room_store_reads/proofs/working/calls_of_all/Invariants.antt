@@ -6,7 +6,7 @@ use Rattle.room_model.specs.Room.{IsInOrder, Room}
 use Rattle.room_tables.specs.Stands.{House, Stands}
 use Rattle.room_tables_sql.proofs.ReadLaws.{Looked, looked}
 use Rattle.room_store_reads.specs.Reading.{contains}
-use Rattle.room_store_reads.proofs.working.load_served.Given as goal
+use Rattle.room_store_reads.proofs.working.calls_of_all.Given as goal
 
 abbrev pub invariant-loop-number : goal.invariant-loop-number
 invariant-loop-number g l =
@@ -15,6 +15,5 @@ invariant-loop-number g l =
     let seen = take l.number-index l.numbers in
     record {
       looked : Looked g.S.Store l.fn.conn l.conn;
-      calls : HasCleanDisk now → (house : House) (room : Room) → Stands old.now.trees house room → IsInOrder room → l.calls ≡ filter (λ x. x.division == l.division && contains x.incident seen) room.calls;
-      turns : HasCleanDisk now → (house : House) (room : Room) → Stands old.now.trees house room → IsInOrder room → l.turns ≡ filter (λ x. x.division == l.division && contains x.incident seen) room.turns;
+      rows : HasCleanDisk now → (house : House) (room : Room) → Stands old.now.trees house room → IsInOrder room → l.calls ≡ filter (λ x. x.division == l.division && contains x.incident seen) room.calls;
     }

@@ -1,0 +1,23 @@
+use Rattle.std.proofs.Common.{ap, false, refl, sym, ◌&&◌, ◌∙◌, ◌≡◌, ◌||◌}
+use Rattle.std.proofs.lemmas.Result.{IfOk-weaker}
+use Rattle.std.specs.Prelude.{◌==◌}
+use Rattle.room_types.specs.declared.asks.Ask.TheVariants.{StandDown}
+use Rattle.room_model.specs.Working.{names_turn, reads_number, working}
+use Rattle.room_store_reads.proofs.RoomReads.{filter_as, or_none}
+use Rattle.room_store_reads.proofs.working.load_turns.Goals as goal
+
+pub returns-in-Some-clause-rows : goal.returns-in-Some-clause-rows
+returns-in-Some-clause-rows g c clean =
+    let d = c.args.division in
+    let asked : c.args.ask.now ≡ StandDown c.in-Some.callsign = rw c.in-Some.is at c.stood_down.ensures.ask in
+    IfOk-weaker c.last_turn.result _ _ (λ x found house room h in_order numbers.
+    found house room h in_order ∙ sym (ap (λ a. (working d a 0 room).turns) asked)) (c.last_turn.ensures.rows clean)
+
+pub returns-in-None-clause-rows : goal.returns-in-None-clause-rows
+returns-in-None-clause-rows g c clean =
+    let d = c.args.division in
+    let a = c.args.ask.now in
+    IfOk-weaker c.turns_of_all.result _ _ (λ x found house room h in_order numbers.
+    found house room h in_order ∙ filter_as _ _ room.turns (λ t.
+    let unnamed : names_turn d a room t ≡ false = c.stood_down.ensures.turn d room t ∙ rw c.in-None.is refl in
+    ap (λ b. (t.division == d) && b) (numbers t.incident ∙ sym (or_none (reads_number d a room t.incident)) ∙ ap (λ b. reads_number d a room t.incident || b) (sym unnamed)))) (c.turns_of_all.ensures.rows clean)

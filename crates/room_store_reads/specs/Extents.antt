@@ -1,0 +1,12 @@
+-- How much of a table a request reads.
+use Rattle.std.specs.Ordering.{is_eq}
+use Rattle.std.specs.Prelude.{Bool, false, true}
+use Rattle.std.specs.declared.cmp.Ordering.{Ordering}
+use Rattle.room_store_reads.specs.declared.extents.Extent.{Extent}
+use Rattle.room_store_reads.specs.declared.extents.Extent.TheVariants.{Everything, Nothing, One}
+
+-- the row of this key is read
+abbrev pub reaches : {K : Type 0} → (K → K → Ordering) → Extent K → K → Bool
+reaches cmp Nothing k = false
+reaches cmp (One j) k = is_eq (cmp j k)
+reaches cmp Everything k = true
