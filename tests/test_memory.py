@@ -189,7 +189,7 @@ class Memory(MemoryTestCase):
         wanted = [NO_MEMORY]
         wanted += [(0, b''.join(answers[:count]) + WANT, b'') for count in range(len(answers))]
         met = set()
-        for refused, name in self.each(240):
+        for refused, name in self.each(400):
             done = self.program.run(refused, given=stream)
             with self.subTest(f'the dry run without {name}'):
                 self.assertIn(done, [*wanted, ever])
