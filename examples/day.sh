@@ -42,9 +42,9 @@ program init "$room" examples/plan.csv
 say 'Its fleet is enrolled: four vehicles of division 1, one of division 2.'
 program import "$room" examples/fleet.csv
 
-say 'The room is served to 19 connections, one after another.'
-echo "\$ dispatch_room serve room.db $address --connections 19"
-"$dispatch_room" serve "$room" "$address" --connections 19 >"$folder/serving" &
+say 'The room is served to 20 connections, one after another.'
+echo "\$ dispatch_room serve room.db $address --connections 20"
+"$dispatch_room" serve "$room" "$address" --connections 20 >"$folder/serving" &
 server=$!
 until [ -s "$folder/serving" ]; do
   kill -0 "$server" || exit 1
@@ -77,6 +77,9 @@ say 'Division 2 is short of vehicles: desk 1 offers A1, and desk 2 accepts. Then
 ask deskone1 POST /vehicles/A1/lend "{\"to\":2,\"until\":$((now + 1800))}"
 ask desktwo2 POST /vehicles/A1/accept
 ask deskone1 POST /vehicles/A1/off
+
+say 'What desk 1 sees now, over one connection more: its board.'
+program board "$address" deskone1
 
 say 'Desk 1 wants it back: with the next press of the home button it is.'
 ask deskone1 POST /vehicles/A1/recall

@@ -1,5 +1,6 @@
-"""A day in the room, as examples/day.sh plays it: each answer is as the rules say. Moments are
-told as T, the day as DAY."""
+"""A day in the room, as examples/day.sh plays it: each answer is as the rules say, and the board in
+it is the one that docs/OPERATING.md shows. Moments and ages are told as T, minutes that are left as
+M, the day as DAY."""
 # needs: curl
 # builds: dispatch_room
 import re
@@ -13,7 +14,17 @@ def told(line, folder):
     line = re.sub('[0-9]{10}', 'T', line)
     line = line.replace(str(folder), 'FOLDER')
     line = re.sub('[0-9]{4}-[0-9]{2}-[0-9]{2}', 'DAY', line, count=1)
+    line = re.sub('^Room at .*', 'Room at T', line)
+    line = re.sub('[0-9]+:[0-9]{2}:[0-9]{2}', lambda it: 'T'.rjust(len(it[0])), line)
+    line = re.sub('^( .*) [0-9]{2}$', r'\1  M', line)
     return re.sub('^1,T,[0-9]+$', '1,T,SECONDS', line)
+
+
+def block(lines, first, ends):
+    """The lines from one that begins so, up to one that ends them."""
+    start = next(at for at, it in enumerate(lines) if it.startswith(first))
+    end = next(at for at, it in enumerate(lines) if at > start and ends(it))
+    return '\n'.join(lines[start:end]).rstrip()
 
 
 class Day(TestCase):
@@ -29,3 +40,10 @@ class Day(TestCase):
         wanted = (TOP / 'examples' / 'day.out').read_bytes().decode()
         # Where they differ, lines with '-' are what was got and lines with '+' what was wanted.
         self.assertMultiLineEqual('\n'.join(told(it, self.folder) for it in lines), wanted)
+
+    def test_board_of_the_documents(self):
+        shown = (TOP / 'docs' / 'OPERATING.md').read_text().split('\n')
+        shown = block(shown, '    Room at', lambda it: it and not it.startswith('    '))
+        shown = '\n'.join(told(it.removeprefix('    '), self.folder) for it in shown.split('\n'))
+        printed = (TOP / 'examples' / 'day.out').read_text().split('\n')
+        self.assertMultiLineEqual(shown, block(printed, 'Room at', lambda it: it.startswith('#')))

@@ -10,6 +10,7 @@ import re
 from first_version import all_rows, old_room
 from preloaded import EVERY, PreloadedTestCase
 from room import FLEET, PATIENT, PLAN, call, dump, free_port, made, message, run, sql, talk
+from test_board import EMPTY, UNHEARD, UNHURRIED, peer, told_alike
 from test_rows import ROWS, answers, messages
 
 # What is preloaded into the program.
@@ -286,6 +287,18 @@ class Memory(MemoryTestCase):
                 again = self.program.run(NOTHING, 'migrate', file)
                 self.check(f'migrate without {name}, then migrate', again, ever)
                 self.check(f'migrate without {name}, then migrate: the room', all_rows(file), after)
+
+    def test_board(self):
+        """A board that can't reach its room for want of memory says that it can't."""
+        def looked(refused):
+            with peer(lambda stream: stream.sendall(b''.join(EMPTY))) as (address, _):
+                return self.program.run(refused, 'board', address, 'deskone1', *UNHURRIED)
+        ever, unheard = looked(NOTHING), (4, told_alike(UNHEARD).encode(), b'network\n')
+        self.check('board', (ever[0], ever[2]), (0, b''))
+        for refused, name in self.each(80):
+            with self.subTest(f'board without {name}'):
+                self.assertIn(looked(refused), [NO_MEMORY, unheard, ever])
+        self.check('board after all', looked(NOTHING), ever)
 
     def test_serve(self):
         room = made(self.folder / 'served.db')

@@ -46,7 +46,7 @@ class Usage(TestCase):
         self.assertEqual([status, 'Usage:' in out, err], [0, True, ''])
 
     def test_help_of_commands(self):
-        for name in ['init', 'import', 'migrate', 'check', 'serve', 'times']:
+        for name in ['init', 'import', 'migrate', 'check', 'serve', 'board', 'times']:
             status, out, err = run(name, '--help')
             self.check(f'help of {name}',
                        [status, f'Example: dispatch_room {name}' in out, err], [0, True, ''])

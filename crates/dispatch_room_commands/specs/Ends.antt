@@ -1,13 +1,18 @@
 -- How a command ends: what its words and its file are to the program.
-use Rattle.std.specs.Prelude.{Bool, Err, Ok, Result, false, true, ℕ, ◌⊎◌, ◌≡◌}
+use Rattle.std.specs.Prelude.{Bool, Err, List, Ok, Option, Result, false, true, ℕ, ◌⊎◌, ◌≡◌}
+use Rattle.std.specs.Io.KnownBytes.{Appends}
 use Rattle.clap.specs.declared.error.ErrorKind.{ErrorKind}
 use Rattle.clap.specs.declared.error.ErrorKind.TheVariants as kind
+use Rattle.dispatch_room_board.specs.Boards.{IsBoard}
+use Rattle.dispatch_room_board.specs.declared.boards.Board.{Board}
+use Rattle.dispatch_room_board.specs.declared.boards.Reached.{Reached}
+use Rattle.dispatch_room_board.specs.declared.boards.Reached.TheVariants as reached
 use Rattle.sqlite.specs.declared.error.Error.{Error}
 use Rattle.sqlite.specs.declared.error.Error.TheVariants.{SqliteFailure}
 use Rattle.sqlite.specs.declared.error.ErrorCode.TheVariants.{OutOfMemory}
 use Rattle.dispatch_room_endings.specs.Endings.{status_done, status_of}
 use Rattle.dispatch_room_endings.specs.declared.endings.Done.{Done}
-use Rattle.dispatch_room_endings.specs.declared.endings.Done.TheVariants.{Whole}
+use Rattle.dispatch_room_endings.specs.declared.endings.Done.TheVariants.{InPart, Whole}
 use Rattle.dispatch_room_endings.specs.declared.endings.Failure.{Failure}
 use Rattle.dispatch_room_endings.specs.declared.endings.Failure.TheVariants.{Memory, Network, Storage}
 
@@ -43,6 +48,17 @@ IsWordsStatus kind.OutOfMemory status = status ≡ 5
 IsWordsStatus kind.DisplayHelp status = (status ≡ 0) ⊎ (status ≡ 4)
 IsWordsStatus kind.DisplayVersion status = (status ≡ 0) ⊎ (status ≡ 4)
 IsWordsStatus other status = status ≡ 2
+
+-- how a board ends: refused parts are as rows that are refused, and what is not reached is the network's
+abbrev pub end_of_board : Reached → Result Done Failure
+end_of_board reached.All = Ok Whole
+end_of_board reached.AllButRefused = Ok InPart
+end_of_board reached.Less = Err Network
+
+-- the board of what was heard is written, and the command ends so
+abbrev pub IsPrinted : List ℕ → Bool → Bool → Option (List ℕ) → Option (List ℕ) → Done → Type 0
+IsPrinted heard proposes colour old new done =
+    (board : Board) × IsBoard heard proposes colour board × Appends old new board.page.text.items × (end_of_board board.reached ≡ Ok done)
 
 -- the exit status of a command line: by what was done, or by what its words are in place of a command
 abbrev pub IsExit : ℕ → Type 0

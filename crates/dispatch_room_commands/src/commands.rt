@@ -3,6 +3,7 @@ ghost use Rattle.std.specs.Prelude.{◌≡◌};
 ghost use Rattle.clap.specs.Words.{kind_of};
 ghost use Rattle.dispatch_room_commands.specs.Ends.{IsExit, IsHelpDone, IsWordsStatus, is_mistake, status_after};
 
+use crate::boarding::board;
 use crate::checking::check;
 use crate::creating::init;
 use crate::files::is_open_to_others;
@@ -36,7 +37,9 @@ pub fn command<O: Write, E: Write>(
 {
     match words::read(alloc, words) {
         Ok(task) => {
-            warn(rt, task.file(), err);
+            if let Some(file) = task.file() {
+                warn(rt, file, err);
+            }
             end(perform(rt, alloc, &task, out), err)
         }
         Err(error) => refuse(&error, out, err),
@@ -79,6 +82,7 @@ fn perform<O: Write>(
         Task::Migrate { file } => migrate(rt, alloc, file, out),
         Task::Check { file } => check(rt, alloc, file, out),
         Task::Serve { file, service } => serve_file(rt, alloc, file, service, out),
+        Task::Board { ref look } => board(rt, alloc, look, out),
         Task::Times {
             file,
             division,

@@ -2,6 +2,7 @@
 //! storage, and close it.
 #![tactic(auto)]
 
+mod boarding;
 mod checking;
 pub mod commands;
 mod creating;

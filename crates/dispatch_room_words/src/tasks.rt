@@ -1,6 +1,7 @@
 //! What a command line asks for. Files are named by their paths.
 
 use room_place::plans::DivisionNumber;
+use room_types::numbers::Number;
 use std::net::SocketAddr;
 
 /// A command with all that it needs.
@@ -29,6 +30,10 @@ pub enum Task<'a> {
     Check {
         file: &'a str,
     },
+    /// The board of a desk is shown.
+    Board {
+        look: Look<'a>,
+    },
     /// The report of a division's day is written.
     Times {
         file: &'a str,
@@ -39,11 +44,12 @@ pub enum Task<'a> {
 
 impl<'a> Task<'a> {
     ghost use Rattle.std.specs.Prelude.{◌≡◌};
+    ghost use Rattle.std.specs.Option.{option_map};
     ghost use Rattle.dispatch_room_words.specs.Tasks.{file_of};
 
-    /// The room's file.
-    pub fn file(&self) -> &'a str
-        ensures { result.now ≡ file_of self.now }
+    /// The room's file: none of a board, which knows only where a room is served.
+    pub fn file(&self) -> Option<&'a str>
+        ensures { option_map (λ file. file.now) result ≡ file_of self.now }
     {
         match *self {
             Task::Init { file, .. }
@@ -51,7 +57,8 @@ impl<'a> Task<'a> {
             | Task::Migrate { file }
             | Task::Check { file }
             | Task::Serve { file, .. }
-            | Task::Times { file, .. } => file,
+            | Task::Times { file, .. } => Some(file),
+            Task::Board { .. } => None,
         }
     }
 }
@@ -67,4 +74,27 @@ pub struct Service {
     pub idle: u16,
     /// How many seconds a message has from its first byte, and an answer.
     pub patience: u16,
+}
+
+/// Which served room is looked at, by which desk, and how.
+#[derive(Clone, Copy)]
+pub struct Look<'a> {
+    /// Where the room is served.
+    pub address: &'a str,
+    /// The token of the desk.
+    pub token: &'a str,
+    /// The incident whose proposals are shown too.
+    pub incident: Option<Number>,
+    /// How many seconds it may take in all.
+    pub patience: u16,
+    pub color: Color,
+}
+
+/// Whether a board has colours.
+#[derive(Clone, Copy, PartialEq, Eq)]
+pub enum Color {
+    /// It has on a terminal.
+    Auto,
+    Always,
+    Never,
 }

@@ -5,11 +5,12 @@ ghost use Rattle.dispatch_room_words.specs.Tasks.{IsHere, IsServedHere};
 
 use crate::addresses::loopback;
 use crate::builder::Draft;
-use crate::tasks::{Service, Task};
+use crate::tasks::{Color, Look, Service, Task};
 use clap::builder::ValueParser;
 use clap::error::ErrorKind;
 use clap::{Arg, ArgMatches, Command, Error, value_parser};
 use room_place::plans::DivisionNumber;
+use room_types::numbers::Number;
 use std::alloc::Global;
 
 /// The version of the program, whose first number is that of the rooms that it keeps.
@@ -17,6 +18,9 @@ pub const VERSION: &str = "2.0";
 
 // A division is told by its one digit.
 const DIVISIONS: [&str; 9] = ["1", "2", "3", "4", "5", "6", "7", "8", "9"];
+
+// When a board has colours.
+const COLORS: [&str; 3] = ["auto", "always", "never"];
 
 // What is said of an address that reaches more than this machine, or is none.
 const NOT_LOOPBACK: &str = "a room is served at an address of this machine alone, as \
@@ -80,6 +84,9 @@ fn task_of<'a>(matches: &ArgMatches<'a>) -> Result<Task<'a>, Mistake>
     let Some((name, given)) = matches.subcommand() else {
         return Err(Mistake::NoCommand);
     };
+    if name == "board" {
+        return board_of(given);
+    }
     let Some(file) = text(given, "FILE") else {
         return Err(Mistake::NoCommand);
     };
@@ -88,6 +95,15 @@ fn task_of<'a>(matches: &ArgMatches<'a>) -> Result<Task<'a>, Mistake>
     }
     match other_of(name, file, given) {
         Some(task) => Ok(task),
+        None => Err(Mistake::NoCommand),
+    }
+}
+
+fn board_of<'a>(given: &ArgMatches<'a>) -> Result<Task<'a>, Mistake>
+    ensures { IfOk result IsServedHere }
+{
+    match look_of(given) {
+        Some(look) => Ok(Task::Board { look }),
         None => Err(Mistake::NoCommand),
     }
 }
@@ -117,7 +133,7 @@ fn service_of(given: &ArgMatches<'_>) -> Option<Result<Service, Mistake>>
     }))
 }
 
-// The commands but `serve`.
+// The commands over a room's file but `serve`.
 fn other_of<'a>(name: &str, file: &'a str, given: &ArgMatches<'a>) -> Option<Task<'a>>
     ensures { IfSome result IsServedHere }
 {
@@ -138,6 +154,24 @@ fn other_of<'a>(name: &str, file: &'a str, given: &ArgMatches<'a>) -> Option<Tas
             day: text(given, "DAY")?,
         }),
         _ => None,
+    }
+}
+
+fn look_of<'a>(given: &ArgMatches<'a>) -> Option<Look<'a>> {
+    Some(Look {
+        address: text(given, "ADDRESS")?,
+        token: text(given, "TOKEN")?,
+        incident: given.get_one::<u32>("incident").and_then(Number::new),
+        patience: number(given, "patience")?,
+        color: color_of(text(given, "color")?),
+    })
+}
+
+fn color_of(name: &str) -> Color {
+    match name {
+        "always" => Color::Always,
+        "never" => Color::Never,
+        _ => Color::Auto,
     }
 }
 
@@ -164,6 +198,7 @@ fn program<'a>(alloc: Global) -> Draft<'a> {
     .with_command(migrate(alloc))
     .with_command(check(alloc))
     .with_command(serve(alloc))
+    .with_command(board(alloc))
     .with_command(times(alloc))
 }
 
@@ -227,7 +262,47 @@ fn serve<'a>(alloc: Global) -> Draft<'a> {
     .with(word(alloc, "ADDRESS", address))
     .with(connections(alloc))
     .with(idle(alloc))
-    .with(patience(alloc))
+    .with(patience(
+        alloc,
+        "How long a request may take to come, and its answer to be taken",
+    ))
+}
+
+fn board<'a>(alloc: Global) -> Draft<'a> {
+    Draft::new(
+        alloc,
+        "board",
+        "Shows what a desk sees in a room that is served: queue, incidents, vehicles, points, \
+         offers and loans",
+        "It only gets. A live board: watch -c -n 5 dispatch_room board .. --color always\n\n\
+         Example: dispatch_room board 127.0.0.1:8080 deskone1 --incident 1",
+    )
+    .with(word(
+        alloc,
+        "ADDRESS",
+        "Where the room is served: an address with a port",
+    ))
+    .with(word(alloc, "TOKEN", "The token of the desk"))
+    .with(incident(alloc))
+    .with(patience(alloc, "How long it may take in all"))
+    .with(color(alloc))
+}
+
+fn incident<'a>(alloc: Global) -> Arg<'a> {
+    Arg::new(alloc, "incident")
+        .long("incident")
+        .value_name("N")
+        .value_parser(value_parser!(u32).range(1..=2147483647))
+        .help("Show also which vehicles may be sent to this incident")
+}
+
+fn color<'a>(alloc: Global) -> Arg<'a> {
+    Arg::new(alloc, "color")
+        .long("color")
+        .value_name("WHEN")
+        .default_value("auto")
+        .value_parser(ValueParser::Names(&COLORS))
+        .help("Whether lines have colours; auto: on a terminal")
 }
 
 fn connections<'a>(alloc: Global) -> Arg<'a> {
@@ -247,13 +322,13 @@ fn idle<'a>(alloc: Global) -> Arg<'a> {
         .help("How long a connection may be silent between requests, and before the first")
 }
 
-fn patience<'a>(alloc: Global) -> Arg<'a> {
+fn patience<'a>(alloc: Global, help: &'a str) -> Arg<'a> {
     Arg::new(alloc, "patience")
         .long("patience")
         .value_name("SECONDS")
         .default_value("2")
         .value_parser(value_parser!(u16).range(1..=3600))
-        .help("How long a request may take to come, and its answer to be taken")
+        .help(help)
 }
 
 fn times<'a>(alloc: Global) -> Draft<'a> {

@@ -1,0 +1,5 @@
+pub mod Numerals
+pub mod Widths
+pub mod Announced
+pub mod RowLists
+pub mod Shown

@@ -1,0 +1,48 @@
+-- Lemmas on what is shown of an answer.
+use Rattle.std.proofs.Common.{◌≡◌, ℕ, ◌+◌, ◌<◌, List, [], ◌∷◌, ◌++◌, length, take, get_or, Bool, append_assoc, refl, sym, ◌∙◌}
+use Rattle.std.specs.Prelude.{codes, decimal}
+use Rattle.std.proofs.lemmas.List.{append-nil, take_more}
+use Rattle.dispatch_room_board.specs.declared.messages.Message.{Message}
+use Rattle.dispatch_room_board.specs.declared.troubles.Trouble.{Trouble}
+use Rattle.dispatch_room_board.specs.declared.troubles.Trouble.TheVariants.{Unheard, Foreign, Refused}
+use Rattle.dispatch_room_board.specs.declared.pages.Page.{Page}
+use Rattle.dispatch_room_board.specs.declared.pages.Paint.TheVariants.{Plain, Title}
+use Rattle.dispatch_room_board.specs.Boards.{Befalls, IsRefused}
+use Rattle.dispatch_room_board.specs.Messages.{IsMessage}
+use Rattle.dispatch_room_board.specs.Pages.{Adds, text_line}
+use Rattle.dispatch_room_board.specs.Tables.{Table, row_line, row_lines, table_lines, titles_line}
+use Rattle.dispatch_room_board.specs.Troubles.{IsNoRefusal}
+
+pub none_befalls : (heard : List ℕ) (trouble : Trouble) → IsNoRefusal trouble → Befalls heard trouble
+none_befalls heard Unheard h = tt
+none_befalls heard Foreign h = tt
+none_befalls heard (Refused number name) h = absurd h
+
+pub refusal_befalls : (heard rest : List ℕ) (message : Message) (trouble : Trouble) → IsMessage heard message rest → IsRefused message trouble → Befalls heard trouble
+refusal_befalls heard rest message Unheard is refused = tt
+refusal_befalls heard rest message Foreign is refused = tt
+refusal_befalls heard rest message (Refused number name) is refused = (message, rest, is, refused)
+
+lines_end : {T : Type 0} (table : Table T) (colour : Bool) (now : ℕ) (rows : List T) (row : T)
+    → row_lines table colour now (rows ++ row ∷ []) ≡ row_lines table colour now rows ++ row_line table colour now row
+lines_end table colour now [] row = append-nil (row_line table colour now row)
+lines_end table colour now (r ∷ rows) row =
+    rw (lines_end table colour now rows row) (sym (append_assoc (row_line table colour now r) (row_lines table colour now rows) (row_line table colour now row)))
+
+pub lines_more : {T : Type 0} (table : Table T) (colour : Bool) (now : ℕ) (rows : List T) (row : T) (i : ℕ) → i < length rows → row ≡ get_or rows i row
+    → row_lines table colour now (take (i + 1) rows) ≡ row_lines table colour now (take i rows) ++ row_line table colour now row
+lines_more table colour now rows row i below here = rw (take_more rows i row below, ← here) (lines_end table colour now (take i rows) row)
+
+pub adds_more : (a b c : Page) (xs ys zs : List ℕ) → Adds a b xs → Adds b c ys → zs ≡ xs ++ ys → Adds a c zs
+adds_more a b c xs ys zs first second both =
+    (rw (second.0, first.0, both) (append_assoc a.text.items xs ys), second.1 ∙ first.1)
+
+pub table_shown : {T : Type 0} (table : Table T) (now : ℕ) (rows : List T) (a b c d e : Page) (title : List ℕ)
+    → title ≡ table.title ++ codes ": " ++ decimal (length rows)
+    → Adds a b (text_line a.colour Plain []) → Adds b c (text_line b.colour Title title) → Adds c d (titles_line table c.colour rows)
+    → Adds d e (row_lines table d.colour now rows) → Adds a e (table_lines table a.colour now rows)
+unfolding table_lines
+table_shown table now rows a b c d e title is p q r s =
+    adds_more a d e _ _ _
+    (adds_more a c d _ _ _ (adds_more a b c _ _ _ p (rw (p.1, is) at q.0, q.1) refl) (rw (q.1, p.1) at r.0, r.1) refl)
+    (rw (r.1, q.1, p.1) at s.0, s.1) refl

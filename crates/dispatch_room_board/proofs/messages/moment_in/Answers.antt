@@ -1,0 +1,5 @@
+use Rattle.dispatch_room_board.proofs.Announced.{dated}
+use Rattle.dispatch_room_board.proofs.messages.moment_in.Goals as goal
+
+pub returns-in-Some : goal.returns-in-Some
+returns-in-Some c = dated _ _ _ _ c.in-Some.ensures.value c.of.ensures c.moment_of.ensures

@@ -1,0 +1,36 @@
+-- The answers in what was heard (RFC 9112, section 2.1).
+use Rattle.std.specs.Prelude.{◌≡◌, ℕ, List, ◌++◌, length, map, min, codes, Bool, true, Option, Some, IfSome}
+use Rattle.std.specs.Str.Parse.{digits_value}
+use Rattle.httparse.specs.Grammar.{ResponseHead, ReadsResponse, status_code}
+use Rattle.httparse.specs.Spans.{name_and_value}
+use Rattle.httpdate.specs.Date.{IsDateText, unix_secs}
+use Rattle.httpdate.specs.declared.date.HttpDate.{HttpDate}
+use Rattle.room_http_messages.specs.Fields.{Fields, only_value, values_of}
+use Rattle.room_http_messages.specs.Rules.{is_numeral}
+use Rattle.dispatch_room_board.specs.declared.messages.Message.{Message}
+use Rattle.dispatch_room_board.specs.declared.messages.TheConstants.{TOO_LONG}
+
+-- there is one value, digits alone, and they write this number, or one above all that is read
+abbrev pub Announces : List (List ℕ) → ℕ → Type 0
+Announces values n =
+    (value : List ℕ) × (only_value values ≡ Some value) × (is_numeral value ≡ true) × (n ≡ min (digits_value 10 value) TOO_LONG)
+
+-- it is the text of a date, and the date is this moment
+abbrev pub IsDateOf : List ℕ → ℕ → Type 0
+IsDateOf text moment = (date : HttpDate) × IsDateText text date × (unix_secs date ≡ moment)
+
+-- there is one value, and it is the date of this moment
+abbrev pub IsDated : List (List ℕ) → ℕ → Type 0
+IsDated values moment = (value : List ℕ) × (only_value values ≡ Some value) × IsDateOf value moment
+
+-- the fields of a head, as names and values
+abbrev pub fields_in : ResponseHead → Fields
+fields_in h = map name_and_value h.fields
+
+-- the bytes begin with an answer, and rest follows
+pub record IsMessage (bytes : List ℕ) (m : Message) (rest : List ℕ) : Type 0 where
+  pub head : ResponseHead
+  pub reads : ReadsResponse bytes head (m.content.now ++ rest)
+  pub code : m.code ≡ status_code head
+  pub size : Announces (values_of (codes "content-length") (fields_in head)) (length m.content.now)
+  pub moment : IfSome m.moment (IsDated (values_of (codes "date") (fields_in head)))

@@ -1,0 +1,42 @@
+-- What a board asks a room for: requests of HTTP/1.1 (RFC 9112, section 2.1), each a GET.
+use Rattle.std.specs.Prelude.{◌≡◌, ℕ, List, [], ◌++◌, Bool, true, false, codes, decimal, Option, Some, None}
+use Rattle.std.specs.Io.KnownBytes.{Appends}
+
+-- what follows the path in each request, up to the fields that only some have
+unfoldable pub fields_of : List ℕ → List ℕ
+fields_of token = codes " HTTP/1.1\r\nHost: room\r\nX-Terminal: " ++ token ++ codes "\r\n"
+
+-- the GET of a path, with these fields and no more
+unfoldable pub get : List ℕ → List ℕ → List ℕ
+get path fields = codes "GET " ++ (path ++ (fields ++ codes "\r\n"))
+
+-- the GET of a path after which the connection closes
+unfoldable pub last_get : List ℕ → List ℕ → List ℕ
+last_get path fields = codes "GET " ++ (path ++ (fields ++ codes "Connection: close\r\n\r\n"))
+
+-- where the vehicles to send to an incident are asked for
+abbrev pub proposals_path : ℕ → List ℕ
+proposals_path n = codes "/incidents/" ++ (decimal n ++ codes "/propose")
+
+-- the request for them, where an incident is named
+abbrev pub proposals_of : Option ℕ → List ℕ → List ℕ
+proposals_of None fields = []
+proposals_of (Some n) fields = get (proposals_path n) fields
+
+-- all requests of a desk, one after another
+unfoldable pub requests : List ℕ → Option ℕ → List ℕ
+requests token incident =
+    let fields = fields_of token in
+    get (codes "/queue") fields
+    ++ get (codes "/incidents") fields
+    ++ proposals_of incident fields
+    ++ get (codes "/vehicles") fields
+    ++ get (codes "/points") fields
+    ++ get (codes "/offers") fields
+    ++ last_get (codes "/loans") fields
+
+-- all bytes were written, or the first of them before a write failed
+abbrev pub Tells : {W : Type 0} → (W → Option (List ℕ)) → (W → Bool) → W → W → List ℕ → Bool → Type 0
+Tells held has_failed old new bytes true = Appends (held old) (held new) bytes × (has_failed new ≡ false)
+Tells held has_failed old new bytes false =
+    (front : List ℕ) × (rest : List ℕ) × (bytes ≡ front ++ rest) × Appends (held old) (held new) front × (has_failed new ≡ true)

@@ -1,0 +1,49 @@
+//! What is said to a room, and what is heard of it.
+ghost use Rattle.std.specs.Prelude.{◌≡◌, ◌<◌, IfErr, IfOk, OnOk, false, length};
+ghost use Rattle.std.specs.Io.KnownBytes.{Consumes, IsAtEnd};
+ghost use Rattle.room_http_messages.specs.Streams.{WritesAll};
+ghost use Rattle.dispatch_room_board.specs.Requests.{Tells, requests};
+
+use crate::requests::{Asker, requests};
+use room_http_messages::limits::INBOX_ROOM;
+use room_http_messages::sinks::{Sink, write_all};
+use room_http_messages::sources::Source;
+use std::alloc::{AllocError, Global};
+
+/// How many bytes are read of a room at most: 16 MiB, some hundred times what a large room says.
+pub const MOST: usize = 16_777_216;
+
+// How many bytes one read takes at most: what a room's inbox has, so that to the reader of a socket
+// each read is one between two messages, which may wait until the turn is over.
+const PIECE: usize = INBOX_ROOM;
+
+/// Asks: the requests are written and nothing else, or the first bytes of them before a write
+/// failed. Gives whether all were written.
+pub fn tell<W: Sink>(alloc: Global, asker: &Asker, writer: &mut W) -> Result<bool, AllocError>
+    requires { W.has_failed writer.old ≡ false }
+    ensures { IfOk result (Tells W.held W.has_failed writer.old writer.new
+        (requests asker.now.token asker.now.incident)) }
+{
+    let text = requests(alloc, asker)?;
+    Ok(write_all(writer, text.as_bytes()).is_ok())
+}
+
+/// Hears all bytes to the end of the stream, or those before a read failed; at most `MOST` and
+/// what the read that passes it gives.
+pub fn hear<R: Source>(alloc: Global, reader: &mut R) -> Result<Vec<u8>, AllocError>
+    ensures heard { IfOk result (λ heard.
+        Consumes (R.left reader.old) (R.left reader.new) heard.items) }
+    ensures all { IfOk result (λ heard. length heard.items < MOST
+        → R.has_failed reader.new ≡ false → IsAtEnd (R.left reader.new)) }
+{
+    let mut heard = Vec::new(alloc);
+    let mut piece = [0; PIECE];
+    'reads: while heard.len() < MOST {
+        match reader.read(&mut piece) {
+            Err(_) => return Ok(heard),
+            Ok(0) => return Ok(heard),
+            Ok(count) => heard.extend_from_slice(&piece[..count])?,
+        }
+    }
+    Ok(heard)
+}

@@ -1,0 +1,98 @@
+//! Offers and loans of both ways, read and shown.
+ghost use Rattle.dispatch_room_board.specs.Rows.{IsLoan, IsOffer};
+ghost use Rattle.dispatch_room_board.specs.Tables.{loan_table, offer_table};
+
+use crate::cells::{Cell, left, since};
+use crate::columns::Column;
+use crate::columns::Column::{Left, Right};
+use crate::members::{FromJson, member};
+use crate::pages::{Page, Paint};
+use crate::tables::{Layout, Tabled, alarm};
+use room_types::numbers::Moment;
+use room_types::tables::{Loan, Offer};
+use serde_json::Value;
+use std::alloc::{AllocError, Global};
+
+// The columns of offers and of loans.
+const LENT: [Column; 6] = [Left(8), Right(4), Right(4), Left(8), Right(10), Right(8)];
+
+impl FromJson for Offer {
+    ghost says = { IsOffer };
+
+    fn from_json(value: &Value) -> Option<Offer> {
+        Some(Offer {
+            callsign: member(value, "vehicle")?,
+            lender: member(value, "lender")?,
+            borrower: member(value, "borrower")?,
+            since: member(value, "since")?,
+            until: member(value, "until")?,
+        })
+    }
+}
+
+impl Tabled for Offer {
+    ghost table = { offer_table };
+
+    fn layout() -> Layout {
+        Layout {
+            name: "offers",
+            title: "Offers",
+            titles: " vehicle  from   to recalled        age min left",
+            columns: &LENT,
+        }
+    }
+
+    fn put(&self, alloc: Global, now: Moment, page: &mut Page) -> Result<(), AllocError> {
+        let cells = [
+            Cell::Text(self.callsign.as_str()),
+            Cell::Number(u64::from(self.lender.get())),
+            Cell::Number(u64::from(self.borrower.get())),
+            Cell::Text("-"),
+            since(self.since, now),
+            left(self.until, now),
+        ];
+        page.put_row(alloc, Paint::Plain, &LENT, &cells)
+    }
+}
+
+impl FromJson for Loan {
+    ghost says = { IsLoan };
+
+    fn from_json(value: &Value) -> Option<Loan> {
+        Some(Loan {
+            callsign: member(value, "vehicle")?,
+            lender: member(value, "lender")?,
+            borrower: member(value, "borrower")?,
+            since: member(value, "since")?,
+            until: member(value, "until")?,
+            recalled: member(value, "recalled")?,
+        })
+    }
+}
+
+impl Tabled for Loan {
+    ghost table = { loan_table };
+
+    fn layout() -> Layout {
+        Layout {
+            name: "loans",
+            title: "Loans",
+            titles: " vehicle  from   to recalled        age min left",
+            columns: &LENT,
+        }
+    }
+
+    fn put(&self, alloc: Global, now: Moment, page: &mut Page) -> Result<(), AllocError> {
+        let recalled = if self.recalled { "recalled" } else { "-" };
+        let cells = [
+            Cell::Text(self.callsign.as_str()),
+            Cell::Number(u64::from(self.lender.get())),
+            Cell::Number(u64::from(self.borrower.get())),
+            Cell::Text(recalled),
+            since(self.since, now),
+            left(self.until, now),
+        ];
+        let over = self.until.get() <= now.get();
+        page.put_row(alloc, alarm(over), &LENT, &cells)
+    }
+}

@@ -1,0 +1,54 @@
+//! The standby points, read and shown.
+ghost use Rattle.dispatch_room_board.specs.Rows.{IsPointLine};
+ghost use Rattle.dispatch_room_board.specs.Tables.{point_table};
+
+use crate::cells::Cell;
+use crate::columns::Column;
+use crate::columns::Column::{Left, Right};
+use crate::members::{FromJson, member};
+use crate::pages::Page;
+use crate::tables::{Layout, Tabled, alarm};
+use room_types::answers::PointLine;
+use room_types::numbers::Moment;
+use serde_json::Value;
+use std::alloc::{AllocError, Global};
+
+impl FromJson for PointLine {
+    ghost says = { IsPointLine };
+
+    fn from_json(value: &Value) -> Option<PointLine> {
+        Some(PointLine {
+            number: member(value, "number")?,
+            place: member(value, "place")?,
+            cover: member(value, "cover")?,
+            held: member(value, "held")?,
+        })
+    }
+}
+
+// The columns of the points.
+const POINTS: [Column; 4] = [Right(5), Left(14), Right(5), Right(20)];
+
+impl Tabled for PointLine {
+    ghost table = { point_table };
+
+    fn layout() -> Layout {
+        Layout {
+            name: "points",
+            title: "Points",
+            titles: " point place          cover                 held",
+            columns: &POINTS,
+        }
+    }
+
+    fn put(&self, alloc: Global, _now: Moment, page: &mut Page) -> Result<(), AllocError> {
+        let cells = [
+            Cell::Number(u64::from(self.number.get())),
+            Cell::Place(self.place),
+            Cell::Number(u64::from(self.cover.get())),
+            Cell::Number(self.held),
+        ];
+        let short = self.held < u64::from(self.cover.get());
+        page.put_row(alloc, alarm(short), &POINTS, &cells)
+    }
+}

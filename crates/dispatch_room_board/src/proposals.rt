@@ -1,0 +1,58 @@
+//! The vehicles that may be sent to an incident, read and shown.
+ghost use Rattle.dispatch_room_board.specs.Rows.{IsProposal};
+ghost use Rattle.dispatch_room_board.specs.Tables.{proposal_table};
+
+use crate::cells::{Cell, kind};
+use crate::columns::Column;
+use crate::columns::Column::{Left, Right};
+use crate::members::{FromJson, member};
+use crate::pages::Page;
+use crate::tables::{Layout, Tabled, alarm};
+use room_types::answers::Proposal;
+use room_types::numbers::Moment;
+use serde_json::Value;
+use std::alloc::{AllocError, Global};
+
+impl FromJson for Proposal {
+    ghost says = { IsProposal };
+
+    fn from_json(value: &Value) -> Option<Proposal> {
+        Some(Proposal {
+            breaks: member(value, "breaks")?,
+            distance: member(value, "distance")?,
+            kind: member(value, "kind")?,
+            callsign: member(value, "vehicle")?,
+        })
+    }
+}
+
+// The columns of the proposals.
+const PROPOSALS: [Column; 4] = [Left(8), Left(9), Left(21), Right(10)];
+
+impl Tabled for Proposal {
+    ghost table = { proposal_table };
+
+    fn layout() -> Layout {
+        Layout {
+            name: "proposals",
+            title: "Proposals",
+            titles: " vehicle  kind      standby                   metres",
+            columns: &PROPOSALS,
+        }
+    }
+
+    fn put(&self, alloc: Global, _now: Moment, page: &mut Page) -> Result<(), AllocError> {
+        let standby = if self.breaks {
+            "leaves a point short"
+        } else {
+            ""
+        };
+        let cells = [
+            Cell::Text(self.callsign.as_str()),
+            kind(self.kind),
+            Cell::Text(standby),
+            Cell::Number(u64::from(self.distance)),
+        ];
+        page.put_row(alloc, alarm(self.breaks), &PROPOSALS, &cells)
+    }
+}

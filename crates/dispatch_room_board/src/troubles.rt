@@ -1,0 +1,82 @@
+//! Why a part of the board is not there.
+ghost use Rattle.std.specs.Prelude.{◌≡◌, IfOk, IfSome, string_bytes};
+ghost use Rattle.std.specs.List.{list_all};
+ghost use Rattle.serde_json.specs.View.{view};
+ghost use Rattle.room_types.specs.Texts.{is_token_letter};
+ghost use Rattle.dispatch_room_board.specs.Troubles.{IsName, IsTold, told};
+
+use crate::members::{FromJson, member};
+use room_types::text::Text;
+use serde_json::Value;
+use std::alloc::{AllocError, Global};
+
+/// Why a part of the board is not there.
+#[derive(Clone, Copy)]
+pub enum Trouble {
+    /// No answer came, or none that is whole.
+    Unheard,
+    /// What came is no answer of a room.
+    Foreign,
+    /// The room refused: the number and the name of the refusal.
+    Refused(u8, Name),
+}
+
+/// The name of a refusal: at most 32 letters and digits, so that nothing else of a peer's reaches
+/// a terminal.
+#[derive(Clone, Copy)]
+pub struct Name {
+    text: Text<32>,
+}
+
+impl FromJson for Name {
+    ghost says = { IsName };
+
+    fn from_json(value: &Value) -> Option<Name> {
+        let text = value.as_str()?;
+        if !are_letters(text.as_bytes()) {
+            return None;
+        }
+        match Text::new(text) {
+            Some(text) => Some(Name { text }),
+            None => None,
+        }
+    }
+}
+
+fn are_letters(text: &[u8]) -> bool
+    ensures { result ≡ list_all is_token_letter text.now }
+{
+    text.iter().all(|&byte| is_letter(byte))
+}
+
+fn is_letter(byte: u8) -> bool
+    ensures { result ≡ is_token_letter byte }
+{
+    matches!(byte, b'A'..=b'Z' | b'a'..=b'z' | b'0'..=b'9')
+}
+
+/// The trouble that a refusal tells of.
+pub fn refusal_in(value: &Value) -> Option<Trouble>
+    ensures { IfSome result (IsTold (view value.now)) }
+{
+    let number = member(value, "number")?;
+    let name = member(value, "error")?;
+    Some(Trouble::Refused(number, name))
+}
+
+/// What is said in place of the table of a title.
+#[tactic(auto, unfolding(crate::specs::Troubles::told))]
+pub fn told(alloc: Global, title: &str, trouble: &Trouble) -> Result<String, AllocError>
+    ensures { IfOk result (λ text. string_bytes text ≡ told title.now trouble.now) }
+{
+    match trouble {
+        Trouble::Unheard => format!(in alloc; "{title}: not reached: no whole answer came"),
+        Trouble::Foreign => {
+            format!(in alloc; "{title}: not reached: what came is no answer of a room")
+        }
+        Trouble::Refused(number, name) => {
+            let name = name.text.as_str();
+            format!(in alloc; "{title}: refused: {number} {name}")
+        }
+    }
+}

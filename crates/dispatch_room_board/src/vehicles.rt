@@ -1,0 +1,99 @@
+//! The vehicles that a division holds, read and shown.
+ghost use Rattle.std.specs.Prelude.{◌≡◌};
+ghost use Rattle.dispatch_room_board.specs.Cells.{text_of};
+ghost use Rattle.dispatch_room_board.specs.Rows.{IsVehicleLine};
+ghost use Rattle.dispatch_room_board.specs.Tables.{is_overdue, sent_text, shift_text, vehicle_table};
+
+use crate::cells::{Cell, kind, left, status};
+use crate::columns::Column;
+use crate::columns::Column::{Left, Right};
+use crate::members::{FromJson, member};
+use crate::pages::Page;
+use crate::tables::{Layout, Tabled, alarm};
+use room_types::answers::VehicleLine;
+use room_types::numbers::Moment;
+use serde_json::Value;
+use std::alloc::{AllocError, Global};
+
+impl FromJson for VehicleLine {
+    ghost says = { IsVehicleLine };
+
+    fn from_json(value: &Value) -> Option<VehicleLine> {
+        Some(VehicleLine {
+            callsign: member(value, "vehicle")?,
+            home: member(value, "home")?,
+            incident: member(value, "incident")?,
+            kind: member(value, "kind")?,
+            place: member(value, "place")?,
+            post: member(value, "post")?,
+            shift_end: member(value, "shift_end")?,
+            status: member(value, "status")?,
+        })
+    }
+}
+
+// The columns of the vehicles.
+const VEHICLES: [Column; 7] = [
+    Left(8),
+    Left(9),
+    Left(11),
+    Left(14),
+    Right(4),
+    Left(19),
+    Right(8),
+];
+
+impl Tabled for VehicleLine {
+    ghost table = { vehicle_table };
+
+    fn layout() -> Layout {
+        Layout {
+            name: "vehicles",
+            title: "Vehicles",
+            titles: " vehicle  kind      status      place          home sent to             min left",
+            columns: &VEHICLES,
+        }
+    }
+
+    fn put(&self, alloc: Global, now: Moment, page: &mut Page) -> Result<(), AllocError> {
+        let cells = [
+            Cell::Text(self.callsign.as_str()),
+            kind(self.kind),
+            status(self.status),
+            Cell::Place(self.place),
+            Cell::Number(u64::from(self.home.get())),
+            sent_to(self),
+            shift_left(self, now),
+        ];
+        page.put_row(alloc, alarm(is_overdue(self, now)), &VEHICLES, &cells)
+    }
+}
+
+// The incident that a vehicle is sent to, or else the standby point.
+fn sent_to(vehicle: &VehicleLine) -> Cell<'static>
+    ensures { text_of result ≡ sent_text vehicle.now.incident vehicle.now.post }
+{
+    match (vehicle.incident, vehicle.post) {
+        (Some(incident), _) => Cell::Named("incident", incident.get()),
+        (None, Some(point)) => Cell::Named("point", point.get()),
+        (None, None) => Cell::Text("-"),
+    }
+}
+
+// How many minutes of its shift are left to a vehicle that is on duty.
+fn shift_left(vehicle: &VehicleLine, now: Moment) -> Cell<'static>
+    ensures { text_of result ≡ shift_text now vehicle.now.status vehicle.now.shift_end }
+{
+    if vehicle.status.is_off() {
+        Cell::Text("-")
+    } else {
+        left(vehicle.shift_end, now)
+    }
+}
+
+// Whether a vehicle is on duty after its shift.
+fn is_overdue(vehicle: &VehicleLine, now: Moment) -> bool
+    ensures { result ≡ is_overdue now vehicle.now.status vehicle.now.shift_end }
+{
+    !vehicle.status.is_off() && vehicle.shift_end.get() <= now.get()
+}

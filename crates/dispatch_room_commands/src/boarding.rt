@@ -1,0 +1,130 @@
+//! `board`: a served room is asked as a desk, and what the desk sees is shown.
+ghost use Rattle.std.specs.Prelude.{◌≡◌, IfOk, IfSome, List, ℕ, Bool, false, is_some};
+ghost use Rattle.dispatch_room_commands.specs.Ends.{IsPrinted, end_of_board};
+
+use dispatch_room_board::asking::{hear, tell};
+use dispatch_room_board::boards::{Reached, board_of};
+use dispatch_room_board::requests::Asker;
+use dispatch_room_endings::endings::{Done, Failure};
+use dispatch_room_sockets::readers::SocketReader;
+use dispatch_room_sockets::waits::Waits;
+use dispatch_room_sockets::writers::SocketWriter;
+use dispatch_room_words::tasks::{Color, Look};
+use room_types::token::Token;
+use std::alloc::{AllocError, Global};
+use std::io::{IsTerminal, Write};
+use std::net::{OpenStream, TcpStream, ToSocketAddrs};
+use std::time::{Clock, Duration};
+
+/// Shows the board of a desk: what could not be reached is told in it, and by the end. A text that
+/// is no token is refused, and nothing is asked.
+pub fn board<O: Write>(
+    rt: &HostRuntime,
+    alloc: Global,
+    look: &Look<'_>,
+    out: &mut O,
+) -> Result<Done, Failure>
+    ensures { IfOk result (λ done. (heard : List ℕ) × (colour : Bool)
+        × IsPrinted heard (is_some look.now.incident) colour (O.contents out.old)
+        (O.contents out.new) done) }
+{
+    let Some(token) = Token::parse(look.token) else {
+        return Err(Failure::Input);
+    };
+    let incident = look.incident;
+    let Ok(heard) = heard(rt, alloc, look, &Asker { token, incident }) else {
+        return Err(Failure::Memory);
+    };
+    let colour = has_colour(rt, look.color);
+    print(alloc, heard.as_slice(), incident.is_some(), colour, out)
+}
+
+// Prints the board of what was heard.
+fn print<O: Write>(
+    alloc: Global,
+    heard: &[u8],
+    proposes: bool,
+    colour: bool,
+    out: &mut O,
+) -> Result<Done, Failure>
+    ensures { IfOk result
+        (IsPrinted heard.now proposes colour (O.contents out.old) (O.contents out.new)) }
+{
+    let Ok(board) = board_of(alloc, heard, proposes, colour) else {
+        return Err(Failure::Memory);
+    };
+    match out.write_all(board.page.as_slice()) {
+        Ok(()) => end_of(board.reached),
+        Err(_) => Err(Failure::Network),
+    }
+}
+
+// How the command ends by how much of the board was reached.
+fn end_of(reached: Reached) -> Result<Done, Failure>
+    ensures { result ≡ end_of_board reached }
+{
+    match reached {
+        Reached::All => Ok(Done::Whole),
+        Reached::AllButRefused => Ok(Done::InPart),
+        Reached::Less => Err(Failure::Network),
+    }
+}
+
+fn has_colour(rt: &HostRuntime, color: Color) -> bool {
+    match color {
+        Color::Auto => rt.stdout().is_terminal(),
+        Color::Always => true,
+        Color::Never => false,
+    }
+}
+
+// What is heard of a room within the time that was granted: nothing where it takes no connection,
+// and what still comes where it doesn't take all that is asked.
+fn heard(
+    rt: &HostRuntime,
+    alloc: Global,
+    look: &Look<'_>,
+    asker: &Asker,
+) -> Result<Vec<u8>, AllocError> {
+    let Some((mut reader, mut writer)) = sides_of(rt, look.address, look.patience) else {
+        return Ok(Vec::new(alloc));
+    };
+    let _told = tell(alloc, asker, &mut writer)?;
+    hear(alloc, &mut reader)
+}
+
+type Reader<'a> = SocketReader<'a, TcpStream, HostRuntime>;
+
+type Writer<'a> = SocketWriter<'a, TcpStream, HostRuntime>;
+
+// The two sides of a connection to an address. All reads and writes end so many seconds from now:
+// what a reader and a writer grant to one of them is here granted to all.
+fn sides_of<'a>(
+    rt: &'a HostRuntime,
+    address: &str,
+    patience: u16,
+) -> Option<(Reader<'a>, Writer<'a>)>
+    ensures { IfSome result (λ sides. sides.1.failed ≡ false) }
+{
+    let patience = Duration::from_secs(u64::from(patience));
+    let ends = rt.monotonic().ok()?.saturating_add(patience);
+    let stream = connected(rt, address, ends)?;
+    let waits = Waits {
+        idle: patience,
+        patience,
+    };
+    let reader = SocketReader::new(stream.try_clone().ok()?, rt, waits, ends);
+    let writer = SocketWriter::new(stream, rt, patience, ends);
+    Some((reader, writer))
+}
+
+// A connection to an address, where it is there before a moment.
+fn connected(rt: &HostRuntime, address: &str, ends: Duration) -> Option<TcpStream> {
+    for at in address.to_socket_addrs(rt).ok()? {
+        let left = ends.saturating_sub(rt.monotonic().ok()?);
+        if let Ok(stream) = TcpStream::connect_timeout(rt, &at, left) {
+            return Some(stream);
+        }
+    }
+    None
+}

@@ -1,0 +1,339 @@
+"""The board of a desk: what it asks a room, what it shows of a room that is served, line by line,
+and what it tells of a peer that is silent, drips, refuses or talks no HTTP."""
+# needs: python3 sqlite3
+# builds: dispatch_room
+import contextlib
+import os
+import pty
+import re
+import socket
+import subprocess
+import threading
+import time
+
+from room import PROGRAM, TestCase, ask, call, dump, free_port, made, message, run, serving
+
+FLEET = ['A1,1,1,TQ303804,crewofa1', 'A3,1,1,TQ300801,crewofa3', 'C1,1,2,TQ300800,crewofc1']
+PATHS = ['/queue', '/incidents', '/vehicles', '/points', '/offers', '/loans']
+TITLES = ['Queue', 'Incidents', 'Vehicles', 'Points', 'Offers', 'Loans']
+UNHEARD = 'not reached: no whole answer came'
+FOREIGN = 'not reached: what came is no answer of a room'
+NOTHING = 'Room at no moment: nothing was heard'
+DATE = 'Date: Wed, 25 Nov 2026 06:40:00 GMT\r\n'
+# A board waits so long where a busy machine keeps a test waiting.
+UNHURRIED = ['--patience', '60']
+# The last moment of a room: a shift or a loan with this end is not over while a test waits.
+LAST = 4102444799
+
+
+def requests(token, *paths):
+    """What a board writes, by docs/HTTP.md and docs/OPERATING.md."""
+    fields = f' HTTP/1.1\r\nHost: room\r\nX-Terminal: {token}\r\n'
+    last = len(paths) - 1
+    close = ['Connection: close\r\n' if at == last else '' for at in range(len(paths))]
+    return ''.join(f'GET {path}{fields}{more}\r\n' for path, more in zip(paths, close)).encode()
+
+
+def answer(content, status='200 OK', date=DATE):
+    return (f'HTTP/1.1 {status}\r\n{date}Content-Type: application/json\r\n'
+            f'Content-Length: {len(content)}\r\n\r\n{content}').encode()
+
+
+EMPTY = [answer(f'{{"{path[1:]}":[]}}') for path in PATHS]
+
+
+@contextlib.contextmanager
+def peer(speak):
+    """Something that listens, takes one connection and speaks to it; gives its address, and the
+    bytes that it was sent before it spoke."""
+    heard = []
+    with socket.create_server(('127.0.0.1', free_port())) as listener:
+        def serve():
+            with contextlib.suppress(OSError):
+                stream, _ = listener.accept()
+                with stream:
+                    stream.settimeout(60)
+                    heard.append(b'')
+                    while not heard[0].endswith(b'Connection: close\r\n\r\n'):
+                        piece = stream.recv(65536)
+                        if not piece:
+                            return
+                        heard[0] += piece
+                    speak(stream)
+        thread = threading.Thread(target=serve, daemon=True)
+        thread.start()
+        try:
+            yield f'127.0.0.1:{listener.getsockname()[1]}', heard
+        finally:
+            listener.shutdown(socket.SHUT_RDWR)  # where nobody has called, it is waited no more
+
+
+def board(address, *words, token='deskone1'):
+    """A board, which is patient where nothing is told."""
+    return run('board', address, token, *words, *([] if '--patience' in words else UNHURRIED))
+
+
+def told_alike(told, first=NOTHING):
+    """The board of which no table could be shown, each for the same reason."""
+    return ''.join([f'{first}\n', *(f'\n{title}: {told}\n' for title in TITLES)])
+
+
+def steady(text):
+    """A board without what differs from one run to the next: its moment, and of ages and of the
+    minutes that are left to the last moment the digits."""
+    text = re.sub(r'^Room at \w{3}, \d\d \w{3} \d{4} \d\d:\d\d:\d\d GMT$', 'Room at ..', text,
+                  count=1, flags=re.M)
+    text = re.sub(r'\b0:\d\d:\d\d\b', '0:..:..', text)
+    return re.sub(r'\b\d{8}$', '........', text, flags=re.M)
+
+
+class Served(TestCase):
+    """A room that is served, looked at after each of a few requests."""
+
+    def setUp(self):
+        super().setUp()
+        self.room = made(self.folder / 'room.db', *FLEET)
+        self.duty = [message('deskone1', f'POST /vehicles/{callsign}/duty',
+                             f'{{"place":"{place}","until":{LAST}}}')
+                     for callsign, place in [('A1', 'TQ303804'), ('A3', 'TQ300801')]]
+        self.lend = message('deskone1', 'POST /vehicles/A1/lend', f'{{"to":2,"until":{LAST}}}')
+
+    def test_a_day(self):
+        with serving(self.room, 4) as (port, _):
+            send = message('deskone1', 'POST /incidents/1/mobilise', '{"vehicle":"A3"}')
+            point = message('deskone1', 'POST /points/4', '{"cover":2,"place":"TQ310810"}')
+            ask(port, *self.duty, call(1), point)
+            first = board(f'127.0.0.1:{port}', '--incident', 1)
+            ask(port, send, self.lend)
+            second = board(f'127.0.0.1:{port}')
+        self.check('before', (first[0], steady(first[1]), first[2]), (0, '''\
+Room at ..
+
+Queue: 1
+ what                     of                  vehicle      waited
+ point short of cover     point 4                               -
+
+Incidents: 1
+   incident class place          needed served        age
+          1     2 TQ 30000 80000 1 0 0  0 0 0     0:..:..
+
+Proposals: 1
+ vehicle  kind      standby                   metres
+ A3       ambulance                              100
+
+Vehicles: 3
+ vehicle  kind      status      place          home sent to             min left
+ A1       ambulance available   TQ 30300 80400    1 -                   ........
+ A3       ambulance available   TQ 30000 80100    1 -                   ........
+ C1       car       off duty    TQ 30000 80000    1 -                          -
+
+Points: 1
+ point place          cover                 held
+     4 TQ 31000 81000     2                    0
+
+Offers: 0
+
+Loans: 0
+''', ''))
+        self.check('after', (second[0], steady(second[1]), second[2]), (0, '''\
+Room at ..
+
+Queue: 1
+ what                     of                  vehicle      waited
+ point short of cover     point 4                               -
+
+Incidents: 1
+   incident class place          needed served        age
+          1     2 TQ 30000 80000 1 0 0  1 0 0     0:..:..
+
+Vehicles: 3
+ vehicle  kind      status      place          home sent to             min left
+ A1       ambulance offered     TQ 30300 80400    1 -                   ........
+ A3       ambulance mobilised   TQ 30000 80100    1 incident 1          ........
+ C1       car       off duty    TQ 30000 80000    1 -                          -
+
+Points: 1
+ point place          cover                 held
+     4 TQ 31000 81000     2                    0
+
+Offers: 1
+ vehicle  from   to recalled        age min left
+ A1          1    2 -           0:..:.. ........
+
+Loans: 0
+''', ''))
+
+    def test_nothing_changes(self):
+        with serving(self.room, 1) as (port, process):
+            ask(port, *self.duty, call(1))
+            process.wait(30)
+        before = dump(self.room)
+        with serving(self.room, 1) as (port, process):
+            status = board(f'127.0.0.1:{port}', '--incident', 1)[0]
+            process.wait(30)
+        self.assertEqual((status, dump(self.room)), (0, before))
+
+    def test_refused(self):
+        with serving(self.room, 3) as (port, _):
+            for what, token, told in [('unknown', 'nobody123', '38 NoTerminal'),
+                                      ('of a crew', 'crewofa1', '39 WrongRole')]:
+                status, out, err = board(f'127.0.0.1:{port}', token=token)
+                self.check(f'token {what}', (status, steady(out), err),
+                           (1, told_alike(f'refused: {told}', 'Room at ..'), ''))
+            status, out, err = board(f'127.0.0.1:{port}', '--incident', 9)
+            told = [it for it in out.split('\n') if 'refused' in it]
+            self.check('incident', (status, told, err),
+                       (1, ['Proposals: refused: 1 NoSuchIncident'], ''))
+
+
+class Wire(TestCase):
+    """What is said to a peer, and what is made of what it says."""
+
+    def spoken(self, *pieces, words=(), pause=0, stays=False):
+        """The board of a peer that says these bytes, piece by piece, and then ends, or stays silent
+        until the board has ended."""
+        def speak(stream):
+            for piece in pieces:
+                stream.sendall(piece)
+                time.sleep(pause)
+            if stays:
+                stream.recv(1)
+        with peer(speak) as (address, heard):
+            return board(address, *words), b''.join(heard)
+
+    def test_what_is_asked(self):
+        told, heard = self.spoken(*EMPTY)
+        self.check('status', told[0::2], (0, ''))
+        self.check('requests', heard, requests('deskone1', *PATHS))
+        told, heard = self.spoken(*EMPTY[:2], answer('{"proposals":[]}'), *EMPTY[2:],
+                                  words=['--incident', '2147483647'])
+        self.check('status with proposals', told[0::2], (0, ''))
+        self.check('requests with proposals', heard,
+                   requests('deskone1', *PATHS[:2], '/incidents/2147483647/propose', *PATHS[2:]))
+
+    def test_widest_rows(self):
+        queue = ('{"queue":[{"number":2147483647,"rank":2,"since":0,"vehicle":"AMB12345"},'
+                 '{"number":0,"rank":6,"since":1795588739,"vehicle":"A1"}]}')
+        vehicles = ('{"vehicles":[{"home":9,"incident":2147483647,"kind":1,'
+                    '"place":[400000,299999],"post":99,"shift_end":4102444799,"status":5,'
+                    '"vehicle":"AMB12345"},{"home":1,"incident":null,"kind":3,'
+                    '"place":[599999,100000],"post":99,"shift_end":1795588800,"status":6,'
+                    '"vehicle":"A1"}]}')
+        loans = ('{"loans":[{"borrower":2,"lender":1,"recalled":true,"since":1795502400,'
+                 '"until":1795588920,"vehicle":"AMB12345"}]}')
+        (status, out, _), _ = self.spoken(answer(queue), EMPTY[1], answer(vehicles), EMPTY[3],
+                                          EMPTY[4], answer(loans))
+        self.assertEqual((status, out), (0, '''\
+Room at Wed, 25 Nov 2026 06:40:00 GMT
+
+Queue: 2
+ what                     of                  vehicle      waited
+ order not acknowledged   incident 2147483647 AMB12345 9999:59:59
+ shift is over                                A1          0:01:01
+
+Incidents: 0
+
+Vehicles: 2
+ vehicle  kind      status      place          home sent to             min left
+ AMB12345 ambulance at hospital SP 00000 99999    9 incident 2147483647 38447599
+ A1       support   returning   TQ 99999 00000    1 point 99                over
+
+Points: 0
+
+Offers: 0
+
+Loans: 1
+ vehicle  from   to recalled        age min left
+ AMB12345    1    2 recalled   24:00:00        2
+'''))
+
+    def test_colours(self):
+        short = answer('{"points":[{"cover":1,"held":0,"number":1,"place":[530000,180000]}]}')
+        said = [*EMPTY[:3], short, *EMPTY[4:]]
+        row = '     1 TQ 30000 80000     1                    0'
+        for when, wanted in [('always', [f'\x1b[1mPoints: 1\x1b[0m', f'\x1b[31m{row}\x1b[0m']),
+                             ('never', ['Points: 1', row]), ('auto', ['Points: 1', row])]:
+            out = self.spoken(*said, words=['--color', when])[0][1].split('\n')
+            self.check(when, [it for it in wanted if it not in out], [])
+            self.check(f'{when}: others', '\x1b' in ''.join(out), when == 'always')
+
+    def test_colours_of_a_terminal(self):
+        with peer(lambda stream: stream.sendall(b''.join(EMPTY))) as (address, _):
+            ours, theirs = pty.openpty()
+            with open(ours, 'rb', buffering=0) as terminal:
+                with open(theirs, 'wb') as out:
+                    done = subprocess.run([PROGRAM, 'board', address, 'deskone1', *UNHURRIED],
+                                          stdin=subprocess.DEVNULL, stdout=out, timeout=120)
+                told = os.read(terminal.fileno(), 65536)
+        self.check('status', done.returncode, 0)
+        self.check('a title', b'\x1b[1mQueue: 0\x1b[0m' in told, True)
+
+    def test_silence(self):
+        for what, pieces in [('nothing', []), ('part of an answer', [EMPTY[0][:-1]])]:
+            told, _ = self.spoken(*pieces, words=['--patience', '1'], stays=True)
+            self.check(f'{what} is said', told, (4, told_alike(UNHEARD), 'network\n'))
+
+    def test_parts(self):
+        told, _ = self.spoken(*EMPTY[:2], EMPTY[2][:-1])
+        wanted = ['Room at Wed, 25 Nov 2026 06:40:00 GMT', '', 'Queue: 0', '', 'Incidents: 0', '']
+        wanted += [it for title in TITLES[2:] for it in (f'{title}: {UNHEARD}', '')]
+        self.assertEqual(told, (4, '\n'.join(wanted), 'network\n'))
+
+    def test_drips(self):
+        """The time is that of all: a peer that drips doesn't hold a board."""
+        said = b''.join(EMPTY)
+        told, _ = self.spoken(*(said[at:at + 1] for at in range(len(said))), pause=0.1,
+                              words=['--patience', '1'])
+        self.check('told', told, (4, told_alike(UNHEARD), 'network\n'))
+        told, _ = self.spoken(*(said[at:at + 40] for at in range(0, len(said), 40)), pause=0.01)
+        self.check('in pieces', told[0], 0)
+
+    def test_no_http(self):
+        for what, said in [('another protocol', b'SSH-2.0-OpenSSH_9.6\r\n'),
+                           ('no length', b'HTTP/1.1 200 OK\r\n' + DATE.encode() + b'\r\n{}'),
+                           ('a length that is none',
+                            b'HTTP/1.1 200 OK\r\nContent-Length: +2\r\n\r\n{}'),
+                           ('two lengths', b'HTTP/1.1 200 OK\r\nContent-Length: 2\r\n'
+                                           b'Content-Length: 2\r\n\r\n{}')]:
+            told = self.spoken(said)[0]
+            self.check(what, told, (4, told_alike(FOREIGN), 'network\n'))
+
+    def test_other_answers(self):
+        """Whole messages that are none of a room, in place of the first."""
+        escape = '{"error":"\\u001b[2J","number":7}'
+        for what, first in [('no JSON', answer('<html>')), ('no list', answer('{"queue":{}}')),
+                            ('another list', answer('{"loans":[]}')),
+                            ('a row that is none', answer('{"queue":[{"rank":1}]}')),
+                            ('no date', answer('{"queue":[]}', date='')),
+                            ('an error page', answer('Not here', '404 Not Found')),
+                            ('an escape', answer(escape, '409 Conflict')),
+                            ('a number out of range', answer(
+                                '{"queue":[{"number":1,"rank":1,"since":4102444800,'
+                                '"vehicle":""}]}'))]:
+            status, out, err = self.spoken(first, *EMPTY[1:])[0]
+            self.check(what, (status, out.split('\n')[2:5], '\x1b' in out, err),
+                       (4, [f'Queue: {FOREIGN}', '', 'Incidents: 0'], False, 'network\n'))
+
+    def test_nobody_listens(self):
+        told = board(f'127.0.0.1:{free_port()}')
+        self.assertEqual(told, (4, told_alike(UNHEARD), 'network\n'))
+
+    def test_words(self):
+        self.check('a token that is none', board('127.0.0.1:1', token='a b'),
+                   (1, '', 'refused: input\n'))
+        for words in [['board'], ['board', 'a'], ['board', 'a', 'b', 'c'],
+                      ['board', 'a', 'b', '--patience', '0'],
+                      ['board', 'a', 'b', '--patience', '3601'],
+                      ['board', 'a', 'b', '--incident', '0'],
+                      ['board', 'a', 'b', '--incident', '2147483648'],
+                      ['board', 'a', 'b', '--color', 'blue']]:
+            status, out, err = run(*words)
+            self.check(f'usage of {" ".join(words)}', [status, out, err.startswith('error: ')],
+                       [2, '', True])
+
+    def test_output_that_is_not_taken(self):
+        with peer(lambda stream: stream.sendall(b''.join(EMPTY))) as (address, _), \
+                open('/dev/full', 'w') as full:
+            done = subprocess.run([PROGRAM, 'board', address, 'deskone1'], stdout=full,
+                                  stderr=subprocess.PIPE, timeout=60)
+        self.assertEqual((done.returncode, done.stderr), (4, b'network\n'))
