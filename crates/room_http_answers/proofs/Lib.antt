@@ -1,3 +1,4 @@
 pub mod NoFloats
+pub mod Sending
 pub mod HeadLines
 pub mod Dates

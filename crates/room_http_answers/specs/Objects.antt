@@ -1,15 +1,12 @@
--- An object that is being put together.
-use Rattle.std.specs.Prelude.{ℕ, List, String, IfOk, ◌≡◌}
-use Rattle.std.specs.declared.alloc.Global.{Global}
-use Rattle.serde_json.specs.Data.{Data, Members, put}
-use Rattle.serde_json.specs.View.{members_view}
-use Rattle.serde_json.specs.declared.value.Value.{Value}
-use Rattle.room_http_answers.specs.declared.objects.Object.{Object}
+-- What is sent of a value and of an object, as events of serde's.
+use Rattle.serde.specs.Event.{Log}
+use Rattle.serde_json.specs.Data.{Data, Members}
+use Rattle.serde_json.specs.Events.{SendsValue, SendsMembers}
 
--- its members so far, unless memory was wanting
-abbrev pub Has : Members → Object → Type 0
-Has m o = IfOk o.members (λ map. members_view map.entries ≡ m)
+-- the value's events follow those that were sent before
+unfoldable pub Sends : Data → Log → Log → Type 0
+Sends json old new = SendsValue json old new
 
--- the later members are the earlier ones and one more
-abbrev pub IsMore : List ℕ → Data → List (String Global × Value) → List (String Global × Value) → Type 0
-IsMore name value earlier later = members_view later ≡ put name value (members_view earlier)
+-- so do those of an object's later members and of its end
+unfoldable pub SendsRest : Members → Log → Log → Type 0
+SendsRest members old new = SendsMembers members old new

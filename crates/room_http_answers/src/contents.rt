@@ -1,75 +1,97 @@
 //! The content of each answer, and of each refusal.
 ghost use Rattle.std.specs.Prelude.{◌≡◌, IfOk};
-ghost use Rattle.serde_json.specs.View.{view};
+ghost use Rattle.room_http_answers.specs.Objects.{Sends};
 ghost use Rattle.room_http_answers.specs.Contents.{answer_json, refusal_json, json_of, content};
 
-use crate::json::ToJson;
-use crate::objects::Object;
+use crate::json::Tell;
+use crate::objects::{begin, end, member, single};
 use room_types::answers::Answer;
 use room_types::refusals::Refusal;
-use serde_json::Value;
+use serde::{Described, Serialize, Serializer};
 use std::alloc::{AllocError, Global};
 
-impl ToJson for Answer {
+impl Tell for Answer {
     ghost json = { answer_json };
 
-    fn to_json(&self, alloc: Global) -> Result<Value, AllocError> {
-        let object = Object::new(alloc);
-        let object = match self {
-            Answer::Called(division, incident, linked) => object
-                .with("division", division)
-                .with("incident", incident)
-                .with("linked", linked),
-            Answer::Incidents(lines) => object.with("incidents", lines),
-            Answer::Proposals(proposals) => object.with("proposals", proposals),
-            Answer::Mobilised(order, callsign) => {
-                object.with("order", order).with("vehicle", callsign)
+    fn tell<S: Serializer>(&self, out: &mut S) -> Result<(), S::Error> {
+        match self {
+            Answer::Called(division, incident, linked) => {
+                begin(out, 3)?;
+                member(out, "division", division)?;
+                member(out, "incident", incident)?;
+                member(out, "linked", linked)?;
+                end(out)
             }
-            Answer::Done => object.with("done", &true),
-            Answer::Vehicles(lines) => object.with("vehicles", lines),
-            Answer::Queue(entries) => object.with("queue", entries),
-            Answer::Points(lines) => object.with("points", lines),
-            Answer::Loans(loans) => object.with("loans", loans),
-            Answer::Offers(offers) => object.with("offers", offers),
-            Answer::Times(times) => return times.to_json(alloc),
-            Answer::Order(assignment, post, status) => object
-                .with("order", assignment)
-                .with("post", post)
-                .with("status", status),
-            Answer::Reported(number, outcome, status) => object
-                .with("number", number)
-                .with("outcome", outcome)
-                .with("status", status),
-        };
-        object.into_value()
+            Answer::Incidents(lines) => single(out, "incidents", lines),
+            Answer::Proposals(proposals) => single(out, "proposals", proposals),
+            Answer::Mobilised(order, callsign) => {
+                begin(out, 2)?;
+                member(out, "order", order)?;
+                member(out, "vehicle", callsign)?;
+                end(out)
+            }
+            Answer::Done => single(out, "done", &true),
+            Answer::Vehicles(lines) => single(out, "vehicles", lines),
+            Answer::Queue(entries) => single(out, "queue", entries),
+            Answer::Points(lines) => single(out, "points", lines),
+            Answer::Loans(loans) => single(out, "loans", loans),
+            Answer::Offers(offers) => single(out, "offers", offers),
+            Answer::Times(times) => times.tell(out),
+            Answer::Order(assignment, post, status) => {
+                begin(out, 3)?;
+                member(out, "order", assignment)?;
+                member(out, "post", post)?;
+                member(out, "status", status)?;
+                end(out)
+            }
+            Answer::Reported(number, outcome, status) => {
+                begin(out, 3)?;
+                member(out, "number", number)?;
+                member(out, "outcome", outcome)?;
+                member(out, "status", status)?;
+                end(out)
+            }
+        }
     }
 }
 
-impl ToJson for Refusal {
+impl Tell for Refusal {
     ghost json = { refusal_json };
 
-    fn to_json(&self, alloc: Global) -> Result<Value, AllocError> {
-        let refusal = Object::new(alloc)
-            .with("error", &self.name())
-            .with("number", &self.number());
-        refusal.into_value()
+    fn tell<S: Serializer>(&self, out: &mut S) -> Result<(), S::Error> {
+        let (name, number) = (self.name(), self.number());
+        begin(out, 2)?;
+        member(out, "error", &name)?;
+        member(out, "number", &number)?;
+        end(out)
     }
 }
 
-/// What an answer or a refusal says, as JSON.
-fn json_of(alloc: Global, answer: &Result<Answer, Refusal>) -> Result<Value, AllocError>
-    ensures { IfOk result (λ json. view json ≡ json_of answer.now) }
-{
-    match answer {
-        Ok(answer) => answer.to_json(alloc),
-        Err(refusal) => refusal.to_json(alloc),
+/// An answer or a refusal that is to be told, as serde takes it.
+#[derive(Drop)]
+struct Told<'a>(&'a Result<Answer, Refusal>);
+
+impl Described for Told<'_> {
+    ghost writes = { λ told. Sends (json_of told.0.now) };
+}
+
+impl Serialize for Told<'_> {
+    fn serialize<S: Serializer>(&self, out: &mut S) -> Result<(), S::Error> {
+        match self.0 {
+            Ok(answer) => answer.tell(out),
+            Err(refusal) => refusal.tell(out),
+        }
     }
 }
 
-/// The content of the message that tells an answer or a refusal.
+/// The content of the message that tells an answer or a refusal. Only memory can be wanting, since
+/// no answer has a key or a number that JSON doesn't take.
 #[tactic(auto, unfolding(crate::specs::Contents::content))]
 pub fn content(alloc: Global, answer: &Result<Answer, Refusal>) -> Result<Vec<u8>, AllocError>
     ensures { IfOk result (λ text. text.items ≡ content answer.now) }
 {
-    json_of(alloc, answer)?.to_vec(alloc)
+    match serde_json::to_vec(alloc, &Told(answer)) {
+        Ok(text) => Ok(text),
+        Err(_) => Err(AllocError),
+    }
 }

@@ -1,9 +1,11 @@
-//! What answers say, as JSON values.
-ghost use Rattle.std.specs.Prelude.{◌≡◌, ℕ, IfOk, Option, Some, None};
-ghost use Rattle.serde_json.specs.Data.{Data, Members, no_members, object, put, boolean, number, string};
+//! What answers say, as JSON that is sent value by value.
+#![tactic(auto, unfolding(crate::specs::Objects::Sends))]
+
+ghost use Rattle.std.specs.Prelude.{ℕ, OnOk, Option, Some, None};
+ghost use Rattle.serde_json.specs.Data.{Data, boolean, number, string};
 ghost use Rattle.serde_json.specs.Find.{of_integer};
-ghost use Rattle.serde_json.specs.View.{view};
 ghost use Rattle.room_http_answers.specs.Shapes.{whole, or_null, list_of};
+ghost use Rattle.room_http_answers.specs.Objects.{Sends};
 ghost use Rattle.room_http_answers.specs.Contents.{counts_json, place_json};
 ghost use Rattle.room_types.specs.Codes.{kind_number, status_number, outcome_name};
 
@@ -12,150 +14,162 @@ use room_place::places::Place;
 use room_types::answers::Listed;
 use room_types::callsign::Callsign;
 use room_types::codes::{Kind, Outcome, Status};
-use room_types::needs::Counts;
-use serde_json::Value;
-use std::alloc::{AllocError, Global};
+use room_types::needs::{Counts, Needs};
+use serde::Serializer;
 
-/// What an answer can say.
-pub trait ToJson {
+/// What an answer can say. The types are of other crates, as serde's `Serialize` is.
+pub trait Tell {
     // The JSON that says it.
     ghost json: { Self → Data };
 
-    /// The JSON that says it.
-    fn to_json(&self, alloc: Global) -> Result<Value, AllocError>
-        ensures { IfOk result (λ value. view value ≡ json self.now) };
+    /// Sends the JSON that says it.
+    fn tell<S: Serializer>(&self, out: &mut S) -> Result<(), S::Error>
+        ensures { OnOk result (Sends (json self.now) (S.written out.old) (S.written out.new)) };
 }
 
-impl ToJson for bool {
+impl Tell for bool {
     ghost json = { boolean };
 
-    fn to_json(&self, _alloc: Global) -> Result<Value, AllocError> {
-        Ok(Value::from(*self))
+    fn tell<S: Serializer>(&self, out: &mut S) -> Result<(), S::Error> {
+        out.bool(*self)
     }
 }
 
-impl ToJson for u8 {
+impl Tell for u8 {
     ghost json = { whole };
 
-    fn to_json(&self, _alloc: Global) -> Result<Value, AllocError> {
-        Ok(Value::from(*self))
+    fn tell<S: Serializer>(&self, out: &mut S) -> Result<(), S::Error> {
+        out.u64(u64::from(*self))
     }
 }
 
-impl ToJson for u32 {
+impl Tell for u32 {
     ghost json = { whole };
 
-    fn to_json(&self, _alloc: Global) -> Result<Value, AllocError> {
-        Ok(Value::from(*self))
+    fn tell<S: Serializer>(&self, out: &mut S) -> Result<(), S::Error> {
+        out.u64(u64::from(*self))
     }
 }
 
-impl ToJson for u64 {
+impl Tell for u64 {
     ghost json = { whole };
 
-    fn to_json(&self, _alloc: Global) -> Result<Value, AllocError> {
-        Ok(Value::from(*self))
+    fn tell<S: Serializer>(&self, out: &mut S) -> Result<(), S::Error> {
+        out.u64(*self)
     }
 }
 
-impl ToJson for i64 {
+impl Tell for i64 {
     ghost json = { λ z. number (of_integer z) };
 
-    fn to_json(&self, _alloc: Global) -> Result<Value, AllocError> {
-        Ok(Value::from(*self))
-    }
-}
-
-impl ToJson for &str {
-    ghost json = { λ text. string text.now };
-
-    fn to_json(&self, alloc: Global) -> Result<Value, AllocError> {
-        Value::try_from_str(alloc, self)
-    }
-}
-
-impl<const LEAST: u32, const GREATEST: u32> ToJson for Bounded<LEAST, GREATEST> {
-    ghost json = { whole };
-
-    fn to_json(&self, _alloc: Global) -> Result<Value, AllocError> {
-        Ok(Value::from(self.get()))
-    }
-}
-
-impl<T: ToJson> ToJson for Option<T> {
-    ghost json = { or_null T.json };
-
-    fn to_json(&self, alloc: Global) -> Result<Value, AllocError> {
-        match self {
-            Some(value) => value.to_json(alloc),
-            None => Ok(Value::Null),
+    fn tell<S: Serializer>(&self, out: &mut S) -> Result<(), S::Error> {
+        if *self < 0 {
+            out.i64(*self)
+        } else {
+            out.u64(*self as u64)
         }
     }
 }
 
-impl ToJson for Callsign {
+impl Tell for &str {
+    ghost json = { λ text. string text.now };
+
+    fn tell<S: Serializer>(&self, out: &mut S) -> Result<(), S::Error> {
+        out.str(self)
+    }
+}
+
+impl<const LEAST: u32, const GREATEST: u32> Tell for Bounded<LEAST, GREATEST> {
+    ghost json = { whole };
+
+    fn tell<S: Serializer>(&self, out: &mut S) -> Result<(), S::Error> {
+        out.u64(u64::from(self.get()))
+    }
+}
+
+impl<T: Tell> Tell for Option<T> {
+    ghost json = { or_null T.json };
+
+    fn tell<S: Serializer>(&self, out: &mut S) -> Result<(), S::Error> {
+        match self {
+            Some(value) => value.tell(out),
+            None => out.unit(),
+        }
+    }
+}
+
+impl Tell for Callsign {
     ghost json = { string };
 
-    fn to_json(&self, alloc: Global) -> Result<Value, AllocError> {
-        Value::try_from_str(alloc, self.as_str())
+    fn tell<S: Serializer>(&self, out: &mut S) -> Result<(), S::Error> {
+        out.str(self.as_str())
     }
 }
 
-impl ToJson for Kind {
+impl Tell for Kind {
     ghost json = { λ kind. whole (kind_number kind) };
 
-    fn to_json(&self, _alloc: Global) -> Result<Value, AllocError> {
-        Ok(Value::from(self.number()))
+    fn tell<S: Serializer>(&self, out: &mut S) -> Result<(), S::Error> {
+        out.u64(u64::from(self.number()))
     }
 }
 
-impl ToJson for Status {
+impl Tell for Status {
     ghost json = { λ status. whole (status_number status) };
 
-    fn to_json(&self, _alloc: Global) -> Result<Value, AllocError> {
-        Ok(Value::from(self.number()))
+    fn tell<S: Serializer>(&self, out: &mut S) -> Result<(), S::Error> {
+        out.u64(u64::from(self.number()))
     }
 }
 
-impl ToJson for Outcome {
+impl Tell for Outcome {
     ghost json = { λ outcome. string (outcome_name outcome) };
 
-    fn to_json(&self, alloc: Global) -> Result<Value, AllocError> {
-        Value::try_from_str(alloc, self.name())
+    fn tell<S: Serializer>(&self, out: &mut S) -> Result<(), S::Error> {
+        out.str(self.name())
     }
 }
 
-impl ToJson for Counts {
+impl Tell for Counts {
     ghost json = { counts_json };
 
-    fn to_json(&self, alloc: Global) -> Result<Value, AllocError> {
-        list(alloc, &[self.ambulances, self.cars, self.support])
+    fn tell<S: Serializer>(&self, out: &mut S) -> Result<(), S::Error> {
+        list(&[self.ambulances, self.cars, self.support], out)
     }
 }
 
-impl ToJson for Place {
+impl Tell for Needs {
+    ghost json = { counts_json };
+
+    fn tell<S: Serializer>(&self, out: &mut S) -> Result<(), S::Error> {
+        self.counts().tell(out)
+    }
+}
+
+impl Tell for Place {
     ghost json = { place_json };
 
-    fn to_json(&self, alloc: Global) -> Result<Value, AllocError> {
-        list(alloc, &[self.east.get(), self.north.get()])
+    fn tell<S: Serializer>(&self, out: &mut S) -> Result<(), S::Error> {
+        list(&[self.east.get(), self.north.get()], out)
     }
 }
 
-impl<L: ToJson + Copy> ToJson for Listed<L> {
+impl<L: Tell + Copy> Tell for Listed<L> {
     ghost json = { list_of L.json };
 
-    fn to_json(&self, alloc: Global) -> Result<Value, AllocError> {
-        list(alloc, self.as_slice())
+    fn tell<S: Serializer>(&self, out: &mut S) -> Result<(), S::Error> {
+        list(self.as_slice(), out)
     }
 }
 
 /// A list, item by item.
-fn list<T: ToJson>(alloc: Global, items: &[T]) -> Result<Value, AllocError>
-    ensures { IfOk result (λ value. view value ≡ list_of T.json items.now) }
+fn list<T: Tell, S: Serializer>(items: &[T], out: &mut S) -> Result<(), S::Error>
+    ensures { OnOk result
+        (Sends (list_of T.json items.now) (S.written out.old) (S.written out.new)) }
 {
-    let mut values = Vec::new(alloc);
+    out.begin_seq(Some(items.len()))?;
     for item in items {
-        values.push(item.to_json(alloc)?)?;
+        item.tell(out)?;
     }
-    Ok(Value::Array(values))
+    out.end_seq()
 }

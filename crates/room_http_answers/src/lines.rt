@@ -1,156 +1,164 @@
 //! The lines of longer answers.
-ghost use Rattle.room_http_answers.specs.Contents.{assignment_json, entry_json, incident_json, loan_json, offer_json, point_json, proposal_json, times_json, times_line_json, vehicle_json};
+ghost use Rattle.std.specs.Prelude.{◌≡◌};
+ghost use Rattle.room_http_answers.specs.Contents.{assignment_json, callsign_or_empty, entry_json, incident_json, loan_json, offer_json, point_json, proposal_json, times_json, times_line_json, vehicle_json};
 
-use crate::json::ToJson;
-use crate::objects::Object;
+use crate::json::Tell;
+use crate::objects::{begin, end, member};
 use room_types::answers::{
     Entry, IncidentLine, PointLine, Proposal, Times, TimesLine, VehicleLine,
 };
+use room_types::callsign::Callsign;
 use room_types::tables::{Assignment, Loan, Offer};
-use serde_json::Value;
-use std::alloc::{AllocError, Global};
+use serde::Serializer;
 
-impl ToJson for IncidentLine {
+impl Tell for IncidentLine {
     ghost json = { incident_json };
 
-    fn to_json(&self, alloc: Global) -> Result<Value, AllocError> {
-        let line = Object::new(alloc)
-            .with("calls", &self.calls)
-            .with("class", &self.class)
-            .with("lack", &self.lack)
-            .with("needs", &self.needs.counts())
-            .with("number", &self.number)
-            .with("opened", &self.opened)
-            .with("place", &self.place);
-        line.into_value()
+    fn tell<S: Serializer>(&self, out: &mut S) -> Result<(), S::Error> {
+        begin(out, 7)?;
+        member(out, "calls", &self.calls)?;
+        member(out, "class", &self.class)?;
+        member(out, "lack", &self.lack)?;
+        member(out, "needs", &self.needs)?;
+        member(out, "number", &self.number)?;
+        member(out, "opened", &self.opened)?;
+        member(out, "place", &self.place)?;
+        end(out)
     }
 }
 
-impl ToJson for Proposal {
+impl Tell for Proposal {
     ghost json = { proposal_json };
 
-    fn to_json(&self, alloc: Global) -> Result<Value, AllocError> {
-        let proposal = Object::new(alloc)
-            .with("breaks", &self.breaks)
-            .with("distance", &self.distance)
-            .with("kind", &self.kind)
-            .with("vehicle", &self.callsign);
-        proposal.into_value()
+    fn tell<S: Serializer>(&self, out: &mut S) -> Result<(), S::Error> {
+        begin(out, 4)?;
+        member(out, "breaks", &self.breaks)?;
+        member(out, "distance", &self.distance)?;
+        member(out, "kind", &self.kind)?;
+        member(out, "vehicle", &self.callsign)?;
+        end(out)
     }
 }
 
-impl ToJson for VehicleLine {
+impl Tell for VehicleLine {
     ghost json = { vehicle_json };
 
-    fn to_json(&self, alloc: Global) -> Result<Value, AllocError> {
-        let line = Object::new(alloc)
-            .with("home", &self.home)
-            .with("incident", &self.incident)
-            .with("kind", &self.kind)
-            .with("place", &self.place)
-            .with("post", &self.post)
-            .with("shift_end", &self.shift_end)
-            .with("status", &self.status)
-            .with("vehicle", &self.callsign);
-        line.into_value()
+    fn tell<S: Serializer>(&self, out: &mut S) -> Result<(), S::Error> {
+        begin(out, 8)?;
+        member(out, "home", &self.home)?;
+        member(out, "incident", &self.incident)?;
+        member(out, "kind", &self.kind)?;
+        member(out, "place", &self.place)?;
+        member(out, "post", &self.post)?;
+        member(out, "shift_end", &self.shift_end)?;
+        member(out, "status", &self.status)?;
+        member(out, "vehicle", &self.callsign)?;
+        end(out)
     }
 }
 
-impl ToJson for Entry {
+/// The callsign, or the empty text where there is none.
+fn callsign_or_empty(callsign: &Option<Callsign>) -> &str
+    ensures { result.now ≡ callsign_or_empty callsign.now }
+{
+    match callsign {
+        Some(callsign) => callsign.as_str(),
+        None => "",
+    }
+}
+
+impl Tell for Entry {
     ghost json = { entry_json };
 
-    fn to_json(&self, alloc: Global) -> Result<Value, AllocError> {
-        let vehicle = match &self.callsign {
-            Some(callsign) => callsign.as_str(),
-            None => "",
-        };
-        let entry = Object::new(alloc)
-            .with("number", &self.number)
-            .with("rank", &self.rank)
-            .with("since", &self.since)
-            .with("vehicle", &vehicle);
-        entry.into_value()
+    fn tell<S: Serializer>(&self, out: &mut S) -> Result<(), S::Error> {
+        let vehicle = callsign_or_empty(&self.callsign);
+        begin(out, 4)?;
+        member(out, "number", &self.number)?;
+        member(out, "rank", &self.rank)?;
+        member(out, "since", &self.since)?;
+        member(out, "vehicle", &vehicle)?;
+        end(out)
     }
 }
 
-impl ToJson for PointLine {
+impl Tell for PointLine {
     ghost json = { point_json };
 
-    fn to_json(&self, alloc: Global) -> Result<Value, AllocError> {
-        let line = Object::new(alloc)
-            .with("cover", &self.cover)
-            .with("held", &self.held)
-            .with("number", &self.number)
-            .with("place", &self.place);
-        line.into_value()
+    fn tell<S: Serializer>(&self, out: &mut S) -> Result<(), S::Error> {
+        begin(out, 4)?;
+        member(out, "cover", &self.cover)?;
+        member(out, "held", &self.held)?;
+        member(out, "number", &self.number)?;
+        member(out, "place", &self.place)?;
+        end(out)
     }
 }
 
-impl ToJson for Loan {
+impl Tell for Loan {
     ghost json = { loan_json };
 
-    fn to_json(&self, alloc: Global) -> Result<Value, AllocError> {
-        let loan = Object::new(alloc)
-            .with("borrower", &self.borrower)
-            .with("lender", &self.lender)
-            .with("recalled", &self.recalled)
-            .with("since", &self.since)
-            .with("until", &self.until)
-            .with("vehicle", &self.callsign);
-        loan.into_value()
+    fn tell<S: Serializer>(&self, out: &mut S) -> Result<(), S::Error> {
+        begin(out, 6)?;
+        member(out, "borrower", &self.borrower)?;
+        member(out, "lender", &self.lender)?;
+        member(out, "recalled", &self.recalled)?;
+        member(out, "since", &self.since)?;
+        member(out, "until", &self.until)?;
+        member(out, "vehicle", &self.callsign)?;
+        end(out)
     }
 }
 
-impl ToJson for Offer {
+impl Tell for Offer {
     ghost json = { offer_json };
 
-    fn to_json(&self, alloc: Global) -> Result<Value, AllocError> {
-        let offer = Object::new(alloc)
-            .with("borrower", &self.borrower)
-            .with("lender", &self.lender)
-            .with("since", &self.since)
-            .with("until", &self.until)
-            .with("vehicle", &self.callsign);
-        offer.into_value()
+    fn tell<S: Serializer>(&self, out: &mut S) -> Result<(), S::Error> {
+        begin(out, 5)?;
+        member(out, "borrower", &self.borrower)?;
+        member(out, "lender", &self.lender)?;
+        member(out, "since", &self.since)?;
+        member(out, "until", &self.until)?;
+        member(out, "vehicle", &self.callsign)?;
+        end(out)
     }
 }
 
-impl ToJson for TimesLine {
+impl Tell for TimesLine {
     ghost json = { times_line_json };
 
-    fn to_json(&self, alloc: Global) -> Result<Value, AllocError> {
-        let line = Object::new(alloc)
-            .with("activation", &self.activation)
-            .with("number", &self.number)
-            .with("opened", &self.opened);
-        line.into_value()
+    fn tell<S: Serializer>(&self, out: &mut S) -> Result<(), S::Error> {
+        begin(out, 3)?;
+        member(out, "activation", &self.activation)?;
+        member(out, "number", &self.number)?;
+        member(out, "opened", &self.opened)?;
+        end(out)
     }
 }
 
-impl ToJson for Times {
+impl Tell for Times {
     ghost json = { times_json };
 
-    fn to_json(&self, alloc: Global) -> Result<Value, AllocError> {
-        let times = Object::new(alloc)
-            .with("activated", &self.activated)
-            .with("from", &self.from)
-            .with("incidents", &self.lines)
-            .with("to", &self.to)
-            .with("within", &self.within);
-        times.into_value()
+    fn tell<S: Serializer>(&self, out: &mut S) -> Result<(), S::Error> {
+        begin(out, 5)?;
+        member(out, "activated", &self.activated)?;
+        member(out, "from", &self.from)?;
+        member(out, "incidents", &self.lines)?;
+        member(out, "to", &self.to)?;
+        member(out, "within", &self.within)?;
+        end(out)
     }
 }
 
-impl ToJson for Assignment {
+impl Tell for Assignment {
     ghost json = { assignment_json };
 
-    fn to_json(&self, alloc: Global) -> Result<Value, AllocError> {
-        let assignment = Object::new(alloc)
-            .with("class", &self.class)
-            .with("division", &self.division)
-            .with("incident", &self.incident)
-            .with("order", &self.order)
-            .with("place", &self.place);
-        assignment.into_value()
+    fn tell<S: Serializer>(&self, out: &mut S) -> Result<(), S::Error> {
+        begin(out, 5)?;
+        member(out, "class", &self.class)?;
+        member(out, "division", &self.division)?;
+        member(out, "incident", &self.incident)?;
+        member(out, "order", &self.order)?;
+        member(out, "place", &self.place)?;
+        end(out)
     }
 }

@@ -1,63 +1,46 @@
-//! JSON objects, put together member by member.
-ghost use Rattle.std.specs.Prelude.{◌≡◌, IfOk};
-ghost use Rattle.serde_json.specs.Data.{Members, no_members, object, put};
-ghost use Rattle.serde_json.specs.View.{view};
-ghost use Rattle.room_http_answers.specs.Objects.{IsMore};
+//! JSON objects, sent member by member.
+ghost use Rattle.std.specs.Prelude.{◌≡◌, OnOk};
+ghost use Rattle.serde.specs.Event.{Log};
+ghost use Rattle.serde_json.specs.Data.{Members, no_members, member as one_more, object};
+ghost use Rattle.serde_json.specs.Events.{members_len};
+ghost use Rattle.room_http_answers.specs.Objects.{Sends, SendsRest};
 
-use crate::json::ToJson;
-use serde_json::{Map, Value};
-use std::alloc::{AllocError, Global};
+use crate::json::Tell;
+use serde::Serializer;
 
-/// An object that is being put together, or want of memory for it.
-#[derive(Drop)]
-pub struct Object {
-    alloc: Global,
-    members: Result<Map<String, Value>, AllocError>,
-}
-
-impl Object {
-    ghost use Rattle.room_http_answers.specs.Objects.{Has};
-
-    /// An object without members.
-    pub fn new(alloc: Global) -> Object
-        ensures { Has no_members result }
-    {
-        Object {
-            alloc,
-            members: Ok(Map::new(alloc)),
-        }
-    }
-
-    /// The object with one member more.
-    pub fn with<T: ToJson>(self, name: &str, value: &T) -> Object
-        ensures { (m : Members) → Has m self → Has (put name.now (T.json value.now) m) result }
-    {
-        let alloc = self.alloc;
-        let members = match self.members {
-            Ok(members) => more(alloc, members, name, value),
-            Err(fault) => Err(fault),
-        };
-        Object { alloc, members }
-    }
-
-    /// The object as a value.
-    pub fn into_value(self) -> Result<Value, AllocError>
-        ensures { (m : Members) → Has m self → IfOk result (λ value. view value ≡ object m) }
-    {
-        Ok(Value::Object(self.members?))
-    }
-}
-
-/// The members, and one more.
-fn more<T: ToJson>(
-    alloc: Global,
-    mut members: Map<String, Value>,
-    name: &str,
-    value: &T,
-) -> Result<Map<String, Value>, AllocError>
-    ensures { IfOk result (λ map. IsMore name.now (T.json value.now) members.entries map.entries) }
+/// Begins an object that gets so many members.
+#[tactic(auto, unfolding(crate::specs::Objects::Sends, crate::specs::Objects::SendsRest))]
+pub fn begin<S: Serializer>(out: &mut S, count: usize) -> Result<(), S::Error>
+    ensures { OnOk result ((ms : Members) (end : Log) → members_len ms ≡ count
+        → SendsRest ms (S.written out.new) end → Sends (object ms) (S.written out.old) end) }
 {
-    let value = value.to_json(alloc)?;
-    serde_json::put(&mut members, alloc, name, value)?;
-    Ok(members)
+    out.begin_map(Some(count))
+}
+
+/// Sends a member of the object that is begun.
+#[tactic(auto, unfolding(crate::specs::Objects::Sends, crate::specs::Objects::SendsRest))]
+pub fn member<S: Serializer, T: Tell>(out: &mut S, name: &str, value: &T) -> Result<(), S::Error>
+    ensures { OnOk result ((ms : Members) (end : Log) → SendsRest ms (S.written out.new) end
+        → SendsRest (one_more name.now (T.json value.now) ms) (S.written out.old) end) }
+{
+    out.key(name)?;
+    value.tell(out)
+}
+
+/// Ends the object.
+#[tactic(auto, unfolding(crate::specs::Objects::SendsRest))]
+pub fn end<S: Serializer>(out: &mut S) -> Result<(), S::Error>
+    ensures { OnOk result (SendsRest no_members (S.written out.old) (S.written out.new)) }
+{
+    out.end_map()
+}
+
+/// An object of one member.
+pub fn single<S: Serializer, T: Tell>(out: &mut S, name: &str, value: &T) -> Result<(), S::Error>
+    ensures { OnOk result (Sends (object (one_more name.now (T.json value.now) no_members))
+        (S.written out.old) (S.written out.new)) }
+{
+    begin(out, 1)?;
+    member(out, name, value)?;
+    end(out)
 }
