@@ -97,7 +97,7 @@ def equal(name, param, why):
     return dict(term=lambda place, i: f"equals {place} {i}", name=name, param=param, test=lambda at: f"equal Binary (column r {at}) ({param})", why=why)
 
 
-# The same with a plus before the column; it stands last.
+# The same with a plus before the column.
 def equal_by_value(name, param, why):
     return dict(equal(name, param, why), term=lambda place, i: f"equals_by_value {place} {i}", tells=lambda place: f"equal-by_value (column r {place}) ({param})")
 
@@ -127,6 +127,15 @@ def compared(op, term, name, param, why):
     return dict(term=lambda place, i: f"{term} {place} {i}", name=name, param=param, test=lambda at: f"compare_by {op} (column r {at}) ({param})", why=why)
 
 
+# The easting or the northing is at least, or at most, the number n.
+def number_from(side, n):
+    return compared("Ge", "at_least", side, f"number {n}", f"at_least-numbers x.place.{side} {n}")
+
+
+def number_to(side, n):
+    return compared("Le", "compares Le", side, f"number {n}", f"at_most-numbers x.place.{side} {n}")
+
+
 TABLES = [
     Table("meta", "meta", "List ℕ", ["1"], rows="(house.zone ∷ [])", of="house"),
     Table("areas", "area", "ℕ × Area", ["x.0"], rows="(numbered 1 room.plan)"),
@@ -138,8 +147,9 @@ TABLES = [
         load("incidents_opened", "INCIDENTS_OPENED", "(from to : ℤ) (d : ℕ)", "λ x. int_le from (pos x.opened) && (int_lt (pos x.opened) to && x.division == d)",
              compared("Ge", "at_least", "opened", "Int from", "at_least-integers (pos x.opened) from"), compared("Lt", "below", "opened", "Int to", "below-integers (pos x.opened) to"),
              equal_by_value("division", "number d", "equal-numbers x.division d")),
-        load("incidents_since", "INCIDENTS_SINCE", "(from : ℤ) (d : ℕ)", "λ x. int_le from (pos x.opened) && x.division == d",
-             compared("Ge", "at_least", "opened", "Int from", "at_least-integers (pos x.opened) from"), equal_by_value("division", "number d", "equal-numbers x.division d")),
+        load("incidents_since", "INCIDENTS_SINCE", "(from : ℤ) (d : ℕ) (s : Rect)", "λ x. int_le from (pos x.opened) && (x.division == d && has_place x.place s)",
+             compared("Ge", "at_least", "opened", "Int from", "at_least-integers (pos x.opened) from"), equal_by_value("division", "number d", "equal-numbers x.division d"),
+             number_from("east", "s.west"), number_to("east", "s.east"), number_from("north", "s.south"), number_to("north", "s.north")),
     ]),
     Table("calls", "call", "Call", ["x.position", "x.serial"], loads=[incident_rows("calls_of", "CALLS_OF")]),
     Table("vehicles", "vehicle", "Vehicle", ["x.callsign"], loads=[owned("vehicles_held", "VEHICLES_HELD", "vehicle", "holder")]),
@@ -174,20 +184,22 @@ home("Rattle.std.specs.Ordering", "nat_cmp is_eq")
 home("Rattle.sqlite_value.specs.declared.value.Value.TheVariants", "Int Text")
 home("Rattle.sqlite_value.specs.declared.keys.Collation.TheVariants", "Binary")
 home("Rattle.sqlite_value.specs.Order", "column")
-home("Rattle.sqlite_sql.specs.declared.ops.CompareOp.TheVariants", "Ge Lt")
+home("Rattle.sqlite_sql.specs.declared.ops.CompareOp.TheVariants", "Ge Le Lt")
 home("Rattle.sqlite_schema.specs.Rules", "equal")
 home("Rattle.sqlite_tied.specs.Compute", "everything")
 home("Rattle.sqlite.specs.Effect", "Database")
 home("Rattle.sqlite.specs.Listing", "understood")
 home("Rattle.sqlite.specs.State", "State Executes")
 home("Rattle.room_tables_sql.specs.Outcomes", "Inside Only")
-home("Rattle.room_tables_sql.specs.Statements", "Selects StandsAlone Upserts Deletes Stores equals equals_by_value at_least below either row_values row_update rowid_values rowid_update")
+home("Rattle.room_tables_sql.specs.Statements", "Selects StandsAlone Upserts Deletes Stores equals equals_by_value at_least below compares either row_values row_update rowid_values rowid_update")
 home("Rattle.room_tables_sql.specs.Typed", "number")
 home("Rattle.room_tables_sql.proofs.ColumnValues", "cast-Int cast-Null cast-number_or_null")
-home("Rattle.room_tables_sql.proofs.Comparisons", "and_then and_last is_true-Or or_else equal-by_value equal-numbers tie-numbers tie-texts conflict_of_one conflict_of_two is_eq-then compare_by")
+home("Rattle.room_tables_sql.proofs.Comparisons", "and_then and_last is_true-Or or_else equal-by_value equal-numbers at_least-numbers tie-numbers tie-texts conflict_of_one conflict_of_two is_eq-then compare_by")
 home("Rattle.room_tables_sql.proofs.Standing", "holds_still holds_none")
 home("Rattle.room_tables_sql.proofs.StoredRows", "stores_row stores_rowid")
 home("Rattle.room_place.specs.declared.plans.Area", "Area")
+home("Rattle.room_place.specs.declared.plans.Rect", "Rect")
+home("Rattle.room_place.specs.Plans", "has_place")
 home("Rattle.room_types.specs.Codes", "outcome_number state_number is_active")
 home("Rattle.room_types.specs.Keyed", "put_row")
 home("Rattle.room_types.specs.Keyed", "row_at")
@@ -212,7 +224,7 @@ home("Rattle.room_tables_schema.specs.Schema", "room_schema " + " ".join(f"{t.na
 home("Rattle.room_tables_rows.specs.Stands", "House Stands StandsFor numbered empty_room")
 home("Rattle.room_tables_schema.specs.Definitions", "IsBlank")
 home("Rattle.room_tables_rows.specs.Writes", "Changes")
-home("Rattle.room_tables_rows.proofs.Tests", "equal-active equal-false at_least-integers below-integers and_three cast-text_or_null")
+home("Rattle.room_tables_rows.proofs.Tests", "equal-active equal-false at_least-integers below-integers at_most-numbers and_three and_four cast-text_or_null")
 home("Rattle.room_tables_rows.specs.Tables", "IsHeld SelectsChosen PutsRow IsTable IsDropped")
 home("Rattle.room_tables_rows.proofs.Loads", "Shows ShowsRow ShowsAll chosen_rows row_of_key all_rows")
 home("Rattle.room_tables_rows.proofs.Puts", "put_changes")
@@ -249,12 +261,20 @@ def conjunction(conditions):
 
 
 # that the terms ask of a row what the test asks of its columns
-def tells(tests, last="refl"):
-    if len(tests) == 1:
-        return f"and_last {last}"
-    if len(tests) == 3 and last == "refl":
-        return "and_three " + " ".join(f"({test})" for test in tests)
-    return f"and_then refl ({tells(tests[1:], last)})"
+def tells(tests):
+    named = {3: "and_three", 4: "and_four"}
+    if len(tests) in named:
+        return named[len(tests)] + "".join(f" ({test})" for test in tests)
+    return "and_last refl" if len(tests) == 1 else f"and_then refl ({tells(tests[1:])})"
+
+
+# the same of conditions, of which some say why
+def told(conditions, t):
+    if not any("tells" in c for c in conditions):
+        return tells([c["test"](t.place(c["name"])) for c in conditions])
+    first = conditions[0]
+    why = f"({first['tells'](t.place(first['name']))})" if "tells" in first else "refl"
+    return f"and_last {why}" if len(conditions) == 1 else f"and_then {why} ({told(conditions[1:], t)})"
 
 
 def both(parts):
@@ -325,8 +345,7 @@ pub {t.row}_at_is : {t.key['args']} → ShowsRow {t.row}_row {one}_AT.now ({para
             terms = "".join(c["term"](t.place(c["name"]), i) + " ∷ " for i, c in enumerate(cs)) + "[]"
             params = "".join(c["param"] + " ∷ " for c in cs) + "[]"
             test, same = both([c["test"](t.at(c["name"])) for c in cs]), conjunction([c["why"] for c in cs])
-            last = f"({cs[-1]['tells'](t.place(cs[-1]['name']))})" if "tells" in cs[-1] else "refl"
-            tell = tells([c["test"](t.place(c["name"])) for c in cs], last)
+            tell = told(cs, t)
         else:
             terms, test = l["terms"](*map(t.place, l["names"])), l["test"](*map(t.at, l["names"]))
             params, tell, same = l["params"], l["tells"], l["same"]

@@ -6,7 +6,6 @@ use Rattle.std.specs.Ordering.{nat_cmp}
 use Rattle.std.specs.Prelude.{Bool, List, None, Option, Some, [], cond, false, nat_le, refl, true, ℕ, ◌&&◌, ◌+◌, ◌==◌, ◌∷◌, ◌≡◌, ◌⊎◌}
 use Rattle.room_place.specs.Choice.{Among, least, least_from}
 use Rattle.room_place.specs.Places.{distance}
-use Rattle.room_place.specs.declared.places.Place.{Place}
 use Rattle.room_place.specs.Plans.{division_of}
 use Rattle.room_types.proofs.KeyedLaws.{row_filter}
 use Rattle.room_types.specs.Keyed.{keep, row_at}
@@ -26,6 +25,7 @@ use Rattle.room_model.proofs.Foreign.{IsForeign, own_foreign}
 use Rattle.room_model.proofs.Others.{apart_from, incident_foreign, none_own}
 use Rattle.room_model.proofs.Changes.{all_plain, call_in_all, plain_allowed}
 use Rattle.room_model.proofs.DecisionLaws.{by_refuse}
+use Rattle.room_model.proofs.NearLaws.{near_around}
 use Rattle.room_model.proofs.OwnChanges.{own_apply_own}
 use Rattle.room_model.proofs.OwnDesk.{call_own}
 use Rattle.room_model.proofs.Tests.{among_filter, both_true, filter_filter, is_equal, keep_row, left_true, right_true, row_key}
@@ -34,7 +34,7 @@ use Rattle.room_model.specs.Calls.{call_in, call_kept, call_somewhere, call_take
 use Rattle.room_types.specs.Codes.{is_active}
 use Rattle.room_model.specs.Crossing.{CallIn, cross_call, cross_position, is_division_of}
 use Rattle.room_model.specs.Decisions.{changes_of}
-use Rattle.room_model.specs.Moments.{number_limit}
+use Rattle.room_model.specs.Moments.{age, number_limit}
 use Rattle.room_model.specs.Queries.{is_candidate, is_nearer, kept_call, last_number, link_target}
 use Rattle.room_model.specs.Room.{IsInOrder, Room, apply}
 use Rattle.room_model.specs.Shares.{IsPlain, own}
@@ -89,9 +89,12 @@ module _ (d h : ℕ) (r : Room) (w : IsWellFormed r) (apart : h == d ≡ false) 
 
 -- ---- by the rows that it reads
 module _ (d : ℕ) (r : Room) (order : IsInOrder r) (f : CallForm) (at : ℕ) where
-  target_read : (p : Place) → link_target d p at (working d (ask.Call f) at r) ≡ link_target d p at r
+  near_reads : (i : Incident) → nat_le (distance i.place f.place) 200 && nat_le (age at i.opened) 900 ≡ true → reads_incident (ask.Call f) at i ≡ true
+  near_reads i e = both_true _ _ (right_true (nat_le (distance i.place f.place) 200) _ e) (near_around i.place f.place (left_true _ _ e))
+
+  target_read : link_target d f.place at (working d (ask.Call f) at r) ≡ link_target d f.place at r
   unfolding link_target
-  target_read p = ap (least (is_nearer p)) (filter_filter (is_candidate d p at) (λ i. i.division == d && reads_incident (ask.Call f) at i) r.incidents (λ i e. both_true _ _ (left_true _ _ e) (right_true (nat_le (distance i.place p) 200) _ (right_true (is_active i.state) _ (right_true (i.division == d) _ e)))))
+  target_read = ap (least (is_nearer f.place)) (filter_filter (is_candidate d f.place at) (λ i. i.division == d && reads_incident (ask.Call f) at i) r.incidents (λ i e. both_true _ _ (left_true _ _ e) (near_reads i (right_true (is_active i.state) _ (right_true (i.division == d) _ e)))))
 
   number_read : last_number d (working d (ask.Call f) at r) ≡ last_number d r
   unfolding last_number
@@ -105,7 +108,7 @@ module _ (d : ℕ) (r : Room) (order : IsInOrder r) (f : CallForm) (at : ℕ) wh
 
   call_in_read : (p : ℕ) → call_in d (new_call p f at) (working d (ask.Call f) at r) ≡ call_in d (new_call p f at) r
   unfolding call_in
-  call_in_read p i = call_taken d (new_call p f at) (target_read f.place i) (number_read i)
+  call_in_read p i = call_taken d (new_call p f at) (target_read i) (number_read i)
 
 -- ---- wherever it is placed
 module _ (d : ℕ) (r : Room) (w : IsWellFormed r) (p : ℕ) (f : CallForm) (at : ℕ) where

@@ -24,7 +24,7 @@ use Rattle.room_model.specs.Proposals.{eligible}
 use Rattle.room_model.specs.Queries.{active_incidents, all_held, assignment_of, borrowed, calls_of, held, holders, incident_of, is_attended, lent, loans_of, offered_by, offered_to, offers_of, open_turn, point_of, points_of, report_of, served}
 use Rattle.room_model.specs.WellFormed.{IsWellFormed, OpenAgrees, TurnAgrees, TurnIsActive}
 use Rattle.room_model.specs.Room.{Room}
-use Rattle.room_model.specs.Working.{is_last_turn, names_incident, names_moment, names_turn, reads_active, reads_assignments, reads_calls, reads_incident, reads_loan, reads_number, reads_offer, reads_point, reads_report, reads_vehicle, working}
+use Rattle.room_model.specs.Working.{is_last_turn, names_incident, names_opening, names_turn, reads_active, reads_assignments, reads_calls, reads_incident, reads_loan, reads_number, reads_offer, reads_point, reads_report, reads_vehicle, working}
 use Rattle.room_types.specs.declared.asks.Ask.TheVariants as ask
 
 -- what is read of a callsign is read of a row that has it
@@ -155,7 +155,7 @@ module _ (d : ℕ) (a : Ask) (at : ℕ) (r : Room) (formed : IsWellFormed r) whe
     active_number n h = or_left _ (names_incident a n) (both_true _ _ shows (active_is (incident_of d n r) h))
 
     reads_one : (i : Incident) → is_active i.state ≡ true → reads_incident a at i ≡ true
-    reads_one i h = or_left _ (names_incident a i.number || names_moment a at i.opened) (both_true _ _ shows h)
+    reads_one i h = or_left _ (names_incident a i.number || names_opening a at i) (both_true _ _ shows h)
 
     keep_active : (o : Option Incident) → IsActive o → ((i : Incident) → o ≡ Some i → i.division == d ≡ true) → keep (λ i. i.division == d && reads_incident a at i) o ≡ o
     keep_active None h f = refl

@@ -1,6 +1,8 @@
 -- The rows of a division's share that an ask reads: what a desk asks, and a call that is placed in it.
+use Rattle.std.specs.Int.{abs_diff}
 use Rattle.std.specs.Ordering.{is_eq}
 use Rattle.std.specs.Prelude.{Bool, None, Option, Some, false, filter, int_le, int_lt, is_some, nat_le, not, pos, true, ℕ, ◌&&◌, ◌==◌, ◌||◌}
+use Rattle.room_place.specs.declared.places.Place.{Place}
 use Rattle.room_types.specs.Codes.{is_active, is_normal}
 use Rattle.room_types.specs.Keyed.{keep}
 use Rattle.room_types.specs.Keys.{numbered_cmp, owns_assignment, owns_division, owns_loan, owns_offer, owns_point, owns_report, owns_vehicle, same_callsign, turn_key}
@@ -105,18 +107,22 @@ names_incident (ask.Merge m into) n = m == n || into == n
 names_incident (ask.Close m) n = m == n
 names_incident a n = false
 
--- the ask is for times that the moment lies in, or a call at `at` that may be linked to what was
--- opened then
-abbrev pub names_moment : Ask → ℕ → ℕ → Bool
-names_moment (ask.Times from to) at t = int_le from (pos t) && int_lt (pos t) to
-names_moment (ask.Call f) at t = nat_le (age at t) 900
-names_moment a at t = false
+-- in the square whose sides lie 200 m from a place: whatever lies outside it is more than 200 m away
+abbrev pub is_around : Place → Place → Bool
+is_around p q = nat_le (abs_diff p.east q.east) 200 && nat_le (abs_diff p.north q.north) 200
+
+-- the ask is for times that its opening lies in, or a call at `at` that may be linked to it: it was
+-- opened then, around the call's place
+abbrev pub names_opening : Ask → ℕ → Incident → Bool
+names_opening (ask.Times from to) at i = int_le from (pos i.opened) && int_lt (pos i.opened) to
+names_opening (ask.Call f) at i = nat_le (age at i.opened) 900 && is_around i.place f.place
+names_opening a at i = false
 
 -- active and read, named, or opened then
 abbrev pub reads_incident : Ask → ℕ → Incident → Bool
 reads_incident a at i =
     reads_active a && is_active i.state
-    || (names_incident a i.number || names_moment a at i.opened)
+    || (names_incident a i.number || names_opening a at i)
 
 -- the ask reads the turns of the division's incident of this number
 abbrev pub reads_number : ℕ → Ask → Room → ℕ → Bool

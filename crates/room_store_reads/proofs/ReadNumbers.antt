@@ -2,7 +2,7 @@
 use Rattle.std.proofs.Common.{Bool, List, None, Option, Some, [], ap, arith, cond, false, is_some, map, refl, subst, sym, true, ℕ, ◌&&◌, ◌++◌, ◌∙◌, ◌∷◌, ◌≡◌, ◌||◌}
 use Rattle.std.proofs.lemmas.Bool.Decides.{nat_tests}
 use Rattle.std.specs.Ordering.{is_eq}
-use Rattle.std.specs.Prelude.{filter, nat_le, ◌-◌, ◌==◌}
+use Rattle.std.specs.Prelude.{filter, ◌==◌}
 use Rattle.room_types.proofs.KeyedLaws.{row_below}
 use Rattle.room_types.specs.Keyed.{IsBelowAll, IsKeyed, keep, row_at}
 use Rattle.room_types.specs.Keys.{incident_key, pair_cmp}
@@ -10,7 +10,7 @@ use Rattle.room_types.specs.Orders.{exact_pair, pairs_total}
 use Rattle.room_types.specs.Codes.{is_active}
 use Rattle.room_types.specs.declared.asks.Ask.{Ask}
 use Rattle.room_types.specs.declared.tables.Incident.{Incident}
-use Rattle.room_model.specs.Working.{names_incident, names_moment, reads_active, reads_incident}
+use Rattle.room_model.specs.Working.{names_incident, names_opening, reads_active, reads_incident}
 use Rattle.room_types.specs.declared.asks.Ask.TheVariants as ask
 use Rattle.room_model.proofs.Tests.{is_equal}
 use Rattle.room_store_reads.proofs.RoomReads.{or_assoc, or_none, pair_turned}
@@ -72,7 +72,7 @@ and_assoc true b c = refl
 and_assoc false b c = refl
 
 -- an incident that is read is active, or it is one of those that are named
-pub one_test : (a : Ask) (d at : ℕ) (i : Incident) (first second day : Bool) → names_incident a i.number ≡ first || second → names_moment a at i.opened ≡ day
+pub one_test : (a : Ask) (d at : ℕ) (i : Incident) (first second day : Bool) → names_incident a i.number ≡ first || second → names_opening a at i ≡ day
     → (((reads_active a && (is_active i.state && i.division == d)) || (i.division == d && day)) || (i.division == d && first)) || (i.division == d && second) ≡ (i.division == d) && reads_incident a at i
 one_test a d at i first second day e f = rw (e, f)
     (ap (λ b. ((b || (i.division == d && day)) || (i.division == d && first)) || (i.division == d && second)) (and_assoc (reads_active a) (is_active i.state) (i.division == d))
@@ -90,10 +90,6 @@ kept_alike p q e (Some i) = ap (λ (b : Bool). is_some (cond b (Some i) None)) (
 
 pub shown_number : (a : Ask) → reads_active a ≡ true → (at : ℕ) (o : Option Incident) → is_some (keep (reads_incident a at) o) ≡ reads_active a && is_some (keep (λ i. is_active i.state) o)
 shown_number a h at o = kept_alike (reads_incident a at) (λ i. is_active i.state) (shown_reads a h at) o ∙ ap (λ b. b && is_some (keep (λ i. is_active i.state) o)) (sym h)
-
--- how long before its moment an incident was opened that a call may be linked to
-pub window : (at t : ℕ) → nat_le (at - t) 900 ≡ nat_le (at - 900) t
-window at t = grind (arith, nat_tests)
 
 -- one number more is looked for
 pub one_more : (own seen this that more : Bool) → this ≡ that → more ≡ seen || that → (own && seen) || (this && own) ≡ own && more

@@ -69,9 +69,10 @@ pub and_twice : (b : Bool) → b && b ≡ b && true
 and_twice true = refl
 and_twice false = refl
 
-pub and_swap : (a b : Bool) → a && b ≡ b && a
-and_swap true b = sym (and_all b)
-and_swap false b = sym (and_none b)
+pub and_across : (a b c : Bool) → a && (b && c) ≡ b && (a && c)
+and_across true b c = refl
+and_across false true c = refl
+and_across false false c = refl
 
 -- no row passes a test that is never met
 pub filter_never : {X : Type 0} (p q : X → Bool) (xs : List X) → ((x : X) → q x ≡ false) → filter (λ x. p x && q x) xs ≡ []

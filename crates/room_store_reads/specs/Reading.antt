@@ -1,14 +1,16 @@
 -- What a request names of the rows that it reads.
 use Rattle.std.specs.Ordering.{is_eq}
 use Rattle.std.specs.Prelude.{Bool, List, None, Option, Some, [], false, int_le, int_lt, pos, ℕ, ◌&&◌, ◌==◌, ◌||◌, ◌∷◌}
+use Rattle.room_place.specs.Plans.{has_place}
 use Rattle.room_types.specs.Keys.{numbered_cmp, same_callsign, turn_key}
 use Rattle.room_types.specs.Texts.{Callsign}
+use Rattle.room_types.specs.declared.tables.Incident.{Incident}
 use Rattle.room_types.specs.declared.tables.Turn.{Turn}
 use Rattle.room_model.specs.Queries.{held}
 use Rattle.room_model.specs.Room.{Room}
 use Rattle.room_model.specs.Working.{is_last_turn}
-use Rattle.room_store_reads.specs.declared.naming.Moments.{Moments}
-use Rattle.room_store_reads.specs.declared.naming.Moments.TheVariants.{Between, Never, Since}
+use Rattle.room_store_reads.specs.declared.naming.Openings.{Openings}
+use Rattle.room_store_reads.specs.declared.naming.Openings.TheVariants.{Around, Between, Nothing}
 
 abbrev pub contains : ℕ → List ℕ → Bool
 contains n [] = false
@@ -19,11 +21,11 @@ abbrev pub is_number : Option ℕ → ℕ → Bool
 is_number None n = false
 is_number (Some m) n = m == n
 
--- a moment that is read of
-abbrev pub is_moment : Moments → ℕ → Bool
-is_moment Never t = false
-is_moment (Between from to) t = int_le from (pos t) && int_lt (pos t) to
-is_moment (Since from) t = int_le from (pos t)
+-- an incident that is read for when, and where, it was opened
+abbrev pub is_opened : Openings → Incident → Bool
+is_opened Nothing i = false
+is_opened (Between from to) i = int_le from (pos i.opened) && int_lt (pos i.opened) to
+is_opened (Around from square) i = int_le from (pos i.opened) && has_place i.place square
 
 -- the report that is named, if one is
 abbrev pub is_report : Option (Callsign × ℕ) → Callsign → ℕ → Bool

@@ -1,22 +1,29 @@
 //! What a request names of the rows that it reads.
 ghost use Rattle.std.specs.Prelude.{◌≡◌, ◌||◌, ℕ, IfSome};
+ghost use Rattle.room_place.specs.Plans.{has_place};
+ghost use Rattle.room_place.specs.declared.places.Place.{Place as PlaceModel};
 ghost use Rattle.room_types.specs.Keys.{callsign_cmp, pair_cmp};
 ghost use Rattle.room_types.specs.Texts.{Callsign as CallsignText};
 ghost use Rattle.room_types.specs.declared.asks.Ask.TheVariants.{StandDown};
+ghost use Rattle.room_types.specs.declared.tables.Incident.{Incident};
 ghost use Rattle.room_types.specs.declared.tables.Turn.{Turn};
 ghost use Rattle.room_model.specs.Room.{Room};
-ghost use Rattle.room_model.specs.Working.{names_incident, names_moment, names_report, names_turn, reads_active, reads_assignments, reads_calls, reads_division, reads_exceptions, reads_loan, reads_offer, reads_point, reads_vehicle};
+ghost use Rattle.room_model.specs.Working.{is_around, names_incident, names_opening, names_report, names_turn, reads_active, reads_assignments, reads_calls, reads_division, reads_exceptions, reads_loan, reads_offer, reads_point, reads_vehicle};
 ghost use Rattle.room_store_reads.specs.Extents.{reaches};
-ghost use Rattle.room_store_reads.specs.Reading.{is_last_of, is_moment, is_number, is_report};
+ghost use Rattle.room_store_reads.specs.Reading.{is_last_of, is_number, is_opened, is_report};
 
 use crate::extents::Extent;
-use room_place::plans::DivisionNumber;
+use room_place::places::Place;
+use room_place::plans::{DivisionNumber, Rect};
 use room_types::asks::Ask;
 use room_types::callsign::Callsign;
 use room_types::numbers::{Moment, Number, PointNumber};
 
 // How many seconds before its moment an incident may have been opened that a call is linked to.
 const LINKED_WITHIN: u32 = 900;
+
+// How many metres from its place, in each direction, an incident may lie that a call is linked to.
+const LINKED_AROUND: u32 = 200;
 
 /// Whether a request reads its division's own row.
 pub fn reads_division(ask: &Ask) -> bool
@@ -143,24 +150,40 @@ pub fn named_incidents(ask: &Ask) -> (Option<Number>, Option<Number>)
     }
 }
 
-/// When incidents were opened that a request reads, in seconds of UTC since 1970.
+/// The openings of incidents that a request reads, in seconds of UTC since 1970.
 #[derive(Clone, Copy)]
-pub enum Moments {
-    Never,
+pub enum Openings {
+    Nothing,
     /// From the first on, and before the second.
     Between(i64, i64),
-    Since(i64),
+    /// From this one on, in a square.
+    Around(i64, Rect),
 }
 
-/// The day whose times are asked for, or from when on an incident was opened that a call may be
-/// linked to.
-pub fn moments_read(ask: &Ask, at: Moment) -> Moments
-    ensures { (moment : ℕ) → names_moment ask.now at moment ≡ is_moment result moment }
+/// Those of the day whose times are asked for, or those that a call may be linked to.
+pub fn openings_read(ask: &Ask, at: Moment) -> Openings
+    ensures { (i : Incident) → names_opening ask.now at i ≡ is_opened result i }
 {
-    match *ask {
-        Ask::Times(from, to) => Moments::Between(from, to),
-        Ask::Call(_) => Moments::Since(i64::from(at.get().saturating_sub(LINKED_WITHIN))),
-        _ => Moments::Never,
+    match ask {
+        Ask::Times(from, to) => Openings::Between(*from, *to),
+        Ask::Call(call) => {
+            let from = at.get().saturating_sub(LINKED_WITHIN);
+            Openings::Around(i64::from(from), square_around(&call.place))
+        }
+        _ => Openings::Nothing,
+    }
+}
+
+// The square that a place is the middle of.
+fn square_around(place: &Place) -> Rect
+    ensures { (p : PlaceModel) → is_around p place.now ≡ has_place p result }
+{
+    let (east, north) = (place.east.get(), place.north.get());
+    Rect {
+        west: east - LINKED_AROUND,
+        south: north - LINKED_AROUND,
+        east: east + LINKED_AROUND,
+        north: north + LINKED_AROUND,
     }
 }
 

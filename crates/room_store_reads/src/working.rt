@@ -16,12 +16,12 @@ ghost use Rattle.room_model.specs.Working.{is_last_turn, reads_active, reads_cal
 ghost use Rattle.room_tables_schema.specs.declared.faults.Fault.TheVariants.{Memory};
 ghost use Rattle.room_tables_schema.specs.Connections.{HasRoomSchema};
 ghost use Rattle.room_store_reads.specs.Parts.{AreLoans, IsFleet, IsHeld, IsWork};
-ghost use Rattle.room_store_reads.specs.Reading.{contains, is_moment, is_number, is_turn};
+ghost use Rattle.room_store_reads.specs.Reading.{contains, is_number, is_opened, is_turn};
 
 use crate::extents::{load_extent, load_one, owned_row};
 use crate::naming::{
-    Moments, assignments_read, loans_read, moments_read, named_incidents, named_report,
-    offers_read, points_read, reads_active, reads_calls, reads_division, reads_exceptions,
+    Openings, assignments_read, loans_read, named_incidents, named_report, offers_read,
+    openings_read, points_read, reads_active, reads_calls, reads_division, reads_exceptions,
     stood_down, vehicles_read,
 };
 use crate::unions::{add_all, add_found};
@@ -274,7 +274,7 @@ fn load_work<S: Alter>(
     })
 }
 
-// The active incidents, those opened at moments that the request reads, and those that it names.
+// The active incidents, those whose openings the request reads, and those that it names.
 fn load_incidents<S: Alter>(
     alloc: Global,
     conn: &mut Connection<S>,
@@ -296,7 +296,7 @@ fn load_incidents<S: Alter>(
         alloc,
         conn,
         division,
-        &moments_read(ask, at),
+        &openings_read(ask, at),
         &mut incidents,
     )?;
     add_named(conn, division, first, &mut incidents)?;
@@ -329,7 +329,7 @@ fn add_opened<S: Alter>(
     alloc: Global,
     conn: &mut Connection<S>,
     division: DivisionNumber,
-    moments: &Moments,
+    openings: &Openings,
     incidents: &mut Rows<Incident>,
 ) -> Result<(), Fault>
     requires room { HasRoomSchema S.Store conn.old }
@@ -338,21 +338,21 @@ fn add_opened<S: Alter>(
     ensures rows { Finds S.Store conn.old conn.new result (λ room _. IsInOrder room
         → (before : Incident → Bool) → incidents.old ≡ filter before room.incidents
         → incidents.new ≡ filter (λ i.
-        before i || (i.division == division && is_moment moments.now i.opened)) room.incidents) }
+        before i || (i.division == division && is_opened openings.now i)) room.incidents) }
     ensures reads { ReadsOnly S.Store conn.old conn.new result }
 {
-    match moments {
-        Moments::Between(from, to) => {
+    match openings {
+        Openings::Between(from, to) => {
             let opened = incidents_opened(alloc, conn, *from, *to, division)?;
             add_all(incidents, &opened)?;
             Ok(())
         }
-        Moments::Since(from) => {
-            let opened = incidents_since(alloc, conn, *from, division)?;
+        Openings::Around(from, square) => {
+            let opened = incidents_since(alloc, conn, *from, division, square)?;
             add_all(incidents, &opened)?;
             Ok(())
         }
-        Moments::Never => Ok(()),
+        Openings::Nothing => Ok(()),
     }
 }
 

@@ -4,7 +4,7 @@ use Rattle.sqlite.specs.State.{HasCleanDisk}
 use Rattle.room_tables_sql.proofs.ReadLaws.{and, but, fails, looked, told}
 use Rattle.room_tables.proofs.RoomReads.{kept}
 use Rattle.room_store_reads.proofs.RoomReads.{filter_as}
-use Rattle.room_store_reads.specs.Reading.{is_moment, is_number}
+use Rattle.room_store_reads.specs.Reading.{is_number, is_opened}
 use Rattle.room_store_reads.proofs.ReadNumbers.{one_test}
 use Rattle.room_store_reads.proofs.working.load_incidents.Goals as goal
 
@@ -25,7 +25,7 @@ returns-clause-rows g c clean house room h in_order =
     let two = c.in_ok-add_opened.ensures.rows clean_third house room in_second in_order _ one in
     let three = c.in_ok-add_named.ensures.rows clean_fourth house room in_third in_order _ two in
     let four = c.in_ok-add_named-2.ensures.rows clean house room in_fourth in_order _ three in
-    four ∙ filter_as _ _ room.incidents (λ i. one_test c.args.ask.now d c.args.at i (is_number c.named_incidents-first.result.0 i.number) (is_number c.named_incidents-first.result.1 i.number) (is_moment c.moments_read.result i.opened) (c.named_incidents-first.ensures i.number) (c.moments_read.ensures i.opened))
+    four ∙ filter_as _ _ room.incidents (λ i. one_test c.args.ask.now d c.args.at i (is_number c.named_incidents-first.result.0 i.number) (is_number c.named_incidents-first.result.1 i.number) (is_opened c.openings_read.result i) (c.named_incidents-first.ensures i.number) (c.openings_read.ensures i))
 
 pub returns-in_err-incidents-clause-reads : goal.returns-in_err-incidents-clause-reads
 returns-in_err-incidents-clause-reads g c = fails c.from_residual.ensures.0 c.in_err-incidents.ensures.reads

@@ -18,10 +18,10 @@ pub returns-clause-rows : goal.returns-clause-rows
 returns-clause-rows g c clean =
     let old = state g.S.Store c.args.conn.now in
     let early : HasCleanDisk old = omega (arith, c.load.ensures.reads.survives.clean) in
-    IfOk-weaker c.load.result _ _ (λ found shown. incidents_since_are c.args.from c.args.division old (state g.S.Store c.load.new.conn) found (c.requires.room early) (rw (c.second.ensures, to_z-of_z w64 c.args.from c.ranges.from, c.store.ensures) at shown)) (c.load.ensures.shown clean)
+    IfOk-weaker c.load.result _ _ (λ found shown. incidents_since_are c.args.from c.args.division c.args.square.now old (state g.S.Store c.load.new.conn) found (c.requires.room early) (rw (c.second.ensures, to_z-of_z w64 c.args.from c.ranges.from, c.store.ensures, c.store-2.ensures, c.store-3.ensures, c.store-4.ensures, c.store-5.ensures) at shown)) (c.load.ensures.shown clean)
 
 pub returns-clause-why : goal.returns-clause-why
-returns-clause-why g c clean = rw (c.second.ensures, to_z-of_z w64 c.args.from c.ranges.from, c.store.ensures) at (c.load.ensures.why clean)
+returns-clause-why g c clean = rw (c.second.ensures, to_z-of_z w64 c.args.from c.ranges.from, c.store.ensures, c.store-2.ensures, c.store-3.ensures, c.store-4.ensures, c.store-5.ensures) at (c.load.ensures.why clean)
 
 pub returns-clause-reads : goal.returns-clause-reads
 returns-clause-reads g c = c.load.ensures.reads
