@@ -2,26 +2,10 @@
 use Rattle.std.proofs.Common.{◌≡◌, ℕ, ◌+◌, ◌<◌, List, [], ◌∷◌, ◌++◌, length, take, get_or, Bool, append_assoc, refl, sym, ◌∙◌}
 use Rattle.std.specs.Prelude.{codes, decimal}
 use Rattle.std.proofs.lemmas.List.{append-nil, take_more}
-use Rattle.dispatch_room_board.specs.declared.messages.Message.{Message}
-use Rattle.dispatch_room_board.specs.declared.troubles.Trouble.{Trouble}
-use Rattle.dispatch_room_board.specs.declared.troubles.Trouble.TheVariants.{Unheard, Foreign, Refused}
 use Rattle.dispatch_room_board.specs.declared.pages.Page.{Page}
 use Rattle.dispatch_room_board.specs.declared.pages.Paint.TheVariants.{Plain, Title}
-use Rattle.dispatch_room_board.specs.Boards.{Befalls, IsRefused}
-use Rattle.dispatch_room_board.specs.Messages.{IsMessage}
 use Rattle.dispatch_room_board.specs.Pages.{Adds, text_line}
 use Rattle.dispatch_room_board.specs.Tables.{Table, row_line, row_lines, table_lines, titles_line}
-use Rattle.dispatch_room_board.specs.Troubles.{IsNoRefusal}
-
-pub none_befalls : (heard : List ℕ) (trouble : Trouble) → IsNoRefusal trouble → Befalls heard trouble
-none_befalls heard Unheard h = tt
-none_befalls heard Foreign h = tt
-none_befalls heard (Refused number name) h = absurd h
-
-pub refusal_befalls : (heard rest : List ℕ) (message : Message) (trouble : Trouble) → IsMessage heard message rest → IsRefused message trouble → Befalls heard trouble
-refusal_befalls heard rest message Unheard is refused = tt
-refusal_befalls heard rest message Foreign is refused = tt
-refusal_befalls heard rest message (Refused number name) is refused = (message, rest, is, refused)
 
 lines_end : {T : Type 0} (table : Table T) (colour : Bool) (now : ℕ) (rows : List T) (row : T)
     → row_lines table colour now (rows ++ row ∷ []) ≡ row_lines table colour now rows ++ row_line table colour now row

@@ -1,23 +1,23 @@
 -- A board: what it shows of what was heard, and how much of it could be reached.
-use Rattle.std.specs.Prelude.{◌≡◌, ◌≢◌, ◌⊎◌, ⊤, ℕ, List, [], ◌++◌, Bool, true, false, codes, Some}
+use Rattle.std.specs.Prelude.{◌≡◌, ◌⊎◌, ℕ, List, [], ◌++◌, Bool, true, false, codes, None, Some}
 use Rattle.serde_json.specs.Data.{Data}
-use Rattle.serde_json.specs.Read.{read}
 use Rattle.httpdate.specs.Date.{date_text, unix_secs}
 use Rattle.httpdate.specs.declared.date.HttpDate.{HttpDate}
 use Rattle.dispatch_room_board.specs.declared.boards.Board.{Board}
 use Rattle.dispatch_room_board.specs.declared.boards.Reached.{Reached}
 use Rattle.dispatch_room_board.specs.declared.boards.Reached.TheVariants.{All, AllButRefused, Less}
 use Rattle.dispatch_room_board.specs.declared.messages.Message.{Message}
-use Rattle.dispatch_room_board.specs.declared.pages.Paint.TheVariants.{Plain, Title, Alarm}
+use Rattle.dispatch_room_board.specs.declared.pages.Paint.TheVariants.{Plain, Alarm}
 use Rattle.dispatch_room_board.specs.declared.sheets.Sheet.{Sheet}
 use Rattle.dispatch_room_board.specs.declared.troubles.Trouble.{Trouble}
 use Rattle.dispatch_room_board.specs.declared.troubles.Trouble.TheVariants.{Unheard, Foreign, Refused}
-use Rattle.dispatch_room_board.specs.Listed.{IsAnswered}
-use Rattle.dispatch_room_board.specs.Messages.{IsMessage}
+use Rattle.dispatch_room_board.specs.Listed.{IsAnswered, IsNoAnswer}
+use Rattle.dispatch_room_board.specs.Members.{IsRead}
+use Rattle.dispatch_room_board.specs.Messages.{IsMessage, IsNoMessage}
 use Rattle.dispatch_room_board.specs.Pages.{Adds, text_line}
 use Rattle.dispatch_room_board.specs.Rows.{IsEntry, IsIncidentLine, IsLoan, IsOffer, IsPointLine, IsProposal, IsVehicleLine}
 use Rattle.dispatch_room_board.specs.Tables.{Table, entry_table, incident_table, loan_table, offer_table, point_table, proposal_table, table_lines, vehicle_table}
-use Rattle.dispatch_room_board.specs.Troubles.{IsTold, told}
+use Rattle.dispatch_room_board.specs.Troubles.{told}
 
 -- what is reached where one trouble more is met: the worst of all
 abbrev pub reached_with : Reached → Trouble → Reached
@@ -41,19 +41,11 @@ IsDatedAnswer says name message found = IsAnswered says message name found.0 × 
 abbrev pub IsListed : {T : Type 0} → (Data → T → Type 0) → List ℕ → List ℕ → List ℕ → List T × ℕ → Type 0
 IsListed says name heard rest found = (message : Message) × IsMessage heard message rest × IsDatedAnswer says name message found
 
--- the answer refuses so, where it is told to refuse
-abbrev pub IsRefused : Message → Trouble → Type 0
-IsRefused message Unheard = ⊤
-IsRefused message Foreign = ⊤
-IsRefused message (Refused number name) =
-    (d : Data) × (message.code ≢ 200) × (read message.content.now ≡ Some d) × IsTold d (Refused number name)
-
--- what was heard begins with such a refusal, where it is told to
-abbrev pub Befalls : List ℕ → Trouble → Type 0
-Befalls heard Unheard = ⊤
-Befalls heard Foreign = ⊤
-Befalls heard (Refused number name) =
-    (message : Message) × (rest : List ℕ) × IsMessage heard message rest × IsRefused message (Refused number name)
+-- why no such rows were heard: no answer comes next, and nothing is taken, or the next one does not list them
+abbrev pub Befalls : {T : Type 0} → (Data → T → Type 0) → List ℕ → List ℕ → List ℕ → Trouble → Type 0
+Befalls says name heard rest trouble =
+    (IsNoMessage heard trouble × (rest ≡ heard))
+    ⊎ ((message : Message) × IsMessage heard message rest × IsNoAnswer (IsDatedAnswer says name message) message trouble)
 
 -- what stands in place of a table
 abbrev pub trouble_lines : Bool → List ℕ → Trouble → List ℕ
@@ -68,15 +60,15 @@ pub record ShowsRows {T : Type 0} (says : Data → T → Type 0) (table : Table 
   pub reached : new.reached ≡ old.reached
 
 -- it is told why there are none
-pub record TellsWhy {T : Type 0} (table : Table T) (old new : Sheet) : Type 0 where
+pub record TellsWhy {T : Type 0} (says : Data → T → Type 0) (table : Table T) (old new : Sheet) : Type 0 where
   pub trouble : Trouble
-  pub befalls : Befalls old.rest.now trouble
+  pub befalls : Befalls says table.name old.rest.now new.rest.now trouble
   pub page : Adds old.page new.page (trouble_lines old.page.colour table.title trouble)
   pub reached : new.reached ≡ reached_with old.reached trouble
 
 -- a table is shown: its rows, or why there are none
 abbrev pub IsShown : {T : Type 0} → (Data → T → Type 0) → Table T → Sheet → Sheet → Type 0
-IsShown says table old new = ShowsRows says table old new ⊎ TellsWhy table old new
+IsShown says table old new = ShowsRows says table old new ⊎ TellsWhy says table old new
 
 -- the proposals are shown where they were asked for
 abbrev pub ShowsProposals : Bool → Sheet → Sheet → Type 0
@@ -87,11 +79,11 @@ ShowsProposals false old new = new ≡ old
 abbrev pub IsHeardAt : List ℕ → ℕ → Type 0
 IsHeardAt heard moment = (message : Message) × (rest : List ℕ) × IsMessage heard message rest × (message.moment ≡ Some moment)
 
--- the first line: the moment of the first answer, or that none is known
+-- the first line: the moment of the first answer, or that there is none
 abbrev pub IsHead : Sheet → Sheet → Type 0
 IsHead old new =
     ((date : HttpDate) × IsHeardAt old.rest.now (unix_secs date) × Puts old new (text_line old.page.colour Plain (codes "Room at " ++ date_text date)))
-    ⊎ Puts old new (text_line old.page.colour Alarm (codes "Room at no moment: nothing was heard"))
+    ⊎ (IsRead (IsHeardAt old.rest.now) None × Puts old new (text_line old.page.colour Alarm (codes "Room at no moment: nothing was heard")))
 
 -- nothing is written yet
 pub record IsEmpty (heard : List ℕ) (painted : Bool) (sheet : Sheet) : Type 0 where

@@ -1,20 +1,66 @@
 -- What the values of an answer's JSON say.
-use Rattle.std.specs.Prelude.{◌≡◌, ℕ, List, [], Bool, Option, Some, None, option_and_then}
+use Rattle.std.specs.Prelude.{◌≡◌, ◌≤◌, ℕ, List, [], Bool, true, Option, Some, None, MatchOption, option_and_then}
 use Rattle.serde_json.specs.Data.{Data}
 use Rattle.serde_json.specs.Find.{as_bool, as_null, as_number, as_str, as_u64, at, get}
 use Rattle.room_place.specs.declared.places.Place.{Place}
 use Rattle.room_types.specs.Codes.{kind_number, status_number}
+use Rattle.room_types.specs.Needs.{is_some_need}
+use Rattle.room_types.specs.Texts.{is_callsign}
 use Rattle.room_types.specs.declared.codes.Kind.{Kind}
 use Rattle.room_types.specs.declared.codes.Status.{Status}
 use Rattle.room_types.specs.declared.needs.Counts.{Counts}
+
+-- what is read: the one of which this holds, or none where it holds of none
+pub record IsRead {T : Type 0} (holds : T → Type 0) (read : Option T) : Type 0 where
+  pub is : MatchOption read ((it : T) → ¬ holds it) holds
 
 -- it is this whole number
 abbrev pub IsWhole : Data → ℕ → Type 0
 IsWhole d n = option_and_then as_u64 (as_number d) ≡ Some n
 
+-- it is this whole number, from the least to the greatest
+abbrev pub IsFrom : ℕ → ℕ → Data → ℕ → Type 0
+IsFrom least greatest d n = IsWhole d n × (least ≤ n) × (n ≤ greatest)
+
+-- it is this number, of those that one byte or four bytes write
+abbrev pub IsByte : Data → ℕ → Type 0
+IsByte = IsFrom 0 255
+
+abbrev pub IsWord : Data → ℕ → Type 0
+IsWord = IsFrom 0 4294967295
+
+-- the number of an incident, a division or a standby point
+abbrev pub IsNumber : Data → ℕ → Type 0
+IsNumber = IsFrom 1 2147483647
+
+abbrev pub IsDivision : Data → ℕ → Type 0
+IsDivision = IsFrom 1 9
+
+abbrev pub IsPoint : Data → ℕ → Type 0
+IsPoint = IsFrom 1 99
+
+-- how urgent an incident is
+abbrev pub IsClass : Data → ℕ → Type 0
+IsClass = IsFrom 1 3
+
+-- how many vehicles of a kind, or at a standby point, are wanted or lacking
+abbrev pub IsNeed : Data → ℕ → Type 0
+IsNeed = IsFrom 0 9
+
+-- the last second of 2099
+abbrev pub last_moment : ℕ
+last_moment = 4102444799
+
+abbrev pub IsMoment : Data → ℕ → Type 0
+IsMoment = IsFrom 0 last_moment
+
 -- it is this text
 abbrev pub IsText : Data → List ℕ → Type 0
 IsText d text = as_str d ≡ Some text
+
+-- it is this text, a callsign
+abbrev pub IsCallsign : Data → List ℕ → Type 0
+IsCallsign d text = IsText d text × (is_callsign text ≡ true)
 
 abbrev pub IsBool : Data → Bool → Type 0
 IsBool d b = as_bool d ≡ Some b
@@ -40,13 +86,17 @@ HasItem says i d it = (m : Data) × (at i d ≡ Some m) × says m it
 
 -- a list of ambulances, cars and support
 abbrev pub IsCounts : Data → Counts → Type 0
-IsCounts d c = HasItem IsWhole 0 d c.ambulances × HasItem IsWhole 1 d c.cars × HasItem IsWhole 2 d c.support
+IsCounts d c = HasItem IsNeed 0 d c.ambulances × HasItem IsNeed 1 d c.cars × HasItem IsNeed 2 d c.support
 
--- a list of metres of easting and northing
+-- such a list, with at least one vehicle
+abbrev pub IsNeeds : Data → Counts → Type 0
+IsNeeds d c = IsCounts d c × (is_some_need c ≡ true)
+
+-- a list of metres of easting and northing, of a place in the squares
 abbrev pub IsPlace : Data → Place → Type 0
-IsPlace d p = HasItem IsWhole 0 d p.east × HasItem IsWhole 1 d p.north
+IsPlace d p = HasItem (IsFrom 400000 599999) 0 d p.east × HasItem (IsFrom 100000 299999) 1 d p.north
 
 -- a vehicle's callsign, or an empty text where there is none
 abbrev pub IsVehicle : Data → Option (List ℕ) → Type 0
 IsVehicle d None = IsText d []
-IsVehicle d (Some callsign) = IsText d callsign
+IsVehicle d (Some callsign) = IsCallsign d callsign

@@ -1,25 +1,24 @@
 -- Why a part of the board is not there.
-use Rattle.std.specs.Prelude.{◌≡◌, ⊤, List, ℕ, ◌++◌, codes, decimal, true}
+use Rattle.std.specs.Prelude.{◌≡◌, ◌≤◌, List, ℕ, ◌++◌, length, codes, decimal, true}
 use Rattle.std.specs.List.{list_all}
 use Rattle.serde_json.specs.Data.{Data}
 use Rattle.room_types.specs.Texts.{is_token_letter}
 use Rattle.dispatch_room_board.specs.declared.troubles.Name.{Name}
 use Rattle.dispatch_room_board.specs.declared.troubles.Trouble.{Trouble}
 use Rattle.dispatch_room_board.specs.declared.troubles.Trouble.TheVariants.{Unheard, Foreign, Refused}
-use Rattle.dispatch_room_board.specs.Members.{HasMember, IsText, IsWhole}
+use Rattle.dispatch_room_board.specs.Members.{HasMember, IsByte, IsText}
 
--- it is this text, of letters and digits alone
+-- the name is this text, of at most 32 letters and digits
+abbrev pub IsNameOf : List ℕ → Name → Type 0
+IsNameOf text name = (name.text ≡ text) × (list_all is_token_letter text ≡ true) × (length text ≤ 32)
+
+-- it is a text, and it is the name
 abbrev pub IsName : Data → Name → Type 0
-IsName d name = IsText d name.text × (list_all is_token_letter name.text ≡ true)
-
--- it is no refusal: nothing whole was heard, or nothing of a room's
-abbrev pub IsNoRefusal : Trouble → Type 0
-IsNoRefusal (Refused number name) = ⊥
-IsNoRefusal other = ⊤
+IsName d name = (text : List ℕ) × IsText d text × IsNameOf text name
 
 -- it tells this refusal
 abbrev pub IsTold : Data → Trouble → Type 0
-IsTold d (Refused number name) = HasMember IsWhole (codes "number") d number × HasMember IsName (codes "error") d name
+IsTold d (Refused number name) = HasMember IsByte (codes "number") d number × HasMember IsName (codes "error") d name
 IsTold d other = ⊥
 
 -- what is said in place of the table of a title

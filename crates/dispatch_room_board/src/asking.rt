@@ -1,5 +1,5 @@
 //! What is said to a room, and what is heard of it.
-ghost use Rattle.std.specs.Prelude.{◌≡◌, ◌<◌, IfErr, IfOk, OnOk, false, length};
+ghost use Rattle.std.specs.Prelude.{◌≡◌, ◌<◌, ℕ, List, Option, IfErr, IfOk, OnOk, false, true, length};
 ghost use Rattle.std.specs.Io.KnownBytes.{Consumes, IsAtEnd};
 ghost use Rattle.room_http_messages.specs.Streams.{WritesAll};
 ghost use Rattle.dispatch_room_board.specs.Requests.{Tells, requests};
@@ -39,11 +39,35 @@ pub fn hear<R: Source>(alloc: Global, reader: &mut R) -> Result<Vec<u8>, AllocEr
     let mut heard = Vec::new(alloc);
     let mut piece = [0; PIECE];
     'reads: while heard.len() < MOST {
-        match reader.read(&mut piece) {
-            Err(_) => return Ok(heard),
-            Ok(0) => return Ok(heard),
-            Ok(count) => heard.extend_from_slice(&piece[..count])?,
+        if !hear_more(reader, &mut piece, &mut heard)? {
+            return Ok(heard);
         }
     }
     Ok(heard)
+}
+
+// Hears what one read gives, after what was heard from a start on. Gives whether more may come:
+// none does where the read failed, or found the end.
+#[tactic(auto, using(crate::proofs::Heard::consumes_more))]
+fn hear_more<R: Source>(
+    reader: &mut R,
+    piece: &mut [u8],
+    heard: &mut Vec<u8>,
+) -> Result<bool, AllocError>
+    requires { 0 < length piece.old }
+    ensures heard { IfOk result (λ more. (start : Option (List ℕ))
+        → Consumes start (R.left reader.old) heard.old.items
+        → Consumes start (R.left reader.new) heard.new.items) }
+    ensures all { IfOk result (λ more. more ≡ false
+        → R.has_failed reader.new ≡ false → IsAtEnd (R.left reader.new)) }
+    ensures some { IfOk result (λ more. more ≡ true
+        → length heard.old.items < length heard.new.items) }
+{
+    match reader.read(piece) {
+        Err(_) | Ok(0) => Ok(false),
+        Ok(count) => {
+            heard.extend_from_slice(&piece[..count])?;
+            Ok(true)
+        }
+    }
 }

@@ -21,12 +21,19 @@ impl FromJson for Entry {
     ghost says = { IsEntry };
 
     fn from_json(value: &Value) -> Option<Entry> {
-        Some(Entry {
-            rank: member(value, "rank")?,
-            since: member(value, "since")?,
-            number: member(value, "number")?,
-            callsign: member::<About>(value, "vehicle")?.callsign,
-        })
+        let told = member(value, "rank")
+            .zip(member(value, "since"))
+            .zip(member(value, "number"))
+            .zip(member::<About>(value, "vehicle"));
+        match told {
+            Some((((rank, since), number), about)) => Some(Entry {
+                rank,
+                since,
+                number,
+                callsign: about.callsign,
+            }),
+            None => None,
+        }
     }
 }
 
@@ -40,14 +47,14 @@ impl FromJson for About {
     ghost says = { λ d about. IsVehicle d about.callsign };
 
     fn from_json(value: &Value) -> Option<About> {
-        let text = value.as_str()?;
-        if text.is_empty() {
-            return Some(About { callsign: None });
-        }
-        match Callsign::parse(text) {
-            Some(callsign) => Some(About {
-                callsign: Some(callsign),
-            }),
+        match value.as_str() {
+            Some("") => Some(About { callsign: None }),
+            Some(text) => match Callsign::parse(text) {
+                Some(callsign) => Some(About {
+                    callsign: Some(callsign),
+                }),
+                None => None,
+            },
             None => None,
         }
     }

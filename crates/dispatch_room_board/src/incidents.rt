@@ -19,15 +19,27 @@ impl FromJson for IncidentLine {
     ghost says = { IsIncidentLine };
 
     fn from_json(value: &Value) -> Option<IncidentLine> {
-        Some(IncidentLine {
-            number: member(value, "number")?,
-            place: member(value, "place")?,
-            class: member(value, "class")?,
-            needs: member(value, "needs")?,
-            lack: member(value, "lack")?,
-            opened: member(value, "opened")?,
-            calls: member(value, "calls")?,
-        })
+        let told = member(value, "number")
+            .zip(member(value, "place"))
+            .zip(member(value, "class"))
+            .zip(member(value, "needs"))
+            .zip(member(value, "lack"))
+            .zip(member(value, "opened"))
+            .zip(member(value, "calls"));
+        match told {
+            Some(((((((number, place), class), needs), lack), opened), calls)) => Some(
+                IncidentLine {
+                    number,
+                    place,
+                    class,
+                    needs,
+                    lack,
+                    opened,
+                    calls,
+                },
+            ),
+            None => None,
+        }
     }
 }
 

@@ -1,11 +1,8 @@
 //! The rows of one answer.
-ghost use Rattle.std.specs.Prelude.{◌≡◌, Some, IfOk, IfSome, MatchResult};
-ghost use Rattle.serde_json.specs.Read.{read as read_text};
-ghost use Rattle.serde_json.specs.View.{view};
-ghost use Rattle.dispatch_room_board.specs.Boards.{IsRefused};
-ghost use Rattle.dispatch_room_board.specs.declared.troubles.Trouble.TheVariants.{Foreign};
-ghost use Rattle.dispatch_room_board.specs.Members.{HasMember};
-ghost use Rattle.dispatch_room_board.specs.Listed.{IsAnswered, IsList};
+ghost use Rattle.std.specs.Prelude.{IfOk, MatchResult, option_map};
+ghost use Rattle.serde_json.specs.View.{items_view, view};
+ghost use Rattle.dispatch_room_board.specs.Members.{HasMember, IsRead};
+ghost use Rattle.dispatch_room_board.specs.Listed.{AreRows, IsAnswered, IsJson, IsList, IsNoAnswer};
 
 use crate::members::FromJson;
 use crate::messages::Message;
@@ -15,10 +12,9 @@ use serde_json::Value;
 use serde_json::error::Category;
 use std::alloc::{AllocError, Global};
 
-/// What an answer's content says, if it is JSON.
+// What an answer's content says; none where it is no JSON.
 fn read(alloc: Global, content: &[u8]) -> Result<Option<Value>, AllocError>
-    ensures { IfOk result (λ value. IfSome value (λ value.
-        read_text content.now ≡ Some (view value))) }
+    ensures { IfOk result (λ value. IsRead (IsJson content.now) (option_map view value)) }
 {
     match Value::from_slice(alloc, content) {
         Ok(value) => Ok(Some(value)),
@@ -35,41 +31,58 @@ pub fn rows_of<T: FromJson>(
     name: &str,
 ) -> Result<Result<Listed<T>, Trouble>, AllocError>
     ensures { IfOk result (λ rows. MatchResult rows (IsAnswered T.says message.now name.now)
-        (IsRefused message.now)) }
+        (IsNoAnswer (IsAnswered T.says message.now name.now) message.now)) }
 {
-    let Some(value) = read(alloc, message.content)? else {
-        return Ok(Err(Trouble::Foreign));
-    };
-    if message.code == 200 {
-        return rows_in(alloc, &value, name);
-    }
-    match refusal_in(&value) {
-        Some(refused) => Ok(Err(refused)),
+    match read(alloc, message.content)? {
+        Some(value) => rows_said(alloc, message, &value, name),
         None => Ok(Err(Trouble::Foreign)),
     }
 }
 
-// The rows in the list of a name.
+// The same of an answer whose content says this value.
+fn rows_said<T: FromJson>(
+    alloc: Global,
+    message: &Message<'_>,
+    value: &Value,
+    name: &str,
+) -> Result<Result<Listed<T>, Trouble>, AllocError>
+    requires { IsJson message.now.content.now (view value.now) }
+    ensures { IfOk result (λ rows. MatchResult rows (IsAnswered T.says message.now name.now)
+        (IsNoAnswer (IsAnswered T.says message.now name.now) message.now)) }
+{
+    if message.code == 200 {
+        return Ok(rows_in(alloc, value, name)?.ok_or(Trouble::Foreign));
+    }
+    Ok(Err(refusal_in(value).unwrap_or(Trouble::Foreign)))
+}
+
+// The rows in the list of a name; none where there is no such list.
 fn rows_in<T: FromJson>(
     alloc: Global,
     value: &Value,
     name: &str,
-) -> Result<Result<Listed<T>, Trouble>, AllocError>
-    ensures { IfOk result (λ rows. MatchResult rows
-        (HasMember (IsList T.says) name.now (view value.now)) (λ trouble. trouble ≡ Foreign)) }
+) -> Result<Option<Listed<T>>, AllocError>
+    ensures { IfOk result (IsRead (HasMember (IsList T.says) name.now (view value.now))) }
 {
     let Some(list) = value.get(name) else {
-        return Ok(Err(Trouble::Foreign));
+        return Ok(None);
     };
     let Some(items) = list.as_array() else {
-        return Ok(Err(Trouble::Foreign));
+        return Ok(None);
     };
+    rows_from(alloc, items.as_slice())
+}
+
+// The rows that the items say, one each; none where an item says no row.
+fn rows_from<T: FromJson>(alloc: Global, items: &[Value]) -> Result<Option<Listed<T>>, AllocError>
+    ensures { IfOk result (IsRead (AreRows T.says (items_view items.now))) }
+{
     let mut rows = Listed::new(alloc);
     for item in items {
         match T::from_json(item) {
             Some(row) => rows.push(row)?,
-            None => return Ok(Err(Trouble::Foreign)),
+            None => return Ok(None),
         }
     }
-    Ok(Ok(rows))
+    Ok(Some(rows))
 }

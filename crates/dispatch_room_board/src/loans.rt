@@ -20,13 +20,21 @@ impl FromJson for Offer {
     ghost says = { IsOffer };
 
     fn from_json(value: &Value) -> Option<Offer> {
-        Some(Offer {
-            callsign: member(value, "vehicle")?,
-            lender: member(value, "lender")?,
-            borrower: member(value, "borrower")?,
-            since: member(value, "since")?,
-            until: member(value, "until")?,
-        })
+        let told = member(value, "vehicle")
+            .zip(member(value, "lender"))
+            .zip(member(value, "borrower"))
+            .zip(member(value, "since"))
+            .zip(member(value, "until"));
+        match told {
+            Some(((((callsign, lender), borrower), since), until)) => Some(Offer {
+                callsign,
+                lender,
+                borrower,
+                since,
+                until,
+            }),
+            None => None,
+        }
     }
 }
 
@@ -59,14 +67,23 @@ impl FromJson for Loan {
     ghost says = { IsLoan };
 
     fn from_json(value: &Value) -> Option<Loan> {
-        Some(Loan {
-            callsign: member(value, "vehicle")?,
-            lender: member(value, "lender")?,
-            borrower: member(value, "borrower")?,
-            since: member(value, "since")?,
-            until: member(value, "until")?,
-            recalled: member(value, "recalled")?,
-        })
+        let told = member(value, "vehicle")
+            .zip(member(value, "lender"))
+            .zip(member(value, "borrower"))
+            .zip(member(value, "since"))
+            .zip(member(value, "until"))
+            .zip(member(value, "recalled"));
+        match told {
+            Some((((((callsign, lender), borrower), since), until), recalled)) => Some(Loan {
+                callsign,
+                lender,
+                borrower,
+                since,
+                until,
+                recalled,
+            }),
+            None => None,
+        }
     }
 }
 

@@ -1,8 +1,7 @@
 //! What the members of an answer's JSON say.
-ghost use Rattle.std.specs.Prelude.{◌≡◌, IfSome};
 ghost use Rattle.serde_json.specs.Data.{Data};
 ghost use Rattle.serde_json.specs.View.{view};
-ghost use Rattle.dispatch_room_board.specs.Members.{HasItem, HasMember, IsBool, IsCounts, IsKind, IsOrNull, IsPlace, IsStatus, IsText, IsWhole};
+ghost use Rattle.dispatch_room_board.specs.Members.{HasItem, HasMember, IsBool, IsByte, IsCallsign, IsCounts, IsFrom, IsKind, IsNeeds, IsOrNull, IsPlace, IsRead, IsStatus, IsWhole, IsWord};
 
 use room_place::bounded::Bounded;
 use room_place::places::Place;
@@ -16,24 +15,30 @@ pub trait FromJson: Copy {
     // Whether JSON says it.
     ghost says: { Data → Self → Type 0 };
 
-    /// What a value of JSON says; none where it isn't of the form.
+    /// What a value of JSON says; none where it says nothing of the kind.
     fn from_json(value: &Value) -> Option<Self>
-        ensures { IfSome result (says (view value.now)) };
+        ensures { IsRead (says (view value.now)) result };
 }
 
-/// What the member of a name says; none where the value has none, or it isn't of the form.
+/// What the member of a name says; none where the value has none, or it says nothing of the kind.
 pub fn member<T: FromJson>(value: &Value, name: &str) -> Option<T>
-    ensures { IfSome result (HasMember T.says name.now (view value.now)) }
+    ensures { IsRead (HasMember T.says name.now (view value.now)) result }
 {
-    T::from_json(value.get(name)?)
+    match value.get(name) {
+        Some(member) => T::from_json(member),
+        None => None,
+    }
 }
 
-// What the item at a place of a list says, counted from 0; none where there is none, or it isn't of
-// the form.
+// What the item at a place of a list says, counted from 0; none where there is none, or it says
+// nothing of the kind.
 fn item<T: FromJson>(value: &Value, at: usize) -> Option<T>
-    ensures { IfSome result (HasItem T.says at (view value.now)) }
+    ensures { IsRead (HasItem T.says at (view value.now)) result }
 {
-    T::from_json(value.get(at)?)
+    match value.get(at) {
+        Some(item) => T::from_json(item),
+        None => None,
+    }
 }
 
 impl FromJson for bool {
@@ -53,26 +58,35 @@ impl FromJson for u64 {
 }
 
 impl FromJson for u32 {
-    ghost says = { IsWhole };
+    ghost says = { IsWord };
 
     fn from_json(value: &Value) -> Option<u32> {
-        u32::try_from(value.as_u64()?).ok()
+        match value.as_u64() {
+            Some(number) => u32::try_from(number).ok(),
+            None => None,
+        }
     }
 }
 
 impl FromJson for u8 {
-    ghost says = { IsWhole };
+    ghost says = { IsByte };
 
     fn from_json(value: &Value) -> Option<u8> {
-        u8::try_from(value.as_u64()?).ok()
+        match value.as_u64() {
+            Some(number) => u8::try_from(number).ok(),
+            None => None,
+        }
     }
 }
 
 impl<const LEAST: u32, const GREATEST: u32> FromJson for Bounded<LEAST, GREATEST> {
-    ghost says = { IsWhole };
+    ghost says = { IsFrom LEAST GREATEST };
 
     fn from_json(value: &Value) -> Option<Self> {
-        Bounded::new(u32::from_json(value)?)
+        match u32::from_json(value) {
+            Some(number) => Bounded::new(number),
+            None => None,
+        }
     }
 }
 
@@ -91,10 +105,13 @@ impl<T: FromJson> FromJson for Option<T> {
 }
 
 impl FromJson for Callsign {
-    ghost says = { IsText };
+    ghost says = { IsCallsign };
 
     fn from_json(value: &Value) -> Option<Callsign> {
-        Callsign::parse(value.as_str()?)
+        match value.as_str() {
+            Some(text) => Callsign::parse(text),
+            None => None,
+        }
     }
 }
 
@@ -102,7 +119,10 @@ impl FromJson for Kind {
     ghost says = { IsKind };
 
     fn from_json(value: &Value) -> Option<Kind> {
-        Kind::from_number(u8::from_json(value)?)
+        match u8::from_json(value) {
+            Some(number) => Kind::from_number(number),
+            None => None,
+        }
     }
 }
 
@@ -110,7 +130,10 @@ impl FromJson for Status {
     ghost says = { IsStatus };
 
     fn from_json(value: &Value) -> Option<Status> {
-        Status::from_number(u8::from_json(value)?)
+        match u8::from_json(value) {
+            Some(number) => Status::from_number(number),
+            None => None,
+        }
     }
 }
 
@@ -118,19 +141,26 @@ impl FromJson for Counts {
     ghost says = { IsCounts };
 
     fn from_json(value: &Value) -> Option<Counts> {
-        Some(Counts {
-            ambulances: item(value, 0)?,
-            cars: item(value, 1)?,
-            support: item(value, 2)?,
-        })
+        let told = item(value, 0).zip(item(value, 1)).zip(item(value, 2));
+        match told {
+            Some(((ambulances, cars), support)) => Some(Counts {
+                ambulances,
+                cars,
+                support,
+            }),
+            None => None,
+        }
     }
 }
 
 impl FromJson for Needs {
-    ghost says = { IsCounts };
+    ghost says = { IsNeeds };
 
     fn from_json(value: &Value) -> Option<Needs> {
-        Needs::new(Counts::from_json(value)?)
+        match Counts::from_json(value) {
+            Some(counts) => Needs::new(counts),
+            None => None,
+        }
     }
 }
 
@@ -138,9 +168,9 @@ impl FromJson for Place {
     ghost says = { IsPlace };
 
     fn from_json(value: &Value) -> Option<Place> {
-        Some(Place {
-            east: item(value, 0)?,
-            north: item(value, 1)?,
-        })
+        match item(value, 0).zip(item(value, 1)) {
+            Some((east, north)) => Some(Place { east, north }),
+            None => None,
+        }
     }
 }

@@ -1,11 +1,11 @@
 //! The answers in what was heard, one after another.
-ghost use Rattle.std.specs.Prelude.{◌≡◌, codes, map, min, IfSome, MatchOption, MatchResult, true, false};
+ghost use Rattle.std.specs.Prelude.{◌≡◌, codes, map, min, MatchOption, MatchResult, true, false};
 ghost use Rattle.std.specs.Str.Parse.{digits_value};
 ghost use Rattle.httparse.specs.Spans.{header_bytes};
 ghost use Rattle.room_http_messages.specs.Fields.{AreWithin, values_of};
 ghost use Rattle.room_http_messages.specs.Rules.{is_numeral};
-ghost use Rattle.dispatch_room_board.specs.Troubles.{IsNoRefusal};
-ghost use Rattle.dispatch_room_board.specs.Messages.{Announces, IsDateOf, IsDated, IsMessage};
+ghost use Rattle.dispatch_room_board.specs.Members.{IsRead};
+ghost use Rattle.dispatch_room_board.specs.Messages.{Announces, IsDateOf, IsDated, IsMessage, IsNoMessage};
 
 use crate::asking::MOST;
 use crate::troubles::Trouble;
@@ -26,10 +26,11 @@ pub struct Message<'a> {
 }
 
 /// The answer at the front, and what follows it: a head of HTTP/1.0 or HTTP/1.1, and as many bytes
-/// as it announces.
+/// as it announces. Or why there is none: the bytes end too early, or are no answer's, whatever
+/// follows them.
 pub fn first_message(bytes: &[u8]) -> Result<(Message<'_>, &[u8]), Trouble>
     ensures { MatchResult result (λ found. IsMessage bytes.now found.0 found.1.now)
-        IsNoRefusal }
+        (IsNoMessage bytes.now) }
 {
     let mut headers = [EMPTY_HEADER_SPAN; FIELD_LIMIT];
     let head = match parse_response(bytes, &mut headers) {
@@ -38,11 +39,13 @@ pub fn first_message(bytes: &[u8]) -> Result<(Message<'_>, &[u8]), Trouble>
         Err(_) => return Err(Trouble::Foreign),
     };
     let fields = &headers[..head.headers];
-    let Some(size) = length_in(bytes, fields) else {
-        return Err(Trouble::Foreign);
+    let size = match length_in(bytes, fields) {
+        Some(size) => size,
+        None => return Err(Trouble::Foreign),
     };
-    let Some((content, rest)) = bytes[head.len..].split_at_checked(size) else {
-        return Err(Trouble::Unheard);
+    let (content, rest) = match bytes[head.len..].split_at_checked(size) {
+        Some(parts) => parts,
+        None => return Err(Trouble::Unheard),
     };
     let moment = moment_in(bytes, fields);
     let code = head.code;
@@ -60,8 +63,8 @@ pub fn first_message(bytes: &[u8]) -> Result<(Message<'_>, &[u8]), Trouble>
 // or it isn't digits alone.
 fn length_in(bytes: &[u8], fields: &[HeaderSpan]) -> Option<usize>
     requires { AreWithin bytes.now fields.now }
-    ensures { IfSome result (Announces (values_of (codes "content-length")
-        (map (header_bytes bytes.now) fields.now))) }
+    ensures { IsRead (Announces (values_of (codes "content-length")
+        (map (header_bytes bytes.now) fields.now))) result }
 {
     match only_field(bytes, fields, b"content-length") {
         Some(value) => numeral(value.of(bytes)),
@@ -90,8 +93,8 @@ fn numeral(value: &[u8]) -> Option<usize>
 // The moment of the only Date field.
 fn moment_in(bytes: &[u8], fields: &[HeaderSpan]) -> Option<Moment>
     requires { AreWithin bytes.now fields.now }
-    ensures { IfSome result (IsDated (values_of (codes "date")
-        (map (header_bytes bytes.now) fields.now))) }
+    ensures { IsRead (IsDated (values_of (codes "date")
+        (map (header_bytes bytes.now) fields.now))) result }
 {
     match only_field(bytes, fields, b"date") {
         Some(value) => moment_of(value.of(bytes)),
@@ -101,7 +104,7 @@ fn moment_in(bytes: &[u8], fields: &[HeaderSpan]) -> Option<Moment>
 
 // The moment of a date; none where the text is none, or after the last moment.
 fn moment_of(text: &[u8]) -> Option<Moment>
-    ensures { IfSome result (IsDateOf text.now) }
+    ensures { IsRead (IsDateOf text.now) result }
 {
     let Ok(date) = HttpDate::parse_ascii(text) else {
         return None;

@@ -17,12 +17,19 @@ impl FromJson for PointLine {
     ghost says = { IsPointLine };
 
     fn from_json(value: &Value) -> Option<PointLine> {
-        Some(PointLine {
-            number: member(value, "number")?,
-            place: member(value, "place")?,
-            cover: member(value, "cover")?,
-            held: member(value, "held")?,
-        })
+        let told = member(value, "number")
+            .zip(member(value, "place"))
+            .zip(member(value, "cover"))
+            .zip(member(value, "held"));
+        match told {
+            Some((((number, place), cover), held)) => Some(PointLine {
+                number,
+                place,
+                cover,
+                held,
+            }),
+            None => None,
+        }
     }
 }
 

@@ -17,12 +17,19 @@ impl FromJson for Proposal {
     ghost says = { IsProposal };
 
     fn from_json(value: &Value) -> Option<Proposal> {
-        Some(Proposal {
-            breaks: member(value, "breaks")?,
-            distance: member(value, "distance")?,
-            kind: member(value, "kind")?,
-            callsign: member(value, "vehicle")?,
-        })
+        let told = member(value, "breaks")
+            .zip(member(value, "distance"))
+            .zip(member(value, "kind"))
+            .zip(member(value, "vehicle"));
+        match told {
+            Some((((breaks, distance), kind), callsign)) => Some(Proposal {
+                breaks,
+                distance,
+                kind,
+                callsign,
+            }),
+            None => None,
+        }
     }
 }
 

@@ -1,8 +1,10 @@
 //! A board that is being made.
-ghost use Rattle.std.specs.Prelude.{◌≡◌, IfOk, IfSome, MatchResult, string_bytes};
+ghost use Rattle.std.specs.Prelude.{◌≡◌, IfOk, MatchResult, string_bytes};
 ghost use Rattle.httpdate.specs.Date.{date_text, unix_secs};
 ghost use Rattle.httpdate.specs.declared.date.HttpDate.{HttpDate as Date};
-ghost use Rattle.dispatch_room_board.specs.Boards.{IsDatedAnswer, IsHeardAt, IsRefused};
+ghost use Rattle.dispatch_room_board.specs.Boards.{IsDatedAnswer, IsHeardAt};
+ghost use Rattle.dispatch_room_board.specs.Listed.{IsNoAnswer};
+ghost use Rattle.dispatch_room_board.specs.Members.{IsRead};
 
 use crate::boards::{Board, Reached};
 use crate::listed::rows_of;
@@ -30,9 +32,8 @@ type Found<T> = Result<(Listed<T>, Moment), Trouble>;
 impl<'a> Sheet<'a> {
     ghost use Rattle.std.specs.Prelude.{◌≡◌, [], IfOk, MatchResult, OnOk};
     ghost use Rattle.dispatch_room_board.specs.Boards.{Befalls, IsHead, IsListed, IsShown, Puts, ShowsProposals, reached_with, trouble_lines};
-    ghost use Rattle.dispatch_room_board.specs.Messages.{IsMessage};
+    ghost use Rattle.dispatch_room_board.specs.Messages.{IsMessage, IsNoMessage};
     ghost use Rattle.dispatch_room_board.specs.Pages.{Adds};
-    ghost use Rattle.dispatch_room_board.specs.Troubles.{IsNoRefusal};
     ghost use Rattle.dispatch_room_board.specs.Tables.{row_lines, table_lines, titles_line};
     ghost use Rattle.dispatch_room_board.specs.declared.boards.Reached.TheVariants.{All};
 
@@ -143,7 +144,7 @@ impl<'a> Sheet<'a> {
     fn next_rows<T: Tabled>(&mut self) -> Result<Found<T>, AllocError>
         ensures found { IfOk result (λ found. MatchResult found
             (IsListed T.says T.table.name self.old.rest.now self.new.rest.now)
-            (Befalls self.old.rest.now)) }
+            (Befalls T.says T.table.name self.old.rest.now self.new.rest.now)) }
         ensures page { (self.new.page ≡ self.old.page) × (self.new.reached ≡ self.old.reached) }
     {
         match self.next_message() {
@@ -156,7 +157,8 @@ impl<'a> Sheet<'a> {
     fn next_message(&mut self) -> Result<Message<'a>, Trouble>
         ensures message { MatchResult result
             (λ message. IsMessage self.old.rest.now message self.new.rest.now)
-            (λ trouble. (self.new.rest ≡ self.old.rest) × IsNoRefusal trouble) }
+            (λ trouble. (self.new.rest ≡ self.old.rest)
+            × IsNoMessage self.old.rest.now trouble) }
         ensures page { (self.new.page ≡ self.old.page) × (self.new.reached ≡ self.old.reached) }
     {
         match first_message(self.rest) {
@@ -172,7 +174,8 @@ impl<'a> Sheet<'a> {
 // The rows of an answer with its moment. An answer without a date is none of a room.
 fn dated_rows<T: Tabled>(alloc: Global, message: &Message<'_>) -> Result<Found<T>, AllocError>
     ensures { IfOk result (λ found. MatchResult found
-        (IsDatedAnswer T.says T.table.name message.now) (IsRefused message.now)) }
+        (IsDatedAnswer T.says T.table.name message.now)
+        (IsNoAnswer (IsDatedAnswer T.says T.table.name message.now) message.now)) }
 {
     match (rows_of(alloc, message, T::layout().name)?, message.moment) {
         (Ok(rows), Some(moment)) => Ok(Ok((rows, moment))),
@@ -181,9 +184,9 @@ fn dated_rows<T: Tabled>(alloc: Global, message: &Message<'_>) -> Result<Found<T
     }
 }
 
-// The moment of the first answer.
+// The moment of the first answer; none where there is none, or it tells no moment.
 fn moment_of(heard: &[u8]) -> Option<Moment>
-    ensures { IfSome result (IsHeardAt heard.now) }
+    ensures { IsRead (IsHeardAt heard.now) result }
 {
     match first_message(heard) {
         Ok((message, _)) => message.moment,

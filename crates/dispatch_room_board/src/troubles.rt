@@ -1,9 +1,10 @@
 //! Why a part of the board is not there.
-ghost use Rattle.std.specs.Prelude.{◌≡◌, IfOk, IfSome, string_bytes};
+ghost use Rattle.std.specs.Prelude.{◌≡◌, IfOk, string_bytes};
 ghost use Rattle.std.specs.List.{list_all};
 ghost use Rattle.serde_json.specs.View.{view};
 ghost use Rattle.room_types.specs.Texts.{is_token_letter};
-ghost use Rattle.dispatch_room_board.specs.Troubles.{IsName, IsTold, told};
+ghost use Rattle.dispatch_room_board.specs.Members.{IsRead};
+ghost use Rattle.dispatch_room_board.specs.Troubles.{IsName, IsNameOf, IsTold, told};
 
 use crate::members::{FromJson, member};
 use room_types::text::Text;
@@ -32,14 +33,23 @@ impl FromJson for Name {
     ghost says = { IsName };
 
     fn from_json(value: &Value) -> Option<Name> {
-        let text = value.as_str()?;
-        if !are_letters(text.as_bytes()) {
-            return None;
-        }
-        match Text::new(text) {
-            Some(text) => Some(Name { text }),
+        match value.as_str() {
+            Some(text) => name_of(text),
             None => None,
         }
+    }
+}
+
+// The name that a text is; none where it is too long, or has anything but letters and digits.
+fn name_of(text: &str) -> Option<Name>
+    ensures { IsRead (IsNameOf text.now) result }
+{
+    if !are_letters(text.as_bytes()) {
+        return None;
+    }
+    match Text::new(text) {
+        Some(text) => Some(Name { text }),
+        None => None,
     }
 }
 
@@ -55,13 +65,14 @@ fn is_letter(byte: u8) -> bool
     matches!(byte, b'A'..=b'Z' | b'a'..=b'z' | b'0'..=b'9')
 }
 
-/// The trouble that a refusal tells of.
+/// The trouble that a refusal tells of; none where the value tells of none.
 pub fn refusal_in(value: &Value) -> Option<Trouble>
-    ensures { IfSome result (IsTold (view value.now)) }
+    ensures { IsRead (IsTold (view value.now)) result }
 {
-    let number = member(value, "number")?;
-    let name = member(value, "error")?;
-    Some(Trouble::Refused(number, name))
+    match member(value, "number").zip(member(value, "error")) {
+        Some((number, name)) => Some(Trouble::Refused(number, name)),
+        None => None,
+    }
 }
 
 /// What is said in place of the table of a title.

@@ -19,16 +19,28 @@ impl FromJson for VehicleLine {
     ghost says = { IsVehicleLine };
 
     fn from_json(value: &Value) -> Option<VehicleLine> {
-        Some(VehicleLine {
-            callsign: member(value, "vehicle")?,
-            home: member(value, "home")?,
-            incident: member(value, "incident")?,
-            kind: member(value, "kind")?,
-            place: member(value, "place")?,
-            post: member(value, "post")?,
-            shift_end: member(value, "shift_end")?,
-            status: member(value, "status")?,
-        })
+        let told = member(value, "vehicle")
+            .zip(member(value, "home"))
+            .zip(member(value, "incident"))
+            .zip(member(value, "kind"))
+            .zip(member(value, "place"))
+            .zip(member(value, "post"))
+            .zip(member(value, "shift_end"))
+            .zip(member(value, "status"));
+        match told {
+            Some((((((((callsign, home), incident), kind), place), post), shift_end), status)) =>
+                Some(VehicleLine {
+                    callsign,
+                    home,
+                    incident,
+                    kind,
+                    place,
+                    post,
+                    shift_end,
+                    status,
+                }),
+            None => None,
+        }
     }
 }
 

@@ -1,7 +1,10 @@
-use Rattle.dispatch_room_board.proofs.RowLists.{rows_more}
+use Rattle.serde_json.specs.View.{view}
+use Rattle.std.proofs.lemmas.Result.{IfOk-weaker}
+use Rattle.dispatch_room_board.proofs.RowLists.{list_read}
 use Rattle.dispatch_room_board.proofs.listed.rows_in.Goals as goal
 
-pub loop-item-preserved : goal.loop-item-preserved
-loop-item-preserved g c =
-    rw c.in_ok-push-in-Some-from_json.ensures.ok
-    (rows_more g.T.FromJson.says _ _ _ _ _ c.loop-item-test.true c.item-item.is c.loop-item.invariant c.in-Some-from_json.ensures)
+pub returns : goal.returns
+returns g c =
+    IfOk-weaker c.rows_from.result _ _
+    (λ o h. list_read g.T.FromJson.says c.args.name.now (view c.args.value.now) (view c.in-Some.list.now) _ o (rw c.in-Some.is at c.get.ensures) (rw c.in-Some-as_array.is at c.as_array.ensures) (rw c.as_slice.ensures.value at h))
+    c.rows_from.ensures

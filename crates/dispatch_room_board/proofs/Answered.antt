@@ -1,0 +1,131 @@
+-- Lemmas on answers: what stands at the front of what was heard, and what an answer gives.
+use Rattle.std.proofs.Common.{◌≡◌, ◌<◌, ◌≤◌, ◌∙◌, sym, ap, ℕ, List, [], ◌++◌, length, map, take, drop, take-append-drop, Option, None, Some, arith, inl, inr, length-append, length-drop, length-take, ◌-◌}
+use Rattle.std.specs.Prelude.{◌≢◌, codes, Result, MatchResult, ok_or, unwrap_or}
+use Rattle.std.specs.List.{IsSplitAt}
+use Rattle.std.proofs.lemmas.List.{append-nil, length-map, take_all}
+use Rattle.std.proofs.lemmas.Option.{none-some, same_Some}
+use Rattle.serde_json.specs.Data.{Data}
+use Rattle.httparse.proofs.GrammarLemmas.{response_prefix_free, response_unique}
+use Rattle.httparse.specs.Grammar.{HasNoResponse, MayBecomeResponse, ReadsResponse, ResponseHead}
+use Rattle.httparse.specs.Spans.{IsResponseOf, ResponseOverflows, header_bytes}
+use Rattle.httparse.specs.declared.spans.ResponseSpans.{ResponseSpans}
+use Rattle.httparse.specs.declared.spans.HeaderSpan.{HeaderSpan}
+use Rattle.room_http_messages.specs.Fields.{Fields, values_of}
+use Rattle.room_http_messages.specs.declared.limits.TheConstants.{FIELD_LIMIT}
+use Rattle.dispatch_room_board.specs.declared.messages.Message.{Message}
+use Rattle.dispatch_room_board.specs.declared.troubles.Trouble.{Trouble}
+use Rattle.dispatch_room_board.specs.declared.troubles.Trouble.TheVariants.{Unheard, Foreign, Refused}
+use Rattle.dispatch_room_board.specs.Boards.{IsDatedAnswer, IsHeardAt}
+use Rattle.dispatch_room_board.specs.Listed.{IsAnswered, IsJson, IsList, IsNoAnswer}
+use Rattle.dispatch_room_board.specs.Members.{HasMember, IsRead}
+use Rattle.dispatch_room_board.specs.Messages.{Announces, HasNoMessage, IsDated, IsMessage, IsNoMessage, fields_in}
+use Rattle.dispatch_room_board.specs.Troubles.{IsTold}
+
+pub no_head : (bytes : List ℕ) → HasNoResponse bytes → MayBecomeResponse bytes → IsNoMessage bytes Unheard
+no_head bytes none may = (λ m rest is. none is.head _ is.reads, inl may)
+
+pub never_head : (bytes : List ℕ) → ResponseOverflows FIELD_LIMIT bytes → IsNoMessage bytes Foreign
+never_head bytes over more m rest is = omega (arith, is.few, over more is.head _ is.reads)
+
+-- a head that is read, and as many bytes behind it as it announces
+pub message_read : (bytes rest : List ℕ) (spans : List HeaderSpan) (head : ResponseSpans) (m : Message) (size : ℕ) → IsResponseOf bytes spans head
+    → length spans ≤ FIELD_LIMIT → m.code ≡ head.code → IsSplitAt (take (length bytes - head.len) (drop head.len bytes)) size m.content.now rest
+    → IsRead (Announces (values_of (codes "content-length") (map (header_bytes bytes) (take head.headers spans)))) (Some size)
+    → IsRead (IsDated (values_of (codes "date") (map (header_bytes bytes) (take head.headers spans)))) m.moment → IsMessage bytes m rest
+message_read bytes rest spans head m size of room code split announced dated =
+    let whole = take_all (length bytes - head.len) (drop head.len bytes) (omega (arith, length-drop head.len bytes)) in
+    let parts : m.content.now ++ rest ≡ drop head.len bytes =
+    rw (split.1, split.2) (take-append-drop size (take (length bytes - head.len) (drop head.len bytes)) ∙ whole) in
+    record {
+      head = of.0;
+      reads = rw parts of.1.reads;
+      few = omega (arith, room, simp (length-map, length-take) at (ap length of.1.fields));
+      code = code ∙ of.1.code;
+      size = rw split.3 (rw of.1.fields at announced.is);
+      moment = rw of.1.fields at dated;
+    }
+
+-- a head without a length, whatever follows it
+pub never_long : (bytes rest : List ℕ) (h : ResponseHead) (fields : Fields) → ReadsResponse bytes h rest → fields ≡ fields_in h
+    → IsRead (Announces (values_of (codes "content-length") fields)) None → IsNoMessage bytes Foreign
+never_long bytes rest h fields reads are none more m back is =
+    let same = (response_prefix_free bytes more h is.head rest (m.content.now ++ back) reads is.reads).0 in
+    none.is (length m.content.now) (rw (are, same) is.size)
+
+announced_is_one : (values : List (List ℕ)) (n m : ℕ) → Announces values n → Announces values m → n ≡ m
+announced_is_one values n m x y =
+    let e = same_Some x.0 y.0 (sym x.1 ∙ y.1) in x.3 ∙ rw e (sym y.3)
+
+-- a head with a length, and less behind it
+pub cut_short : (bytes rest : List ℕ) (h : ResponseHead) (fields : Fields) (size : ℕ) → ReadsResponse bytes h rest → fields ≡ fields_in h
+    → IsRead (Announces (values_of (codes "content-length") fields)) (Some size) → length rest < size → IsNoMessage bytes Unheard
+cut_short bytes rest h fields size reads are announces less =
+    (none, inr (h, rest, size, reads, rw are at announces.is, less))
+  where
+    none : HasNoMessage bytes
+    none m back is =
+        let same = response_unique bytes h is.head rest (m.content.now ++ back) reads is.reads in
+        let long : size ≡ length m.content.now = announced_is_one _ _ _ announces.is (rw (are, same.0) is.size) in
+        omega (arith, less, long, ap length same.1, length-append m.content.now back)
+
+-- why there is none now
+pub no_message : (bytes : List ℕ) (t : Trouble) → IsNoMessage bytes t → HasNoMessage bytes
+no_message bytes Unheard h = h.0
+no_message bytes Foreign h = rw append-nil at (h [])
+no_message bytes (Refused number name) h = absurd h
+
+pub nothing_heard : (bytes : List ℕ) (t : Trouble) → IsNoMessage bytes t → IsRead (IsHeardAt bytes) None
+nothing_heard bytes t none = record { is = λ moment h. no_message bytes t none h.0 h.1 h.2 }
+
+pub heard_at : (bytes rest : List ℕ) (m : Message) (moment : Option ℕ) → moment ≡ m.moment → IsMessage bytes m rest → IsRead (IsHeardAt bytes) moment
+heard_at bytes rest m None same is = record { is = not }
+  where
+    not : (moment : ℕ) → ¬ IsHeardAt bytes moment
+    not moment h =
+        let heads = (response_unique bytes is.head h.2.head _ _ is.reads h.2.reads).0 in
+        let one : IsDated (values_of (codes "date") (fields_in h.2.head)) moment = (rw h.3 at h.2.moment).is in
+        (rw (sym same) at is.moment).is moment (rw heads one)
+heard_at bytes rest m (Some moment) same is = record { is = (m, rest, is, sym same) }
+
+same_json : (bytes : List ℕ) (d e : Data) → IsJson bytes d → IsJson bytes e → d ≡ e
+same_json bytes d e x y = same_Some d e (sym x.1 ∙ y.1)
+
+pub not_json : {T : Type 0} (says : Data → T → Type 0) (name : List ℕ) (m : Message) → IsRead (IsJson m.content.now) None
+    → IsNoAnswer (IsAnswered says m name) m Foreign
+not_json says name m none = (record { is = λ rows h. none.is h.0 h.2 }, record { is = λ t h. none.is h.0 h.2 })
+
+-- an answer that is no refusal lists what is found in it
+pub listed_or_not : {T : Type 0} (says : Data → T → Type 0) (name : List ℕ) (m : Message) (d : Data) (r : Result (List T) Trouble) (o : Option (List T))
+    → r ≡ ok_or o Foreign → m.code ≡ 200 → IsJson m.content.now d → IsRead (HasMember (IsList says) name d) o
+    → MatchResult r (IsAnswered says m name) (IsNoAnswer (IsAnswered says m name) m)
+listed_or_not {T} says name m d r o is ok json found = rw is (either o found)
+  where
+    either : (o : Option (List T)) → IsRead (HasMember (IsList says) name d) o
+        → MatchResult (ok_or o Foreign) (IsAnswered says m name) (IsNoAnswer (IsAnswered says m name) m)
+    either None found =
+        (record { is = λ rows h. found.is rows (rw (same_json _ d h.0 json h.2) h.3) }, record { is = λ t h. h.1 ok })
+    either (Some rows) found = (d, ok, json, found.is)
+
+-- any other refuses as is told in it
+pub refused_or_not : {T : Type 0} (says : Data → T → Type 0) (name : List ℕ) (m : Message) (d : Data) (t : Trouble) (o : Option Trouble)
+    → t ≡ unwrap_or o Foreign → m.code ≢ 200 → IsJson m.content.now d → IsRead (IsTold d) o → IsNoAnswer (IsAnswered says m name) m t
+refused_or_not says name m d t o is bad json found = rw is (either o found)
+  where
+    either : (o : Option Trouble) → IsRead (IsTold d) o → IsNoAnswer (IsAnswered says m name) m (unwrap_or o Foreign)
+    either None found =
+        (record { is = λ rows h. bad h.1 }, record { is = λ t h. found.is t (rw (same_json _ d h.0 json h.2) h.3) })
+    either (Some Unheard) found = absurd found.is
+    either (Some Foreign) found = absurd found.is
+    either (Some (Refused number error)) found = (d, bad, json, found.is)
+
+-- the rows of an answer without a date
+pub undated : {T : Type 0} (says : Data → T → Type 0) (name : List ℕ) (m : Message) (rows : List T) → m.moment ≡ None → IsAnswered says m name rows
+    → IsNoAnswer (IsDatedAnswer says name m) m Foreign
+undated says name m rows none listed = (record { is = λ found h. none-some found.1 (sym none ∙ h.1) }, record { is = λ t h. h.1 listed.1 })
+
+-- what is none is none with a date
+pub none_with_date : {T : Type 0} (says : Data → T → Type 0) (name : List ℕ) (m : Message) (t : Trouble) → IsNoAnswer (IsAnswered says m name) m t
+    → IsNoAnswer (IsDatedAnswer says name m) m t
+none_with_date says name m Unheard none = none
+none_with_date says name m Foreign none = (record { is = λ found h. none.0.is found.0 h.0 }, none.1)
+none_with_date says name m (Refused number error) none = none

@@ -1,0 +1,14 @@
+use Rattle.std.proofs.Common.{rules}
+use Rattle.dispatch_room_board.proofs.Readings.{read_both, read_none}
+use Rattle.dispatch_room_board.proofs.points.PointLineFromJson.from_json.Goals as goal
+
+pub returns-in-None : goal.returns-in-None
+returns-in-None c =
+    read_none _ c.in-None.is
+    (read_both c.zip-told.ensures (read_both c.zip-2.ensures (read_both c.zip.ensures c.member.ensures c.member-2.ensures) c.member-3.ensures) c.member-4.ensures)
+    (λ it. (((it.number, it.place), it.cover), it.held)) (λ it h. (((h.number, h.place), h.cover), h.held))
+
+pub returns-in-Some : goal.returns-in-Some
+returns-in-Some c =
+    let h = (rw c.in-Some.is at (read_both c.zip-told.ensures (read_both c.zip-2.ensures (read_both c.zip.ensures c.member.ensures c.member-2.ensures) c.member-3.ensures) c.member-4.ensures)).is in
+    record { is = record { number = search (rules, h.0.0.0); place = search (rules, h.0.0.1); cover = search (rules, h.0.1); held = search (rules, h.1) } }
