@@ -93,12 +93,13 @@ class Preloaded:
         out, err = process.communicate(given, timeout=60)
         return process.returncode, out, err
 
-    def serve(self, told, room, sent, ask=ask):
+    def serve(self, told, room, sent, *words, ask=ask):
         """Serves a room to one connection that asks what is sent; the answers, the status, and
         what was told."""
         port, answers = free_port(), []
         address = f'127.0.0.1:{port}'
-        process = self.start(told, 'serve', room, address, '--connections', 1, *PATIENT)
+        words = *PATIENT, *words
+        process = self.start(told, 'serve', room, address, '--connections', 1, *words)
         with process:
             if process.stdout.readline() == b'serving\n':
                 with contextlib.suppress(OSError):

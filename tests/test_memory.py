@@ -318,6 +318,25 @@ class Memory(MemoryTestCase):
             self.check(f'a call without {name}, then the call', again, CALLED)
             self.check(f'a call without {name}, then the call: the room', rows_of(file), after)
 
+    def test_log(self):
+        """A log for whose line memory is wanting changes no answer. Its line is made at the end."""
+        room = made(self.folder / 'served.db')
+
+        def logged(refused):
+            answers, status, err = self.program.serve(refused, self.fresh(room), call(1), '--log')
+            line, _, err = err.rpartition(b' ms\n')
+            return line[20:].rpartition(b' ')[0], (answers, status, err)
+        line = b' position 1 POST /call 200'
+        self.check('a call that is logged', logged(NOTHING), (line, CALLED))
+        last, lines = self.program.total(), set()
+        for number in range(last - 40, last + 1):
+            told, done = logged(without(number, number))
+            with self.subTest(f'a call that is logged without allocation {number}'):
+                self.assertIn(done, ENDS)
+            if done == CALLED:
+                lines.add(told)
+        self.check('with a line and without', lines, {b'', line})
+
 
 def is_want(answer):
     """Whether a message is refused for memory."""

@@ -81,7 +81,7 @@ class Rows(PreloadedTestCase):
         messages."""
         told = {'MOMENTS': ' '.join(it.moment for it in asked)}
         sent = ''.join(it.text() for it in asked).encode()
-        got, status, said = self.program.serve(told, self.fresh(self.room), sent, talk)
+        got, status, said = self.program.serve(told, self.fresh(self.room), sent, ask=talk)
         return (status, said.decode()), answers(got.decode(), asked)
 
     def test_scripts(self):

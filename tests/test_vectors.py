@@ -361,7 +361,7 @@ class Moments(PreloadedTestCase):
             with self.subTest(moments):
                 room = made(self.fresh())
                 got = self.program.serve({'MOMENTS': moments}, room,
-                                         message('deskone1', 'GET /queue') * 2, talk)
+                                         message('deskone1', 'GET /queue') * 2, ask=talk)
                 self.assertEqual(got, (wanted.encode(), 0, b''))
 
 

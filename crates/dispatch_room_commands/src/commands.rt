@@ -23,8 +23,8 @@ use std::io::Write;
 pub const USAGE: u8 = 2;
 
 /// Does what the words of a command line ask for, the program's name first. What a command gives
-/// goes to `out`, and to `err` why it fails, and that others can read the room's file. Gives the
-/// exit status: 0 done, or help asked for; 1 refused input; 2 usage; 3 storage; 4 network; 5
+/// goes to `out`, and to `err` why it fails, that others can read the room's file, and the log of
+/// what is served. Gives the exit status: 0 done, or help asked for; 1 refused input; 2 usage; 3 storage; 4 network; 5
 /// memory.
 pub fn command<O: Write, E: Write>(
     rt: &HostRuntime,
@@ -40,7 +40,8 @@ pub fn command<O: Write, E: Write>(
             if let Some(file) = task.file() {
                 warn(rt, file, err);
             }
-            end(perform(rt, alloc, &task, out), err)
+            let done = perform(rt, alloc, &task, out, err);
+            end(done, err)
         }
         Err(error) => refuse(&error, out, err),
     }
@@ -70,18 +71,19 @@ fn end<E: Write>(done: Result<Done, Failure>, err: &mut E) -> u8
     }
 }
 
-fn perform<O: Write>(
+fn perform<O: Write, E: Write>(
     rt: &HostRuntime,
     alloc: Global,
     task: &Task<'_>,
     out: &mut O,
+    err: &mut E,
 ) -> Result<Done, Failure> {
     match *task {
         Task::Init { file, plan } => init(rt, alloc, file, plan, out),
         Task::Import { file, fleet } => import(rt, alloc, file, fleet, out),
         Task::Migrate { file } => migrate(rt, alloc, file, out),
         Task::Check { file } => check(rt, alloc, file, out),
-        Task::Serve { file, service } => serve_file(rt, alloc, file, service, out),
+        Task::Serve { file, service } => serve_file(rt, alloc, file, service, out, err),
         Task::Board { ref look } => board(rt, alloc, look, out),
         Task::Times {
             file,

@@ -5,6 +5,7 @@ ghost use Rattle.dispatch_room_endings.specs.declared.endings.Failure.TheVariant
 use crate::files::{closed, connect_room};
 use dispatch_room_endings::endings::{Done, Failure};
 use dispatch_room_serving::callers::Callers;
+use dispatch_room_serving::logs::Log;
 use dispatch_room_serving::serving::serve_in;
 use dispatch_room_sockets::parting::part;
 use dispatch_room_sockets::readers::SocketReader;
@@ -21,39 +22,50 @@ use std::net::{TcpListener, TcpStream};
 use std::thread;
 use std::time::Duration;
 
-/// Serves the room of a file to so many connections. A connection that ends badly doesn't end it,
-/// but for want of memory, and where the room's file failed so that it has to be opened again.
-pub fn serve_file<O: Write>(
+/// Serves the room of a file to so many connections, with a log of it where one is wanted. A
+/// connection that ends badly doesn't end it, but for want of memory, and where the room's file
+/// failed so that it has to be opened again.
+pub fn serve_file<O: Write, E: Write>(
     rt: &HostRuntime,
     alloc: Global,
     file: &str,
     service: Service,
     out: &mut O,
+    err: &mut E,
 ) -> Result<Done, Failure> {
     match connect_room(rt, file) {
-        Ok(conn) => closed(serve_room(rt, alloc, conn, service, out)),
+        Ok(conn) => closed(serve_room(rt, alloc, conn, service, out, err)),
         Err(fault) => Err(fault),
     }
 }
 
 // Serves the room of a database to those who call at an address.
-fn serve_room<S: Alter + Drop, O: Write>(
+fn serve_room<S: Alter + Drop, O: Write, E: Write>(
     rt: &HostRuntime,
     alloc: Global,
     conn: Connection<S>,
     service: Service,
     out: &mut O,
+    err: &mut E,
 ) -> Worked<Done, S>
     requires outside { conn.in_transaction ≡ false }
 {
     let mut clock = MachineClock::new(rt);
+    let mut log = Log::new(alloc, rt, err, service.log);
     let mut callers = TcpCallers {
         rt,
         service,
         out,
         listener: None,
     };
-    serve_in(alloc, conn, &mut callers, &mut clock, service.connections)
+    serve_in(
+        alloc,
+        conn,
+        &mut callers,
+        &mut clock,
+        &mut log,
+        service.connections,
+    )
 }
 
 // How many milliseconds nobody is heard after a connection that the system could not give, as where

@@ -6,6 +6,7 @@ ghost use Rattle.dispatch_room_example.specs.Example.{IsExampleTalk};
 
 use crate::rooms::example_room;
 use room_http::serving::{ServeEnd, serve};
+use room_http::witnesses::Nobody;
 use room_http_messages::sinks::Sink;
 use room_http_messages::sources::Source;
 use room_http_time::clocks::Clock;
@@ -50,7 +51,16 @@ pub fn serve_example<R: Source, W: Sink, C: Clock>(
 {
     let mut store = example_room(alloc)?;
     let zone = Zone::read(store.plan().zone()).unwrap();
-    let end = serve(alloc, reader, writer, &mut store, &zone, clock, budget);
+    let end = serve(
+        alloc,
+        reader,
+        writer,
+        &mut store,
+        &zone,
+        clock,
+        &mut Nobody,
+        budget,
+    );
     let _ = store.close();
     Ok(end)
 }

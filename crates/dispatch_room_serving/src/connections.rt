@@ -6,6 +6,7 @@ ghost use Rattle.dispatch_room_serving.specs.Connections.{AttendsNext, Serves, d
 use crate::callers::Callers;
 use dispatch_room_endings::endings::{Done, Failure};
 use room_http::serving::{ServeEnd, serve};
+use room_http::witnesses::Witness;
 use room_http_time::clocks::Clock;
 use room_http_time::zones::Zone;
 use room_store::store::Store;
@@ -17,12 +18,13 @@ pub const MOST_READS: u32 = 100_000;
 
 /// Serves a room to so many calls, one after another. A connection that ends badly doesn't end it,
 /// but for want of memory, and where the store is not sound any longer.
-pub fn serve_each<S: Alter, P: Callers, C: Clock>(
+pub fn serve_each<S: Alter, P: Callers, C: Clock, N: Witness>(
     alloc: Global,
     callers: &mut P,
     room: &mut Store<S>,
     zone: &Zone,
     clock: &mut C,
+    witness: &mut N,
     connections: u64,
 ) -> Result<Done, Failure>
     requires ready { IsReady S.Store room.old }
@@ -43,7 +45,7 @@ pub fn serve_each<S: Alter, P: Callers, C: Clock>(
         connections result }
 {
     for _connection in 0..connections {
-        if let Err(fault) = serve_next(alloc, callers, room, zone, clock) {
+        if let Err(fault) = serve_next(alloc, callers, room, zone, clock, witness) {
             return Err(fault);
         }
     }
@@ -51,12 +53,13 @@ pub fn serve_each<S: Alter, P: Callers, C: Clock>(
 }
 
 // Serves the next call.
-fn serve_next<S: Alter, P: Callers, C: Clock>(
+fn serve_next<S: Alter, P: Callers, C: Clock, N: Witness>(
     alloc: Global,
     callers: &mut P,
     room: &mut Store<S>,
     zone: &Zone,
     clock: &mut C,
+    witness: &mut N,
 ) -> Result<(), Failure>
     requires ready { IsReady S.Store room.old }
     ensures ready { IsReady S.Store room.new }
@@ -85,6 +88,7 @@ fn serve_next<S: Alter, P: Callers, C: Clock>(
         room,
         zone,
         clock,
+        witness,
         MOST_READS,
     );
     callers.done(reader, writer);

@@ -3,4 +3,5 @@
 
 pub mod callers;
 pub mod connections;
+pub mod logs;
 pub mod serving;

@@ -8,6 +8,7 @@ use crate::callers::Callers;
 use crate::connections::serve_each;
 use dispatch_room_endings::endings::{Done, Failure};
 use dispatch_room_work::rooms::{Worked, open_room};
+use room_http::witnesses::Witness;
 use room_http_time::clocks::Clock;
 use room_http_time::zones::Zone;
 use room_store::store::Store;
@@ -16,12 +17,13 @@ use std::alloc::Global;
 
 /// Serves the room of a database to so many calls: it is opened, the callers begin, and each is
 /// served from the room that the one before left, in the zone of the room's plan. Where no room is
-/// opened, none of them is heard.
-pub fn serve_in<S: Alter + Drop, P: Callers, C: Clock>(
+/// opened, none of them is heard. It is the same whoever is told of it.
+pub fn serve_in<S: Alter + Drop, P: Callers, C: Clock, N: Witness>(
     alloc: Global,
     conn: Connection<S>,
     callers: &mut P,
     clock: &mut C,
+    witness: &mut N,
     connections: u64,
 ) -> Worked<Done, S>
     requires outside { conn.in_transaction ≡ false }
@@ -44,17 +46,26 @@ pub fn serve_in<S: Alter + Drop, P: Callers, C: Clock>(
     ensures fault { IfErr result (IsUnopened S.Store conn) }
 {
     let (mut room, zone) = open_room(alloc, conn)?;
-    let served = begin_and_serve(alloc, callers, &mut room, &zone, clock, connections);
+    let served = begin_and_serve(
+        alloc,
+        callers,
+        &mut room,
+        &zone,
+        clock,
+        witness,
+        connections,
+    );
     Ok((served, room.close()))
 }
 
 // Lets the callers begin, and serves so many calls.
-fn begin_and_serve<S: Alter, P: Callers, C: Clock>(
+fn begin_and_serve<S: Alter, P: Callers, C: Clock, N: Witness>(
     alloc: Global,
     callers: &mut P,
     room: &mut Store<S>,
     zone: &Zone,
     clock: &mut C,
+    witness: &mut N,
     connections: u64,
 ) -> Result<Done, Failure>
     requires ready { IsReady S.Store room.old }
@@ -75,7 +86,7 @@ fn begin_and_serve<S: Alter, P: Callers, C: Clock>(
         connections result }
 {
     match callers.begin() {
-        Ok(()) => serve_each(alloc, callers, room, zone, clock, connections),
+        Ok(()) => serve_each(alloc, callers, room, zone, clock, witness, connections),
         Err(fault) => Err(fault),
     }
 }

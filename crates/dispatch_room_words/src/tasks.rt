@@ -74,6 +74,8 @@ pub struct Service {
     pub idle: u16,
     /// How many seconds a message has from its first byte, and an answer.
     pub patience: u16,
+    /// Whether a line is written to standard error for each message.
+    pub log: bool,
 }
 
 /// Which served room is looked at, by which desk, and how.

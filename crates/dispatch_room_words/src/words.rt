@@ -8,7 +8,7 @@ use crate::builder::Draft;
 use crate::tasks::{Color, Look, Service, Task};
 use clap::builder::ValueParser;
 use clap::error::ErrorKind;
-use clap::{Arg, ArgMatches, Command, Error, value_parser};
+use clap::{Arg, ArgAction, ArgMatches, Command, Error, value_parser};
 use room_place::plans::DivisionNumber;
 use room_types::numbers::Number;
 use std::alloc::Global;
@@ -130,6 +130,7 @@ fn service_of(given: &ArgMatches<'_>) -> Option<Result<Service, Mistake>>
         connections: given.get_one::<u64>("connections").unwrap_or(u64::MAX),
         idle: number(given, "idle")?,
         patience: number(given, "patience")?,
+        log: given.get_flag("log"),
     }))
 }
 
@@ -266,6 +267,7 @@ fn serve<'a>(alloc: Global) -> Draft<'a> {
         alloc,
         "How long a request may take to come, and its answer to be taken",
     ))
+    .with(log(alloc))
 }
 
 fn board<'a>(alloc: Global) -> Draft<'a> {
@@ -320,6 +322,16 @@ fn idle<'a>(alloc: Global) -> Arg<'a> {
         .default_value("200")
         .value_parser(value_parser!(u16).range(1..=60000))
         .help("How long a connection may be silent between requests, and before the first")
+}
+
+fn log<'a>(alloc: Global) -> Arg<'a> {
+    Arg::new(alloc, "log")
+        .long("log")
+        .action(ArgAction::SetTrue)
+        .help(
+            "Write a line to standard error for each message: moment, who, method, path, status, \
+             milliseconds",
+        )
 }
 
 fn patience<'a>(alloc: Global, help: &'a str) -> Arg<'a> {

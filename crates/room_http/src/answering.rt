@@ -2,6 +2,7 @@
 ghost use Rattle.std.specs.Prelude.{◌≡◌, false, IfErr, OnOk};
 ghost use Rattle.room_http.specs.Arrivals.{Arrival, IsShown};
 ghost use Rattle.room_http.specs.Answering.{Answers, EndsAnswering};
+ghost use Rattle.room_http_messages.specs.Streams.{WritesAll};
 ghost use Rattle.room_http.specs.Served.{IsAtMost, KeepsPromises};
 ghost use Rattle.room_http.specs.Talk.{Stays, Wants};
 ghost use Rattle.room_service.specs.Rooms.{machine};
@@ -9,8 +10,9 @@ ghost use Rattle.room_service.specs.Rooms.{machine};
 use crate::arrivals::Arrived;
 use crate::replies::reply;
 use crate::serving::ServeEnd;
+use crate::witnesses::{Asked, Witness};
 use room_http_answers::fixed::fixed;
-use room_http_messages::sinks::{Sink, write_all};
+use room_http_messages::sinks::{Sink, WriteFailed, write_all};
 use room_http_requests::routes::Routes;
 use room_http_time::clocks::Clock;
 use room_http_time::moments::moment;
@@ -19,7 +21,7 @@ use room_service::rooms::Room;
 use std::alloc::Global;
 
 /// Answers what has arrived at the moment of the clock, or says why serving ends with it.
-pub fn answer<W: Sink, M: Room, C: Clock>(
+pub fn answer<W: Sink, M: Room, C: Clock, N: Witness>(
     alloc: Global,
     routes: &Routes,
     zone: &Zone,
@@ -27,6 +29,7 @@ pub fn answer<W: Sink, M: Room, C: Clock>(
     writer: &mut W,
     room: &mut M,
     clock: &mut C,
+    witness: &mut N,
 ) -> Result<(), ServeEnd>
     requires ready { M.is_ready room.old }
     requires sound { W.has_failed writer.old ≡ false }
@@ -48,17 +51,38 @@ pub fn answer<W: Sink, M: Room, C: Clock>(
         (M.is_trusted room.new) (M.is_kept room.old)
         (M.stands room.old) (M.stands room.new) (M.leaves_one_of room.new) }
 {
+    witness.arrived();
     let Some(at) = moment(clock) else {
         return Err(ServeEnd::ClockFault);
     };
-    match reply(alloc, routes, zone, room, arrived, at) {
-        Ok(bytes) => match write_all(writer, bytes.as_slice()) {
+    let mut asked = Asked {
+        arrived,
+        at,
+        who: None,
+    };
+    match reply(alloc, routes, zone, room, arrived, at, &mut asked.who) {
+        Ok(bytes) => match tell(writer, witness, &asked, bytes.as_slice()) {
             Ok(()) => Ok(()),
             Err(_) => Err(ServeEnd::WriteFault),
         },
-        Err(refusal) => match write_all(writer, fixed(refusal, arrived.head_only())) {
+        Err(refusal) => match tell(writer, witness, &asked, fixed(refusal, arrived.head_only())) {
             Ok(()) => Err(ServeEnd::Closed),
             Err(_) => Err(ServeEnd::WriteFault),
         },
     }
+}
+
+// Writes an answer, and then lets the witness know of it.
+fn tell<W: Sink, N: Witness>(
+    writer: &mut W,
+    witness: &mut N,
+    asked: &Asked<'_>,
+    answer: &[u8],
+) -> Result<(), WriteFailed>
+    requires { W.has_failed writer.old ≡ false }
+    ensures { WritesAll W.held W.has_failed writer.old writer.new answer.now result }
+{
+    let written = write_all(writer, answer);
+    witness.answered(asked, answer);
+    written
 }

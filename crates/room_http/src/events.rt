@@ -86,7 +86,7 @@ fn ask(alloc: Global, zone: &Zone, target: &Target, body: &[u8]) -> Result<Ask, 
 }
 
 /// The event that a message asks for. The path is looked at first, then the method, the terminal,
-/// its role and the body.
+/// its role and the body. Whose terminal it is, is noted once it is known.
 fn asked<M: Room>(
     alloc: Global,
     routes: &Routes,
@@ -94,6 +94,7 @@ fn asked<M: Room>(
     room: &mut M,
     message: &Message,
     at: Moment,
+    asker: &mut Option<Who>,
 ) -> Result<Event, Refusal>
     requires { M.is_ready room.old }
     ensures ready { M.is_ready room.new }
@@ -110,6 +111,7 @@ fn asked<M: Room>(
         Ok(who) => who,
         Err(refusal) => return Err(refusal),
     };
+    *asker = Some(who);
     if !Role::of(&target).is_of(&who) {
         return Err(Refusal::WrongRole);
     }
@@ -119,7 +121,7 @@ fn asked<M: Room>(
     }
 }
 
-/// The event that what has arrived asks for.
+/// The event that what has arrived asks for. Whose terminal asks, is noted once it is known.
 pub fn event_of<M: Room>(
     alloc: Global,
     routes: &Routes,
@@ -127,6 +129,7 @@ pub fn event_of<M: Room>(
     room: &mut M,
     arrived: &Arrived,
     at: Moment,
+    asker: &mut Option<Who>,
 ) -> Result<Event, Refusal>
     requires { M.is_ready room.old }
     ensures ready { M.is_ready room.new }
@@ -136,7 +139,7 @@ pub fn event_of<M: Room>(
         result }
 {
     match arrived {
-        Arrived::Message(message) => asked(alloc, routes, zone, room, message, at),
+        Arrived::Message(message) => { asked(alloc, routes, zone, room, message, at, asker) }
         Arrived::Refused { refusal, .. } => Err(*refusal),
     }
 }

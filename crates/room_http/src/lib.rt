@@ -7,3 +7,4 @@ pub mod events;
 pub mod laws;
 pub mod replies;
 pub mod serving;
+pub mod witnesses;

@@ -8,12 +8,14 @@ use room_http_answers::replies::render;
 use room_http_requests::routes::Routes;
 use room_http_time::zones::Zone;
 use room_service::rooms::Room;
+use room_types::asks::Who;
 use room_types::numbers::Moment;
 use room_types::refusals::Refusal;
 use std::alloc::Global;
 
 /// The bytes of the answer to what has arrived. The room has acted on it once they are there. A
-/// refusal is want of memory or of storage; it leaves the room as it was.
+/// refusal is want of memory or of storage; it leaves the room as it was. Whose terminal asks, is
+/// noted once it is known.
 pub fn reply<M: Room>(
     alloc: Global,
     routes: &Routes,
@@ -21,6 +23,7 @@ pub fn reply<M: Room>(
     room: &mut M,
     arrived: &Arrived,
     at: Moment,
+    asker: &mut Option<Who>,
 ) -> Result<Vec<u8>, Refusal>
     requires { M.is_ready room.old }
     ensures ready { M.is_ready room.new }
@@ -30,7 +33,7 @@ pub fn reply<M: Room>(
         room.old room.new zone.now arrived.now at result }
 {
     let (head_only, closing) = (arrived.head_only(), arrived.is_closing());
-    match event_of(alloc, routes, zone, room, arrived, at) {
+    match event_of(alloc, routes, zone, room, arrived, at, asker) {
         Ok(event) => room.act(alloc, &event, |answer| {
             render(alloc, answer, at, head_only, closing)
         }),

@@ -7,6 +7,7 @@ ghost use Rattle.room_http.specs.Talk.{Stays, Wants};
 
 use crate::answering::answer;
 use crate::arrivals::Arrived;
+use crate::witnesses::Witness;
 use room_http_messages::inbox::Inbox;
 use room_http_messages::reading::read_message;
 use room_http_messages::sinks::Sink;
@@ -40,14 +41,16 @@ pub enum ServeEnd {
 /// Answers the messages of a stream, until it ends or an answer closes the connection, or until
 /// something fails. It makes at most `budget` reads, and reads the clock once for each message,
 /// after the message is whole or refused. Where the room is the dispatch machine's, what is served
-/// keeps the room's promises, and a stop leaves the room after every answer that was written.
-pub fn serve<R: Source, W: Sink, M: Room, C: Clock>(
+/// keeps the room's promises, and a stop leaves the room after every answer that was written. So it
+/// is whoever is told of it.
+pub fn serve<R: Source, W: Sink, M: Room, C: Clock, N: Witness>(
     alloc: Global,
     reader: &mut R,
     writer: &mut W,
     room: &mut M,
     zone: &Zone,
     clock: &mut C,
+    witness: &mut N,
     budget: u32,
 ) -> ServeEnd
     requires reader { R.has_failed reader.old ≡ false }
@@ -95,7 +98,9 @@ pub fn serve<R: Source, W: Sink, M: Room, C: Clock>(
         match read_message(&mut inbox, reader, &mut left) {
             Ok(layout) => {
                 let arrived = Arrived::Message(inbox.message(&layout));
-                if let Err(end) = answer(alloc, &routes, zone, &arrived, writer, room, clock) {
+                if let Err(end) = answer(
+                    alloc, &routes, zone, &arrived, writer, room, clock, witness,
+                ) {
                     return end;
                 }
                 if layout.closing {
@@ -105,7 +110,7 @@ pub fn serve<R: Source, W: Sink, M: Room, C: Clock>(
             }
             Err(Unread::Refused { refusal, head_only }) => {
                 let arrived = Arrived::Refused { refusal, head_only };
-                return match answer(alloc, &routes, zone, &arrived, writer, room, clock) {
+                return match answer(alloc, &routes, zone, &arrived, writer, room, clock, witness) {
                     Ok(()) => ServeEnd::Closed,
                     Err(end) => end,
                 };

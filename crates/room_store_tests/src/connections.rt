@@ -6,6 +6,7 @@ use dispatch_room_endings::endings::{Done, Failure};
 use dispatch_room_example::rooms::example_room;
 use dispatch_room_serving::callers::Callers;
 use dispatch_room_serving::serving::serve_in;
+use room_http::witnesses::Nobody;
 use room_http_messages::sinks::{Sink, WriteFailed};
 use room_http_messages::wires::Wire;
 use room_http_time::clocks::FixedClock;
@@ -107,7 +108,7 @@ fn a_call_that_is_sent_again_on_another_connection_has_its_first_answer(
     let Ok(store) = example_room(alloc) else {
         return Err("a room")?;
     };
-    let Ok((done, _conn)) = serve_in(alloc, store.close(), &mut callers, &mut clock, 4) else {
+    let Ok((done, _conn)) = serve_in(alloc, store.close(), &mut callers, &mut clock, &mut Nobody, 4) else {
         return Err("a room that is opened")?;
     };
     assert!(rt; matches!(done, Ok(Done::Whole)));

@@ -6,9 +6,9 @@ use Rattle.room_http.proofs.ServedLaws.{none_served, one_promised}
 use Rattle.room_http.proofs.TalkLemmas.{IsTalk-one}
 use Rattle.room_http.proofs.answering.answer.Goals as goal
 
-pub returns-in-Ok-write_all-clause-answers : goal.returns-in-Ok-write_all-clause-answers
-returns-in-Ok-write_all-clause-answers g c o shown =
-    let wrote = c.in-Ok-write_all.ensures.all in (
+pub returns-in-Ok-tell-clause-answers : goal.returns-in-Ok-tell-clause-answers
+returns-in-Ok-tell-clause-answers g c o shown =
+    let wrote = c.in-Ok-tell.ensures.all in (
       c.in-Some.at,
       c.in-Some.ensures,
       wrote.1,
@@ -19,7 +19,7 @@ returns-in-Ok-write_all-clause-answers g c o shown =
 
 pub returns-in-Ok-clause-answers : goal.returns-in-Ok-clause-answers
 returns-in-Ok-clause-answers g c o shown =
-    let cut = c.in-Err-write_all.ensures.part in (
+    let cut = c.in-Err-tell.ensures.part in (
       c.in-Some.at,
       c.in-Some.ensures,
       cut.4,
@@ -30,7 +30,7 @@ returns-in-Ok-clause-answers g c o shown =
 
 pub returns-clause-answers : goal.returns-clause-answers
 returns-clause-answers g c o shown =
-    let cut = c.in-Err-write_all-2.ensures.part in (
+    let cut = c.in-Err-tell-2.ensures.part in (
       c.in-Some.at,
       c.in-Some.ensures,
       cut.4,
@@ -42,9 +42,9 @@ returns-clause-answers g c o shown =
       ),
     )
 
-pub returns-in-Ok-write_all-2-clause-answers : goal.returns-in-Ok-write_all-2-clause-answers
-returns-in-Ok-write_all-2-clause-answers g c o shown =
-    let wrote = c.in-Ok-write_all-2.ensures.all in (
+pub returns-in-Ok-tell-2-clause-answers : goal.returns-in-Ok-tell-2-clause-answers
+returns-in-Ok-tell-2-clause-answers g c o shown =
+    let wrote = c.in-Ok-tell-2.ensures.all in (
       c.in-Some.at,
       c.in-Some.ensures,
       (
@@ -58,14 +58,14 @@ returns-in-Ok-write_all-2-clause-answers g c o shown =
 pub returns-in_default-clause-promised : goal.returns-in_default-clause-promised
 returns-in_default-clause-promised g c same o shown = none_served _ _ _ _ _ _ _ (g.met.M.Room.fits _) (g.met.M.Room.leaves_it _) tt
 
-pub returns-in-Ok-write_all-clause-promised : goal.returns-in-Ok-write_all-clause-promised
-returns-in-Ok-write_all-clause-promised g c same o shown = one_promised _ _ _ _ _ _ false _ _ _ _ _ (g.met.M.Room.fits _) o _ (Ok tt) (returns-in-Ok-write_all-clause-answers g c o shown) same
+pub returns-in-Ok-tell-clause-promised : goal.returns-in-Ok-tell-clause-promised
+returns-in-Ok-tell-clause-promised g c same o shown = one_promised _ _ _ _ _ _ false _ _ _ _ _ (g.met.M.Room.fits _) o _ (Ok tt) (returns-in-Ok-tell-clause-answers g c o shown) same
 
 pub returns-in-Ok-clause-promised : goal.returns-in-Ok-clause-promised
 returns-in-Ok-clause-promised g c same o shown = one_promised _ _ _ _ _ _ false _ _ _ _ _ (g.met.M.Room.fits _) o _ (Err WriteFault) (returns-in-Ok-clause-answers g c o shown) same
 
-pub returns-in-Ok-write_all-2-clause-promised : goal.returns-in-Ok-write_all-2-clause-promised
-returns-in-Ok-write_all-2-clause-promised g c same o shown = one_promised _ _ _ _ _ false false _ _ _ _ _ (g.met.M.Room.fits _) o _ (Err Closed) (returns-in-Ok-write_all-2-clause-answers g c o shown) same
+pub returns-in-Ok-tell-2-clause-promised : goal.returns-in-Ok-tell-2-clause-promised
+returns-in-Ok-tell-2-clause-promised g c same o shown = one_promised _ _ _ _ _ false false _ _ _ _ _ (g.met.M.Room.fits _) o _ (Err Closed) (returns-in-Ok-tell-2-clause-answers g c o shown) same
 
 pub returns-clause-promised : goal.returns-clause-promised
 returns-clause-promised g c same o shown = one_promised _ _ _ _ _ _ false _ _ _ _ _ (g.met.M.Room.fits _) o _ (Err WriteFault) (returns-clause-answers g c o shown) same
