@@ -108,7 +108,14 @@ fn a_call_that_is_sent_again_on_another_connection_has_its_first_answer(
     let Ok(store) = example_room(alloc) else {
         return Err("a room")?;
     };
-    let Ok((done, _conn)) = serve_in(alloc, store.close(), &mut callers, &mut clock, &mut Nobody, 4) else {
+    let Ok((done, _conn)) = serve_in(
+        alloc,
+        store.close(),
+        &mut callers,
+        &mut clock,
+        &mut Nobody,
+        4,
+    ) else {
         return Err("a room that is opened")?;
     };
     assert!(rt; matches!(done, Ok(Done::Whole)));
