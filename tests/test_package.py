@@ -18,7 +18,8 @@ DOCUMENTS = 'usr/share/doc/dispatch-room'
 UNIT = 'usr/lib/systemd/system/dispatch-room.service'
 PAGE = 'usr/share/man/man1/dispatch_room.1.gz'
 EXAMPLES = TOP / 'examples'
-SCRIPTS = ['day.sh', 'haproxy/certificates.sh', 'month/month.sh', 'wall/wall.py']
+SCRIPTS = ['day.sh', 'haproxy/certificates.sh', 'month/month.sh', 'three/companion.py',
+           'three/three.py', 'wall/wall.py']
 
 # What a day in the room calls beside the program.
 TOOLS = ['bash', 'curl', 'date', 'dirname', 'sleep']

@@ -42,19 +42,21 @@ int clock_gettime(clockid_t clock, struct timespec *time) {
 
 
 class Room:
-    """The built program, which serves a room at moments that are set."""
+    """The built program, which serves a room at moments that are set, with more words if need be.
+    Before it is served something may be done with its file."""
 
-    def __init__(self, folder, plan, fleet):
+    def __init__(self, folder, plan, fleet, words=(), before=lambda file: None):
         for name, text in [('plan', plan), ('fleet', fleet_of(*fleet)), ('moment', '\0' * 8)]:
             (folder / name).write_text(text)
         run('init', folder / 'room.db', folder / 'plan')
         run('import', folder / 'room.db', folder / 'fleet')
+        before(folder / 'room.db')
         with open(folder / 'moment', 'r+b') as it:
             self.moment = mmap.mmap(it.fileno(), 8)
         self.port, self.asked = free_port(), 0
         self.process = Preloaded(folder, CLOCK).start(
             {'MOMENT': folder / 'moment'}, 'serve', folder / 'room.db', f'127.0.0.1:{self.port}',
-            '--idle', 60_000, '--patience', 3600)
+            '--idle', 60_000, '--patience', 3600, *words)
         if self.process.stdout.readline() != b'serving\n':
             sys.exit(f'run: not served: {self.process.stderr.read().decode()}')
 

@@ -10,11 +10,14 @@ use Rattle.dispatch_room_board.specs.declared.boards.Reached.TheVariants as reac
 use Rattle.sqlite.specs.declared.error.Error.{Error}
 use Rattle.sqlite.specs.declared.error.Error.TheVariants.{SqliteFailure}
 use Rattle.sqlite.specs.declared.error.ErrorCode.TheVariants.{OutOfMemory}
-use Rattle.dispatch_room_endings.specs.Endings.{status_done, status_of}
+use Rattle.dispatch_room_endings.specs.Endings.{refused, status_done, status_of}
 use Rattle.dispatch_room_endings.specs.declared.endings.Done.{Done}
 use Rattle.dispatch_room_endings.specs.declared.endings.Done.TheVariants.{InPart, Whole}
 use Rattle.dispatch_room_endings.specs.declared.endings.Failure.{Failure}
-use Rattle.dispatch_room_endings.specs.declared.endings.Failure.TheVariants.{Memory, Network, Storage}
+use Rattle.dispatch_room_endings.specs.declared.endings.Failure.TheVariants.{Differs, Memory, Network, OtherRoom, Record, Storage}
+use Rattle.dispatch_room_replaying.specs.declared.faults.ReplayFault.{ReplayFault}
+use Rattle.dispatch_room_replaying.specs.declared.faults.ReplayFault.TheVariants as replay
+use Rattle.dispatch_room_replaying.specs.declared.faults.Stopped.{Stopped}
 
 -- the exit status of a command by what it did
 abbrev pub status_after : Result Done Failure → ℕ
@@ -63,3 +66,15 @@ IsPrinted heard proposes colour old new done =
 -- the exit status of a command line: by what was done, or by what its words are in place of a command
 abbrev pub IsExit : ℕ → Type 0
 IsExit status = ((done : Result Done Failure) × (status ≡ status_after done)) ⊎ ((words : ErrorKind) × IsWordsStatus words status)
+
+-- why a replay stopped at a record, as the program tells it
+abbrev pub failure_at : ReplayFault → ℕ → Failure
+failure_at replay.Bad number = Record number
+failure_at replay.Differs number = Differs number
+failure_at replay.Another number = OtherRoom number
+failure_at replay.ReadFailed number = Network
+failure_at replay.WriteFailed number = Network
+failure_at (replay.Want refusal) number = refused refusal
+
+abbrev pub failure_of : Stopped → Failure
+failure_of stopped = failure_at stopped.fault stopped.number

@@ -2,9 +2,11 @@
 ghost use Rattle.std.specs.Prelude.{OnOk};
 ghost use Rattle.dispatch_room_work.specs.Checked.{IsTold};
 
-use crate::files::{closed, connect_room};
+use crate::files::{RoomFile, Work, in_file};
 use dispatch_room_endings::endings::{Done, Failure};
 use dispatch_room_work::checking::check_in;
+use dispatch_room_work::rooms::Worked;
+use sqlite::{Alter, Connection};
 use std::alloc::Global;
 use std::io::Write;
 
@@ -17,8 +19,24 @@ pub fn check<O: Write>(
 ) -> Result<Done, Failure>
     ensures { OnOk result (IsTold (O.contents out.old) (O.contents out.new)) }
 {
-    match connect_room(rt, file) {
-        Ok(conn) => closed(Ok(check_in(alloc, conn, out))),
-        Err(fault) => Err(fault),
+    in_file(rt, alloc, RoomFile::Kept(file), Examination, out)
+}
+
+// The room is looked at.
+#[derive(Clone, Copy)]
+struct Examination;
+
+impl Work for Examination {
+    type Done = Done;
+
+    ghost says = { λ _ old new _. IsTold old new };
+
+    fn run<S: Alter + Drop, O: Write>(
+        self,
+        alloc: Global,
+        conn: Connection<S>,
+        out: &mut O,
+    ) -> Worked<Done, S> {
+        Ok(check_in(alloc, conn, out))
     }
 }

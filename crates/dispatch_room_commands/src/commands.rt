@@ -9,6 +9,7 @@ use crate::creating::init;
 use crate::files::is_open_to_others;
 use crate::importing::import;
 use crate::migrating::migrate;
+use crate::replaying::replay;
 use crate::serving::serve_file;
 use crate::timing::times;
 use clap::Error;
@@ -24,8 +25,8 @@ pub const USAGE: u8 = 2;
 
 /// Does what the words of a command line ask for, the program's name first. What a command gives
 /// goes to `out`, and to `err` why it fails, that others can read the room's file, and the log of
-/// what is served. Gives the exit status: 0 done, or help asked for; 1 refused input; 2 usage; 3 storage; 4 network; 5
-/// memory.
+/// what is served. Gives the exit status: 0 done, or help asked for; 1 refused input; 2 usage; 3
+/// storage; 4 network; 5 memory; 6 journal.
 pub fn command<O: Write, E: Write>(
     rt: &HostRuntime,
     alloc: Global,
@@ -84,6 +85,10 @@ fn perform<O: Write, E: Write>(
         Task::Migrate { file } => migrate(rt, alloc, file, out),
         Task::Check { file } => check(rt, alloc, file, out),
         Task::Serve { file, service } => serve_file(rt, alloc, file, service, out, err),
+        Task::Replay {
+            file,
+            replay: ref how,
+        } => replay(rt, alloc, file, how, out, err),
         Task::Board { ref look } => board(rt, alloc, look, out),
         Task::Times {
             file,

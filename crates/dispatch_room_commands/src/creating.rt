@@ -5,10 +5,12 @@ ghost use Rattle.dispatch_room_endings.specs.declared.endings.Done.TheVariants.{
 ghost use Rattle.dispatch_room_files.specs.declared.plans.PlanFile.{PlanFile as File};
 ghost use Rattle.dispatch_room_work.specs.Created.{IsTold, created_text};
 
-use crate::files::{closed, connect, make_private, read_text};
+use crate::files::{RoomFile, Work, in_file, read_text};
 use dispatch_room_endings::endings::{Done, Failure};
 use dispatch_room_files::plans::{PlanFile, read_plan};
 use dispatch_room_work::creating::create_in;
+use dispatch_room_work::rooms::Worked;
+use sqlite::{Alter, Connection};
 use std::alloc::Global;
 use std::io::Write;
 
@@ -27,22 +29,27 @@ pub fn init<O: Write>(
 {
     let text = read_text(rt, plan)?;
     let plan = read_plan(alloc, text.as_slice())?;
-    create_file(rt, alloc, file, &plan, out)
+    let creation = Creation { plan: &plan };
+    in_file(rt, alloc, RoomFile::New(file), creation, out)
 }
 
-fn create_file<O: Write>(
-    rt: &HostRuntime,
-    alloc: Global,
-    file: &str,
-    plan: &PlanFile,
-    out: &mut O,
-) -> Result<Done, Failure>
-    ensures { IfOk result (λ done.
-        IsTold plan.now (O.contents out.old) (O.contents out.new) (Ok done)) }
-{
-    make_private(rt, file)?;
-    match connect(rt, file) {
-        Ok(conn) => closed(create_in(alloc, conn, plan, out)),
-        Err(fault) => Err(fault),
+// A room is created by a plan.
+#[derive(Clone, Copy)]
+struct Creation<'a> {
+    plan: &'a PlanFile,
+}
+
+impl<'a> Work for Creation<'a> {
+    type Done = Done;
+
+    ghost says = { λ work old new done. IsTold work.plan.now old new (Ok done) };
+
+    fn run<S: Alter + Drop, O: Write>(
+        self,
+        alloc: Global,
+        conn: Connection<S>,
+        out: &mut O,
+    ) -> Worked<Done, S> {
+        create_in(alloc, conn, self.plan, out)
     }
 }

@@ -3,10 +3,12 @@ ghost use Rattle.std.specs.Prelude.{List, Ok, IfOk};
 ghost use Rattle.dispatch_room_files.specs.declared.fleets.FleetLine.{FleetLine as Line};
 ghost use Rattle.dispatch_room_work.specs.Imported.{IsTold};
 
-use crate::files::{closed, connect_room, read_text};
+use crate::files::{RoomFile, Work, in_file, read_text};
 use dispatch_room_endings::endings::{Done, Failure};
 use dispatch_room_files::fleets::{FleetLine, read_fleet};
 use dispatch_room_work::importing::enrol_in;
+use dispatch_room_work::rooms::Worked;
+use sqlite::{Alter, Connection};
 use std::alloc::Global;
 use std::io::Write;
 
@@ -24,20 +26,29 @@ pub fn import<O: Write>(
 {
     let text = read_text(rt, fleet)?;
     let lines = read_fleet(alloc, text.as_slice())?;
-    enrol_in_file(rt, alloc, file, lines.as_slice(), out)
+    let enrolment = Enrolment {
+        lines: lines.as_slice(),
+    };
+    in_file(rt, alloc, RoomFile::Kept(file), enrolment, out)
 }
 
-fn enrol_in_file<O: Write>(
-    rt: &HostRuntime,
-    alloc: Global,
-    file: &str,
-    lines: &[FleetLine],
-    out: &mut O,
-) -> Result<Done, Failure>
-    ensures { IfOk result (IsTold lines.now (O.contents out.old) (O.contents out.new)) }
-{
-    match connect_room(rt, file) {
-        Ok(conn) => closed(enrol_in(alloc, conn, lines, out)),
-        Err(fault) => Err(fault),
+// The rows of a fleet are enrolled.
+#[derive(Clone, Copy)]
+struct Enrolment<'a> {
+    lines: &'a [FleetLine],
+}
+
+impl<'a> Work for Enrolment<'a> {
+    type Done = Done;
+
+    ghost says = { λ work old new done. IsTold work.lines.now old new done };
+
+    fn run<S: Alter + Drop, O: Write>(
+        self,
+        alloc: Global,
+        conn: Connection<S>,
+        out: &mut O,
+    ) -> Worked<Done, S> {
+        enrol_in(alloc, conn, self.lines, out)
     }
 }

@@ -8,6 +8,8 @@ pub mod commands;
 mod creating;
 mod files;
 mod importing;
+mod journals;
 mod migrating;
+mod replaying;
 mod serving;
 mod timing;

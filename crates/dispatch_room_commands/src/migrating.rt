@@ -3,9 +3,11 @@ ghost use Rattle.std.specs.Prelude.{◌≡◌, codes, IfOk, OnOk};
 ghost use Rattle.std.specs.Io.KnownBytes.{Appends};
 ghost use Rattle.dispatch_room_endings.specs.declared.endings.Done.TheVariants.{Whole};
 
-use crate::files::{closed, connect_room};
+use crate::files::{RoomFile, Work, in_file};
 use dispatch_room_endings::endings::{Done, Failure};
 use dispatch_room_work::migrating::migrate_in;
+use dispatch_room_work::rooms::Worked;
+use sqlite::{Alter, Connection};
 use std::alloc::Global;
 use std::io::Write;
 
@@ -20,16 +22,28 @@ pub fn migrate<O: Write>(
     ensures text { OnOk result (Appends (O.contents out.old) (O.contents out.new)
         (codes "migrated\n")) }
 {
-    migrate_file(rt, alloc, file)?;
+    in_file(rt, alloc, RoomFile::Kept(file), Move, out)?;
     match writeln!(out, "migrated") {
         Ok(()) => Ok(Done::Whole),
         Err(_) => Err(Failure::Network),
     }
 }
 
-fn migrate_file(rt: &HostRuntime, alloc: Global, file: &str) -> Result<(), Failure> {
-    match connect_room(rt, file) {
-        Ok(conn) => closed(migrate_in(alloc, conn)),
-        Err(fault) => Err(fault),
+// The room is moved, and nothing told yet.
+#[derive(Clone, Copy)]
+struct Move;
+
+impl Work for Move {
+    type Done = ();
+
+    ghost says = { λ _ old new _. new ≡ old };
+
+    fn run<S: Alter + Drop, O: Write>(
+        self,
+        alloc: Global,
+        conn: Connection<S>,
+        _out: &mut O,
+    ) -> Worked<(), S> {
+        migrate_in(alloc, conn)
     }
 }

@@ -1,12 +1,15 @@
 //! `serve`: a room is served over TCP, one connection after another.
-ghost use Rattle.std.specs.Prelude.{◌≡◌, None, false};
+ghost use Rattle.std.specs.Prelude.{◌≡◌, ⊤, None, false};
 ghost use Rattle.dispatch_room_endings.specs.declared.endings.Failure.TheVariants.{Network};
 
-use crate::files::{closed, connect_room};
+use crate::files::{RoomFile, Work, in_file};
+use crate::journals::{JournalFile, open_journal};
 use dispatch_room_endings::endings::{Done, Failure};
 use dispatch_room_serving::callers::Callers;
+use dispatch_room_serving::journals::Journal;
 use dispatch_room_serving::logs::Log;
 use dispatch_room_serving::serving::serve_in;
+use dispatch_room_serving::watches::Watch;
 use dispatch_room_sockets::parting::part;
 use dispatch_room_sockets::readers::SocketReader;
 use dispatch_room_sockets::sides::sides;
@@ -17,25 +20,63 @@ use dispatch_room_work::rooms::Worked;
 use room_http_time::clocks::MachineClock;
 use sqlite::{Alter, Connection};
 use std::alloc::Global;
+use std::fs::File;
 use std::io::{Error, ErrorKind, Write};
-use std::net::{TcpListener, TcpStream};
+use std::net::{SocketAddr, TcpListener, TcpStream};
 use std::thread;
 use std::time::Duration;
 
-/// Serves the room of a file to so many connections, with a log of it where one is wanted. A
-/// connection that ends badly doesn't end it, but for want of memory, and where the room's file
-/// failed so that it has to be opened again.
+/// Serves the room of a file to so many connections, with a log and a journal of it where they are
+/// wanted. A connection that ends badly doesn't end it, but for want of memory, where the journal
+/// can't be kept, and where the room's file failed so that it has to be opened again.
 pub fn serve_file<O: Write, E: Write>(
     rt: &HostRuntime,
     alloc: Global,
     file: &str,
-    service: Service,
+    service: Service<'_>,
     out: &mut O,
     err: &mut E,
 ) -> Result<Done, Failure> {
-    match connect_room(rt, file) {
-        Ok(conn) => closed(serve_room(rt, alloc, conn, service, out, err)),
-        Err(fault) => Err(fault),
+    let journal = match &service.journal {
+        Some(journal) => Some(open_journal(rt, alloc, journal, err)?),
+        None => None,
+    };
+    let serving = Serving {
+        rt,
+        service,
+        journal,
+        err,
+    };
+    in_file(rt, alloc, RoomFile::Kept(file), serving, out)
+}
+
+// The room is served to those who call at an address.
+#[derive(Drop)]
+struct Serving<'a, E> {
+    rt: &'a HostRuntime,
+    service: Service<'a>,
+    journal: Option<File>,
+    err: &'a mut E,
+}
+
+impl<'a, E: Write> Work for Serving<'a, E> {
+    type Done = Done;
+
+    ghost says = { λ _ _ _ _. ⊤ };
+
+    fn run<S: Alter + Drop, O: Write>(
+        self,
+        alloc: Global,
+        conn: Connection<S>,
+        out: &mut O,
+    ) -> Worked<Done, S> {
+        let Serving {
+            rt,
+            service,
+            journal,
+            err,
+        } = self;
+        serve_room(rt, alloc, conn, &service, journal.as_ref(), out, err)
     }
 }
 
@@ -44,17 +85,20 @@ fn serve_room<S: Alter + Drop, O: Write, E: Write>(
     rt: &HostRuntime,
     alloc: Global,
     conn: Connection<S>,
-    service: Service,
+    service: &Service<'_>,
+    journal: Option<&File>,
     out: &mut O,
     err: &mut E,
 ) -> Worked<Done, S>
-    requires outside { conn.in_transaction ≡ false }
+    requires { conn.in_transaction ≡ false }
 {
     let mut clock = MachineClock::new(rt);
-    let mut log = Log::new(alloc, rt, err, service.log);
+    let log = Log::new(alloc, rt, err, service.log);
+    let mut watch = Watch::new(log, journal_of(service, journal));
     let mut callers = TcpCallers {
         rt,
-        service,
+        address: service.address,
+        waits: waits_of(service),
         out,
         listener: None,
     };
@@ -63,9 +107,24 @@ fn serve_room<S: Alter + Drop, O: Write, E: Write>(
         conn,
         &mut callers,
         &mut clock,
-        &mut log,
+        &mut watch,
         service.connections,
     )
+}
+
+// The journal of a service, in its file.
+fn journal_of<'a>(
+    service: &Service<'_>,
+    file: Option<&'a File>,
+) -> Option<Journal<JournalFile<'a>>> {
+    let is_synced = match service.journal {
+        Some(journal) => journal.is_synced,
+        None => false,
+    };
+    match file {
+        Some(file) => Some(Journal::new(JournalFile::new(file, is_synced))),
+        None => None,
+    }
 }
 
 // How many milliseconds nobody is heard after a connection that the system could not give, as where
@@ -76,7 +135,8 @@ const PAUSE: u64 = 100;
 #[derive(Drop)]
 struct TcpCallers<'a, O> {
     rt: &'a HostRuntime,
-    service: Service,
+    address: SocketAddr,
+    waits: Waits,
     out: &'a mut O,
     listener: Option<TcpListener>,
 }
@@ -96,7 +156,7 @@ impl<'a, O: Write> Callers for TcpCallers<'a, O> {
 
     // Listens at the address, and says so.
     fn begin(&mut self) -> Result<(), Failure> {
-        let Ok(listener) = TcpListener::bind(self.rt, self.service.address) else {
+        let Ok(listener) = TcpListener::bind(self.rt, self.address) else {
             return Err(Failure::Network);
         };
         if writeln!(self.out, "serving").is_err() || self.out.flush().is_err() {
@@ -108,7 +168,7 @@ impl<'a, O: Write> Callers for TcpCallers<'a, O> {
 
     fn next(&mut self) -> Option<(Reader<'a>, Writer<'a>)> {
         match self.listener.as_ref()?.accept() {
-            Ok((stream, _)) => sides(stream, self.rt, waits_of(self.service)),
+            Ok((stream, _)) => sides(stream, self.rt, self.waits),
             Err(error) => {
                 pause_after(self.rt, &error);
                 None
@@ -129,7 +189,7 @@ fn pause_after(rt: &HostRuntime, error: &Error) {
 }
 
 // How long a connection of a service is waited for.
-fn waits_of(service: Service) -> Waits {
+fn waits_of(service: &Service<'_>) -> Waits {
     Waits {
         idle: Duration::from_millis(u64::from(service.idle)),
         patience: Duration::from_secs(u64::from(service.patience)),

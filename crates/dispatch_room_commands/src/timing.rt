@@ -1,11 +1,13 @@
 //! `times`: the report of a division's day.
-ghost use Rattle.std.specs.Prelude.{◌≡◌, IfOk};
+ghost use Rattle.std.specs.Prelude.{◌≡◌, ⊤, IfOk};
 ghost use Rattle.dispatch_room_endings.specs.declared.endings.Done.TheVariants.{Whole};
 
-use crate::files::{closed, connect_room};
+use crate::files::{RoomFile, Work, in_file};
 use dispatch_room_endings::endings::{Done, Failure};
+use dispatch_room_work::rooms::Worked;
 use dispatch_room_work::timing::report_in;
 use room_place::plans::DivisionNumber;
+use sqlite::{Alter, Connection};
 use std::alloc::Global;
 use std::io::Write;
 
@@ -20,22 +22,37 @@ pub fn times<O: Write>(
 ) -> Result<Done, Failure>
     ensures { IfOk result (λ done. done ≡ Whole) }
 {
-    let report = report_in_file(rt, alloc, file, division, day)?;
+    let report = in_file(
+        rt,
+        alloc,
+        RoomFile::Kept(file),
+        Report { division, day },
+        out,
+    )?;
     match out.write_all(report.as_slice()) {
         Ok(()) => Ok(Done::Whole),
         Err(_) => Err(Failure::Network),
     }
 }
 
-fn report_in_file(
-    rt: &HostRuntime,
-    alloc: Global,
-    file: &str,
+// The day of a division is reported.
+#[derive(Clone, Copy)]
+struct Report<'a> {
     division: DivisionNumber,
-    day: &str,
-) -> Result<Vec<u8>, Failure> {
-    match connect_room(rt, file) {
-        Ok(conn) => closed(report_in(alloc, conn, division, day)),
-        Err(fault) => Err(fault),
+    day: &'a str,
+}
+
+impl<'a> Work for Report<'a> {
+    type Done = Vec<u8>;
+
+    ghost says = { λ _ _ _ _. ⊤ };
+
+    fn run<S: Alter + Drop, O: Write>(
+        self,
+        alloc: Global,
+        conn: Connection<S>,
+        _out: &mut O,
+    ) -> Worked<Vec<u8>, S> {
+        report_in(alloc, conn, self.division, self.day)
     }
 }

@@ -17,7 +17,7 @@ use Rattle.room_types.specs.declared.refusals.Refusal.TheVariants as refusal
 use Rattle.dispatch_room_endings.specs.declared.endings.Done.{Done}
 use Rattle.dispatch_room_endings.specs.declared.endings.Done.TheVariants.{Whole, InPart}
 use Rattle.dispatch_room_endings.specs.declared.endings.Failure.{Failure}
-use Rattle.dispatch_room_endings.specs.declared.endings.Failure.TheVariants.{PlanRow, Input, File, Version, Division, Day, Connection, Storage, Network, Memory}
+use Rattle.dispatch_room_endings.specs.declared.endings.Failure.TheVariants.{PlanRow, Input, File, Version, Division, Day, Record, OtherRoom, Differs, Connection, Storage, Network, Memory, Journal}
 
 -- the exit status of a command that was done
 abbrev pub status_done : Done → ℕ
@@ -32,10 +32,14 @@ status_of File = 1
 status_of Version = 1
 status_of Division = 1
 status_of Day = 1
+status_of (Record _) = 1
+status_of (OtherRoom _) = 1
+status_of (Differs _) = 1
 status_of Connection = 1
 status_of Storage = 3
 status_of Network = 4
 status_of Memory = 5
+status_of Journal = 6
 
 -- a program that serves one connection is done where it closed, and else fails
 abbrev pub ended : ServeEnd → Result (Unit {0}) Failure
@@ -46,6 +50,7 @@ ended end.WriteFault = Err Network
 ended end.ClockFault = Err Connection
 ended end.ReadsSpent = Err Connection
 ended end.Memory = Err Memory
+ended end.Unkept = Err Journal
 
 -- what each fault of a plan's file is to the program
 abbrev pub plan_fault : PlanFileFault → Failure

@@ -59,6 +59,15 @@ pub enum Failure {
     /// The text is no day from 1970 to 2099.
     #[error("refused: day")]
     Day,
+    /// What stands at a record of a list is no list, or no message; records are counted from 1.
+    #[error("refused: record {0}")]
+    Record(u64),
+    /// At a record of a list the room is another than the list says.
+    #[error("refused: another room at record {0}")]
+    OtherRoom(u64),
+    /// A record of a list has another status than its message is answered with.
+    #[error("differs: record {0}")]
+    Differs(u64),
     /// The input ended within a message, the reads were used up, or the clock gave no moment.
     #[error("refused: connection")]
     Connection,
@@ -71,6 +80,9 @@ pub enum Failure {
     /// Memory was refused.
     #[error("memory")]
     Memory,
+    /// The journal of what is served can't be written, or is no journal.
+    #[error("journal")]
+    Journal,
 }
 
 impl Failure {
@@ -88,10 +100,14 @@ impl Failure {
             | Failure::Version
             | Failure::Division
             | Failure::Day
+            | Failure::Record(_)
+            | Failure::OtherRoom(_)
+            | Failure::Differs(_)
             | Failure::Connection => 1,
             Failure::Storage => 3,
             Failure::Network => 4,
             Failure::Memory => 5,
+            Failure::Journal => 6,
         }
     }
 }
@@ -196,5 +212,6 @@ pub fn ended(end: ServeEnd) -> Result<(), Failure>
         ServeEnd::Cut | ServeEnd::ClockFault | ServeEnd::ReadsSpent => Err(Failure::Connection),
         ServeEnd::ReadFault | ServeEnd::WriteFault => Err(Failure::Network),
         ServeEnd::Memory => Err(Failure::Memory),
+        ServeEnd::Unkept => Err(Failure::Journal),
     }
 }

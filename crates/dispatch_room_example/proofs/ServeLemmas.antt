@@ -7,9 +7,9 @@ use Rattle.room_http_answers.specs.Replies.{fixed_bytes}
 use Rattle.room_http_time.specs.declared.zones.Zone.{Zone}
 use Rattle.room_service.specs.Rooms.{Step}
 use Rattle.room_http.specs.declared.serving.ServeEnd.{ServeEnd}
-use Rattle.room_http.specs.declared.serving.ServeEnd.TheVariants.{Closed, Cut, ReadFault, WriteFault, ClockFault, ReadsSpent, Memory}
+use Rattle.room_http.specs.declared.serving.ServeEnd.TheVariants.{Closed, Cut, ReadFault, WriteFault, ClockFault, Unkept, ReadsSpent, Memory}
 use Rattle.room_http.specs.Arrivals.{Arrival, is_head_only}
-use Rattle.room_http.specs.Serving.{Sides, Finish, Answered, Unserved, Broken, Untimed, ServeIs}
+use Rattle.room_http.specs.Serving.{Sides, Finish, Answered, HasActed, Unserved, Unwritten, Broken, Untimed, ServeIs}
 use Rattle.dispatch_room_example.specs.Example.{untold}
 use Rattle.room_http.specs.Talk.{Timed, IsFront, BreaksOff, Talks}
 
@@ -59,6 +59,16 @@ module _ (step : Step) (zone : Zone) (old : Sides) (new : Finish) (trusted : Typ
         (λ terminals after tail said. (tt, said.1)) u.talk;
   }
 
+  unwritten : (outs : List Timed) (x : Timed) (says less : List Terminal → Room → Type 0) → ((terminals : List Terminal) (room : Room) → says terminals room → less terminals room)
+      → Unwritten step zone old new trusted stood stands outs x says → Unwritten step zone old new ⊤ asked untold outs x less
+  unwritten outs x says less tells u = record {
+    begins = u.begins;
+    next = u.next;
+    timed = u.timed;
+    talk = talks outs (λ terminals after tail. says terminals after × (tail ≡ [])) (λ terminals after tail. less terminals after × (tail ≡ []))
+        (λ terminals after tail said. (tells terminals after said.0, said.1)) u.talk;
+  }
+
   -- however it ended
   pub serves : (budget : ℕ) (end : ServeEnd) → ServeIs step zone old new trusted stood stands wants budget end → ServeIs step zone old new ⊤ asked untold (λ x. untold) budget end
   serves budget Closed (inl ended) = inl (ended.0, answered ended.0 (λ rest. rest ≡ []) ended.1, ended.2)
@@ -76,6 +86,16 @@ module _ (step : Step) (zone : Zone) (old : Sides) (new : Finish) (trusted : Typ
       ],
     ),
     failed.1,
+  )
+  serves budget Unkept failed = (
+    failed.0,
+    failed.1,
+    elim failed.2 [
+      | inl u ↦ inl (unwritten failed.0 failed.1 stands untold (λ terminals room is_so. tt) u)
+      | inr u ↦
+          inr (unwritten failed.0 failed.1 (HasActed step zone old new trusted stood stands failed.1) (HasActed step zone old new ⊤ asked untold failed.1)
+          (λ terminals room acted. (acted.0, acted.1, acted.2, tt, acted.4)) u)
+    ],
   )
   serves budget ClockFault none = (none.0, none.1, untimed none.0 none.1 none.2)
   serves budget ReadsSpent used = (used.0, answered used.0 (λ rest. ⊤) used.1, used.2)

@@ -1,5 +1,5 @@
 -- What is served on some connections and then on others is served on all of them, one after another.
-use Rattle.std.proofs.Common.{◌≡◌, ◌∙◌, ap, append-nil, append_assoc, arith, length, length-append, refl, subst, sym, ℕ, List, [], ◌∷◌, ◌++◌, ◌<◌, map, Option, None, Some, Result, Ok, Err}
+use Rattle.std.proofs.Common.{◌≡◌, ◌∙◌, ap, append-nil, append_assoc, arith, length, length-append, refl, subst, sym, ℕ, List, [], ◌∷◌, ◌++◌, ◌<◌, Option, None, Some, Ok, Err}
 use Rattle.std.proofs.lemmas.List.{map-append}
 use Rattle.std.proofs.lemmas.List.Elements.{All-append, All-cons, All-nil}
 use Rattle.std.specs.Prelude.{option_and_then}
@@ -19,7 +19,7 @@ use Rattle.room_http.proofs.PromiseLaws.{promises_kept}
 use Rattle.room_http.proofs.RunLemmas.{room_split, run_join}
 use Rattle.dispatch_room_endings.specs.declared.endings.Failure.{Failure}
 use Rattle.dispatch_room_serving.specs.Calls.{Grows, Opening}
-use Rattle.dispatch_room_serving.specs.Connections.{AreAttended, AreJoined, AreNext, AreServed, Conversation, EndsAs, GoOn, GoesOn, IsNext, IsServed, Service, connected, done_or, fault_after, opening_of, together}
+use Rattle.dispatch_room_serving.specs.Connections.{AreAttended, AreJoined, AreNext, AreServed, Conversation, EndsAs, GoOn, GoesOn, IsNext, Service, connected, done_or, fault_after, opening_of, together}
 
 -- ---- what is known grows
 pub grows_none : {A : Type 0} (known : Option (List A)) → Grows known known []

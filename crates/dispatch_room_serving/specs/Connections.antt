@@ -19,7 +19,7 @@ use Rattle.room_http.specs.declared.serving.ServeEnd.TheVariants as end
 use Rattle.dispatch_room_endings.specs.declared.endings.Done.{Done}
 use Rattle.dispatch_room_endings.specs.declared.endings.Done.TheVariants.{Whole}
 use Rattle.dispatch_room_endings.specs.declared.endings.Failure.{Failure}
-use Rattle.dispatch_room_endings.specs.declared.endings.Failure.TheVariants.{Memory, Storage}
+use Rattle.dispatch_room_endings.specs.declared.endings.Failure.TheVariants.{Journal, Memory, Storage}
 use Rattle.dispatch_room_serving.specs.declared.connections.TheConstants.{MOST_READS}
 use Rattle.dispatch_room_serving.specs.Calls.{Grows, Opening}
 
@@ -47,6 +47,7 @@ fault_of_store false = Some Storage
 -- why no more is served after a connection that ended so, if it is so, with a store that is sound or is not
 abbrev pub fault_by : ServeEnd → Bool → Option Failure
 fault_by end.Memory is_sound = Some Memory
+fault_by end.Unkept is_sound = Some Journal
 fault_by end.Closed is_sound = fault_of_store is_sound
 fault_by end.Cut is_sound = fault_of_store is_sound
 fault_by end.ReadFault is_sound = fault_of_store is_sound

@@ -17,7 +17,8 @@ use std::alloc::Global;
 pub const MOST_READS: u32 = 100_000;
 
 /// Serves a room to so many calls, one after another. A connection that ends badly doesn't end it,
-/// but for want of memory, and where the store is not sound any longer.
+/// but for want of memory, where the witness could not keep what it was told, and where the store
+/// is not sound any longer.
 pub fn serve_each<S: Alter, P: Callers, C: Clock, N: Witness>(
     alloc: Global,
     callers: &mut P,
@@ -101,6 +102,7 @@ fn goes_on(end: ServeEnd, is_sound: bool) -> Result<(), Failure>
 {
     match end {
         ServeEnd::Memory => Err(Failure::Memory),
+        ServeEnd::Unkept => Err(Failure::Journal),
         _ if is_sound => Ok(()),
         _ => Err(Failure::Storage),
     }

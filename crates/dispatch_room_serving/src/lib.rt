@@ -3,5 +3,8 @@
 
 pub mod callers;
 pub mod connections;
+pub mod journals;
 pub mod logs;
 pub mod serving;
+pub mod watchers;
+pub mod watches;

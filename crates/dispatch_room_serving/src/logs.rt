@@ -1,8 +1,9 @@
 //! A log of what is served: a line for each message.
+ghost use Rattle.std.specs.Prelude.{[], None};
 
 use jiff::Timestamp;
 use room_http::arrivals::Arrived;
-use room_http::witnesses::{Asked, Witness};
+use room_http::witnesses::{Asked, Unkept, Witness};
 use room_types::asks::Who;
 use room_types::callsign::Callsign;
 use room_types::numbers::Moment;
@@ -35,6 +36,11 @@ impl<'a, E: Write, T: Clock> Log<'a, E, T> {
         }
     }
 
+    /// A message has arrived: its time begins.
+    pub fn begin(&mut self) {
+        self.began = self.now();
+    }
+
     // The time of a clock that is never set back: none passes where it can't be read.
     fn now(&self) -> Duration {
         self.clock.monotonic().unwrap_or(self.began)
@@ -55,8 +61,19 @@ impl<'a, E: Write, T: Clock> Log<'a, E, T> {
 }
 
 impl<'a, E: Write, T: Clock> Witness for Log<'a, E, T> {
-    fn arrived(&mut self) {
-        self.began = self.now();
+    ghost held = { λ _. None };
+
+    ghost came = { λ _ _. [] };
+
+    ghost told = { λ _. [] };
+
+    fn arrived(&mut self, _arrived: &Arrived<'_>, _at: Moment) -> Result<(), Unkept> {
+        self.begin();
+        Ok(())
+    }
+
+    fn answering(&mut self, _arrived: &Arrived<'_>, _answer: &[u8]) -> Result<(), Unkept> {
+        Ok(())
     }
 
     // A log that can't be written is given up.
@@ -115,7 +132,7 @@ fn put_crew<W: fmt::Write>(f: &mut fmt::Formatter<W>, callsign: &Callsign) -> fm
 // The method and the path, or that there is no message.
 fn put_request<W: fmt::Write>(f: &mut fmt::Formatter<W>, arrived: &Arrived<'_>) -> fmt::Result {
     match arrived {
-        Arrived::Message(message) => {
+        Arrived::Message { message, .. } => {
             put_visible(f, message.method)?;
             f.write_str(" ")?;
             put_visible(f, path_of(message.target))?;

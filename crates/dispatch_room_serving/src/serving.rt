@@ -2,28 +2,31 @@
 ghost use Rattle.std.specs.Prelude.{◌≡◌, false, IfErr, IfOk, OnErr};
 ghost use Rattle.room_store.specs.Keeping.{IsReady};
 ghost use Rattle.dispatch_room_work.specs.Opened.{IsUnopened};
-ghost use Rattle.dispatch_room_serving.specs.Rooms.{Attends, ServesRoom};
+ghost use Rattle.dispatch_room_serving.specs.Rooms.{Announces, Attends, ServesRoom};
 
 use crate::callers::Callers;
 use crate::connections::serve_each;
-use dispatch_room_endings::endings::{Done, Failure};
+use crate::watchers::Watcher;
+use dispatch_room_endings::endings::{Done, Failure, refused};
+use dispatch_room_journal::digests::digest_of;
 use dispatch_room_work::rooms::{Worked, open_room};
-use room_http::witnesses::Witness;
 use room_http_time::clocks::Clock;
 use room_http_time::zones::Zone;
+use room_store::digests::digest_of_room;
 use room_store::store::Store;
 use sqlite::{Alter, Connection};
 use std::alloc::Global;
 
-/// Serves the room of a database to so many calls: it is opened, the callers begin, and each is
-/// served from the room that the one before left, in the zone of the room's plan. Where no room is
-/// opened, none of them is heard. It is the same whoever is told of it.
-pub fn serve_in<S: Alter + Drop, P: Callers, C: Clock, N: Witness>(
+/// Serves the room of a database to so many calls: it is opened, the watcher is told where it
+/// begins, the callers begin, and each is served from the room that the one before left, in the zone
+/// of the room's plan. Where no room is opened, none of them is heard. It is the same whoever
+/// watches.
+pub fn serve_in<S: Alter + Drop, P: Callers, C: Clock, N: Watcher>(
     alloc: Global,
     conn: Connection<S>,
     callers: &mut P,
     clock: &mut C,
-    witness: &mut N,
+    watcher: &mut N,
     connections: u64,
 ) -> Worked<Done, S>
     requires outside { conn.in_transaction ≡ false }
@@ -52,20 +55,20 @@ pub fn serve_in<S: Alter + Drop, P: Callers, C: Clock, N: Witness>(
         &mut room,
         &zone,
         clock,
-        witness,
+        watcher,
         connections,
     );
     Ok((served, room.close()))
 }
 
-// Lets the callers begin, and serves so many calls.
-fn begin_and_serve<S: Alter, P: Callers, C: Clock, N: Witness>(
+// Tells the watcher where the room begins, lets the callers begin, and serves so many calls.
+fn begin_and_serve<S: Alter, P: Callers, C: Clock, N: Watcher>(
     alloc: Global,
     callers: &mut P,
     room: &mut Store<S>,
     zone: &Zone,
     clock: &mut C,
-    witness: &mut N,
+    watcher: &mut N,
     connections: u64,
 ) -> Result<Done, Failure>
     requires ready { IsReady S.Store room.old }
@@ -85,8 +88,29 @@ fn begin_and_serve<S: Alter, P: Callers, C: Clock, N: Witness>(
         })
         connections result }
 {
+    if let Err(fault) = announce(room, watcher) {
+        return Err(fault);
+    }
     match callers.begin() {
-        Ok(()) => serve_each(alloc, callers, room, zone, clock, witness, connections),
+        Ok(()) => serve_each(alloc, callers, room, zone, clock, watcher, connections),
         Err(fault) => Err(fault),
+    }
+}
+
+// Tells the watcher at which room it begins, if it wants to know.
+fn announce<S: Alter, N: Watcher>(room: &mut Store<S>, watcher: &mut N) -> Result<(), Failure>
+    requires ready { IsReady S.Store room.old }
+    ensures ready { IsReady S.Store room.new }
+    ensures announces { Announces S.Store room.old room.new result }
+{
+    if !watcher.wants_digest() {
+        return Ok(());
+    }
+    match digest_of_room(room) {
+        Ok(digest) => match watcher.begins(&digest_of(&digest)) {
+            Ok(()) => Ok(()),
+            Err(_) => Err(Failure::Journal),
+        },
+        Err(refusal) => Err(refused(refusal)),
     }
 }

@@ -3,7 +3,7 @@ use Rattle.std.specs.Prelude.{⊤, ℕ, List, Option, None, Some}
 use Rattle.dispatch_room_words.specs.Addresses.{IsLoopback}
 use Rattle.dispatch_room_words.specs.declared.tasks.Service.{Service}
 use Rattle.dispatch_room_words.specs.declared.tasks.Task.{Task}
-use Rattle.dispatch_room_words.specs.declared.tasks.Task.TheVariants.{Board, Check, Import, Init, Migrate, Serve, Times}
+use Rattle.dispatch_room_words.specs.declared.tasks.Task.TheVariants.{Board, Check, Import, Init, Migrate, Replay, Serve, Times}
 
 -- the path of the room's file, where the task has one
 abbrev pub file_of : Task → Option (List ℕ)
@@ -12,6 +12,7 @@ file_of (Import file fleet) = Some file.now
 file_of (Migrate file) = Some file.now
 file_of (Check file) = Some file.now
 file_of (Serve file service) = Some file.now
+file_of (Replay file replay) = Some file.now
 file_of (Times file division day) = Some file.now
 file_of (Board look) = None
 

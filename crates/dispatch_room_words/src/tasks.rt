@@ -1,7 +1,7 @@
 //! What a command line asks for. Files are named by their paths.
 
 use room_place::plans::DivisionNumber;
-use room_types::numbers::Number;
+use room_types::numbers::{Moment, Number};
 use std::net::SocketAddr;
 
 /// A command with all that it needs.
@@ -24,7 +24,12 @@ pub enum Task<'a> {
     /// A room is served at an address.
     Serve {
         file: &'a str,
-        service: Service,
+        service: Service<'a>,
+    },
+    /// What a journal says is done to a room.
+    Replay {
+        file: &'a str,
+        replay: Replay,
     },
     /// What is wrong with a room's file is told.
     Check {
@@ -57,6 +62,7 @@ impl<'a> Task<'a> {
             | Task::Migrate { file }
             | Task::Check { file }
             | Task::Serve { file, .. }
+            | Task::Replay { file, .. }
             | Task::Times { file, .. } => Some(file),
             Task::Board { .. } => None,
         }
@@ -65,7 +71,7 @@ impl<'a> Task<'a> {
 
 /// Where a room is served, how much, and how long it waits.
 #[derive(Clone, Copy)]
-pub struct Service {
+pub struct Service<'a> {
     /// Where it listens: an address of this machine alone.
     pub address: SocketAddr,
     /// How many connections it serves.
@@ -76,6 +82,25 @@ pub struct Service {
     pub patience: u16,
     /// Whether a line is written to standard error for each message.
     pub log: bool,
+    /// Where each message is kept, if it is.
+    pub journal: Option<Journal<'a>>,
+}
+
+/// The file of a journal, and how it is kept.
+#[derive(Clone, Copy)]
+pub struct Journal<'a> {
+    pub list: &'a str,
+    /// Whether each record is on the disk before the room acts on it, or when the system writes it.
+    pub is_synced: bool,
+}
+
+/// How much of a journal is replayed, and what is told of it.
+#[derive(Clone, Copy)]
+pub struct Replay {
+    /// The last moment that is replayed: all are where none is told.
+    pub until: Option<Moment>,
+    /// Whether each message is played as it comes, and its answer written.
+    pub answers: bool,
 }
 
 /// Which served room is looked at, by which desk, and how.

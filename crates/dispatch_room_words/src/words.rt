@@ -5,12 +5,12 @@ ghost use Rattle.dispatch_room_words.specs.Tasks.{IsHere, IsServedHere};
 
 use crate::addresses::loopback;
 use crate::builder::Draft;
-use crate::tasks::{Color, Look, Service, Task};
+use crate::tasks::{Color, Journal, Look, Replay, Service, Task};
 use clap::builder::ValueParser;
 use clap::error::ErrorKind;
 use clap::{Arg, ArgAction, ArgMatches, Command, Error, value_parser};
 use room_place::plans::DivisionNumber;
-use room_types::numbers::Number;
+use room_types::numbers::{Moment, Number};
 use std::alloc::Global;
 
 /// The version of the program, whose first number is that of the rooms that it keeps.
@@ -18,6 +18,9 @@ pub const VERSION: &str = "2.0";
 
 // A division is told by its one digit.
 const DIVISIONS: [&str; 9] = ["1", "2", "3", "4", "5", "6", "7", "8", "9"];
+
+// When a record of a journal is on the disk.
+const SYNCS: [&str; 2] = ["always", "system"];
 
 // When a board has colours.
 const COLORS: [&str; 3] = ["auto", "always", "never"];
@@ -119,7 +122,7 @@ fn serve_of<'a>(file: &'a str, given: &ArgMatches<'a>) -> Result<Task<'a>, Mista
 }
 
 // None where a word is missing, which clap doesn't let through.
-fn service_of(given: &ArgMatches<'_>) -> Option<Result<Service, Mistake>>
+fn service_of<'a>(given: &ArgMatches<'a>) -> Option<Result<Service<'a>, Mistake>>
     ensures { IfSome result (λ read. IfOk read IsHere) }
 {
     let Some(address) = loopback(text(given, "ADDRESS")?) else {
@@ -131,7 +134,15 @@ fn service_of(given: &ArgMatches<'_>) -> Option<Result<Service, Mistake>>
         idle: number(given, "idle")?,
         patience: number(given, "patience")?,
         log: given.get_flag("log"),
+        journal: journal_of(given),
     }))
+}
+
+fn journal_of<'a>(given: &ArgMatches<'a>) -> Option<Journal<'a>> {
+    Some(Journal {
+        list: text(given, "journal")?,
+        is_synced: text(given, "journal-sync")? == "always",
+    })
 }
 
 // The commands over a room's file but `serve`.
@@ -149,12 +160,23 @@ fn other_of<'a>(name: &str, file: &'a str, given: &ArgMatches<'a>) -> Option<Tas
         }),
         "migrate" => Some(Task::Migrate { file }),
         "check" => Some(Task::Check { file }),
+        "replay" => Some(Task::Replay {
+            file,
+            replay: replay_of(given),
+        }),
         "times" => Some(Task::Times {
             file,
             division: DivisionNumber::new(u32::from(number(given, "DIVISION")?))?,
             day: text(given, "DAY")?,
         }),
         _ => None,
+    }
+}
+
+fn replay_of(given: &ArgMatches<'_>) -> Replay {
+    Replay {
+        until: given.get_one::<u32>("until").and_then(Moment::new),
+        answers: given.get_flag("answers"),
     }
 }
 
@@ -192,13 +214,14 @@ fn program<'a>(alloc: Global) -> Draft<'a> {
          and serves it over HTTP",
         "Without a command it is the dry run: an example room in memory, requests from standard \
          input, answers to standard output.\n\n\
-         Exit status: 0 done, 1 refused input, 2 usage, 3 storage, 4 network, 5 memory",
+         Exit status: 0 done, 1 refused input, 2 usage, 3 storage, 4 network, 5 memory, 6 journal",
     )
     .with_command(init(alloc))
     .with_command(import(alloc))
     .with_command(migrate(alloc))
     .with_command(check(alloc))
     .with_command(serve(alloc))
+    .with_command(replay(alloc))
     .with_command(board(alloc))
     .with_command(times(alloc))
 }
@@ -268,6 +291,22 @@ fn serve<'a>(alloc: Global) -> Draft<'a> {
         "How long a request may take to come, and its answer to be taken",
     ))
     .with(log(alloc))
+    .with(journal(alloc))
+    .with(journal_sync(alloc))
+}
+
+fn replay<'a>(alloc: Global) -> Draft<'a> {
+    Draft::new(
+        alloc,
+        "replay",
+        "Does to a room what a journal says, from standard input, at its moments",
+        "The room has to be as it was where the journal begins. Each answer's status has to be the \
+         recorded one; where it is another, or the list is none, the record is told.\n\n\
+         Example: dispatch_room replay copy.db --until $(date -d '03:15' +%s) <room.list",
+    )
+    .with(file(alloc))
+    .with(until(alloc))
+    .with(answers(alloc))
 }
 
 fn board<'a>(alloc: Global) -> Draft<'a> {
@@ -332,6 +371,40 @@ fn log<'a>(alloc: Global) -> Arg<'a> {
             "Write a line to standard error for each message: moment, who, method, path, status, \
              milliseconds",
         )
+}
+
+fn journal<'a>(alloc: Global) -> Arg<'a> {
+    Arg::new(alloc, "journal")
+        .long("journal")
+        .value_name("LIST")
+        .help("Keep each message in this file before the room acts on it, and its answer's status")
+}
+
+fn journal_sync<'a>(alloc: Global) -> Arg<'a> {
+    Arg::new(alloc, "journal-sync")
+        .long("journal-sync")
+        .value_name("WHEN")
+        .default_value("system")
+        .value_parser(ValueParser::Names(&SYNCS))
+        .help(
+            "When a record of the journal is on the disk: always before the room acts on it, or \
+             when the system writes it",
+        )
+}
+
+fn until<'a>(alloc: Global) -> Arg<'a> {
+    Arg::new(alloc, "until")
+        .long("until")
+        .value_name("MOMENT")
+        .value_parser(value_parser!(u32).range(0..=4102444799))
+        .help("Stop before the first later message; whole seconds since 1970, in UTC")
+}
+
+fn answers<'a>(alloc: Global) -> Arg<'a> {
+    Arg::new(alloc, "answers")
+        .long("answers")
+        .action(ArgAction::SetTrue)
+        .help("Play each message as it comes, and write its answer: for a program at both pipes")
 }
 
 fn patience<'a>(alloc: Global, help: &'a str) -> Arg<'a> {

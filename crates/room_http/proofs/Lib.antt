@@ -1,6 +1,7 @@
 pub mod StreamLemmas
 pub mod TalkLemmas
 pub mod ServeLemmas
+pub mod KeptLemmas
 pub mod TerminalLemmas
 pub mod AskLemmas
 pub mod RunLemmas

@@ -10,14 +10,14 @@ use Rattle.room_http_messages.specs.Messages.{IsPart}
 use Rattle.room_http_messages.proofs.StreamLemmas.{Appends-more, Appends-none}
 use Rattle.room_http_time.specs.declared.moments.TheConstants.{LAST_MOMENT}
 use Rattle.room_http.specs.declared.serving.ServeEnd.{ServeEnd}
-use Rattle.room_http.specs.declared.serving.ServeEnd.TheVariants.{Closed, Cut, ReadFault, WriteFault, ClockFault, ReadsSpent, Memory}
+use Rattle.room_http.specs.declared.serving.ServeEnd.TheVariants.{Closed, Cut, ReadFault, WriteFault, ClockFault, Unkept, ReadsSpent, Memory}
 use Rattle.room_http_answers.specs.Replies.{fixed_bytes}
 use Rattle.room_http.specs.Answering.{Answers, EndsAnswering}
 use Rattle.room_http_time.specs.Moments.{HasNoMoment}
 use Rattle.room_http.specs.Arrivals.{Arrival, is_closing, is_head_only, Begins, HasNext}
 use Rattle.room_http_time.specs.declared.zones.Zone.{Zone}
 use Rattle.room_service.specs.Rooms.{Step, IsWant}
-use Rattle.room_http.specs.Serving.{Sides, Finish, Answered, Unserved, Broken, LeavesPart, MissesNone, ServeIs}
+use Rattle.room_http.specs.Serving.{Sides, Finish, Answered, Unserved, Unwritten, Broken, LeavesPart, MissesNone, ServeIs}
 use Rattle.room_http.specs.Talk.{Timed, IsFront, BreaksOff, Stays, Talks, Wants}
 use Rattle.room_http.proofs.StreamLemmas.{Passes, Begins-push}
 use Rattle.room_http.proofs.TalkLemmas.{Talks-append, Talks-as, Talks-none}
@@ -36,7 +36,7 @@ no_moment_later a b c was_none moments first (inl none) = inl (none.0, rw append
 no_moment_later a b c was_none moments first (inr late) = inr (late.0, late.1, Appends-more a b c moments (late.0 ∷ []) first late.2)
 
 -- the stream that is left goes on
-still_begins : (stream : List ℕ) (outs : List Timed) (left after : Option (List ℕ)) → ((rest : List ℕ) × (left ≡ Some rest) × Begins stream (map (λ x. x.0) outs) rest)
+pub still_begins : (stream : List ℕ) (outs : List Timed) (left after : Option (List ℕ)) → ((rest : List ℕ) × (left ≡ Some rest) × Begins stream (map (λ x. x.0) outs) rest)
     → Keeps left after → (rest : List ℕ) × (after ≡ Some rest) × Begins stream (map (λ x. x.0) outs) rest
 still_begins stream outs None after begins same = absurd (cc)
 still_begins stream outs (Some rest) None begins same = absurd same
@@ -49,6 +49,7 @@ pub ends_missing_none : (left remains given gives : Option (List ℕ)) (e : Serv
 ends_missing_none left remains given gives Closed ends = tt
 ends_missing_none left remains given gives WriteFault ends = tt
 ends_missing_none left remains given gives ClockFault ends = tt
+ends_missing_none left remains given gives Unkept ends = tt
 ends_missing_none left remains given gives Cut ends = tt
 ends_missing_none left remains given gives Memory ends = tt
 ends_missing_none left remains given gives ReadFault ends = absurd ends
@@ -208,6 +209,21 @@ module _ (step : Step) (zone : Zone) (old : Sides) where
           (λ trust terminals room tail it. (it.0, it.1, it.2, still trust terminals it.0 it.3, it.4)) talk;
     }
 
+    -- no byte was written, and so much holds of the room
+    unwritten : (at : ℕ) (says less : List Terminal → Room → Type 0) → (late → (terminals : List Terminal) (room : Room) → says terminals room → less terminals room)
+        → at ≤ LAST_MOMENT → Appends given new.given (at ∷ []) → Talks step zone late stays held new.held [] (λ terminals room tail. says terminals room × (tail ≡ []))
+        → Unwritten step zone old new late stood (Stays was stands leaves) outs (o, at) less
+    unwritten at says less tells within moment talk = record {
+      begins = has_next;
+      next = λ stream known. let begins = begins_more at stream known in (begins.0, begins.2, tt);
+      timed = (timed_more at within, moments_more at moment);
+      talk = talk_kept (λ terminals room tail. says terminals room × (tail ≡ [])) (λ terminals room tail. less terminals room × (tail ≡ []))
+          (λ trust terminals room tail it. (tells trust terminals room it.0, it.1)) talk;
+    }
+
+    abbrev Acted : Type 0 → ℕ → List Terminal → Room → Type 0
+    Acted before at terminals room = BreaksOff step zone terminals (Stays before stands leaves) room (o, at) []
+
     -- serving ended with one more
     pub ends : (budget : ℕ) (e : ServeEnd) → AnswersHere (Err e) → ServeHere budget e
     ends budget Closed answers = inr (inr (outs, (o, answers.0), wanted answers.0 answers.2.0 (λ tail fixed. tail ≡ fixed) answers.1.0 answers.1.1 answers.2.1 answers.2.2))
@@ -221,6 +237,15 @@ module _ (step : Step) (zone : Zone) (old : Sides) where
         ],
       ),
       answers.2,
+    )
+    ends budget Unkept answers = (
+      outs,
+      (o, answers.0),
+      elim answers.2 [
+        | inl talk ↦ inl (unwritten answers.0 (Stays is_kept stands leaves) (Stays was stands leaves) still answers.1.0 answers.1.1 talk)
+        | inr talk ↦
+            inr (unwritten answers.0 (Acted is_kept answers.0) (Acted was answers.0) (λ trust terminals room it. (it.0, it.1, it.2, still trust terminals it.0 it.3, it.4)) answers.1.0 answers.1.1 talk)
+      ],
     )
     ends budget ClockFault answers = (
       outs,

@@ -12,18 +12,18 @@ use Rattle.room_http_time.specs.declared.zones.Zone.{Zone}
 use Rattle.room_http_time.specs.Moments.{HasNoMoment}
 use Rattle.room_service.specs.Rooms.{IsWant, Step, machine}
 use Rattle.room_http.specs.declared.serving.ServeEnd.{ServeEnd}
-use Rattle.room_http.specs.declared.serving.ServeEnd.TheVariants.{Closed, Cut, ReadFault, WriteFault, ClockFault, ReadsSpent, Memory}
+use Rattle.room_http.specs.declared.serving.ServeEnd.TheVariants.{Closed, Cut, ReadFault, WriteFault, ClockFault, Unkept, ReadsSpent, Memory}
 use Rattle.room_http_messages.specs.Messages.{IsCut}
 use Rattle.room_http_answers.specs.Replies.{fixed_bytes}
 use Rattle.room_http.specs.Answering.{Answers}
 use Rattle.room_http.specs.Arrivals.{Arrival, Begins, HasNext, is_head_only}
 use Rattle.room_http.specs.Served.{AreFirst, AreGiven, AreWritten, IsAtMost, IsWantTail, KeepsPromises, Served}
 use Rattle.room_http.specs.Runs.{Exchange, IsRun, IsTold, arrivals_of, room_by}
-use Rattle.room_http.specs.Serving.{Answered, Broken, Finish, ServeIs, Sides, Unserved, Untimed}
+use Rattle.room_http.specs.Serving.{Answered, Broken, Finish, HasActed, ServeIs, Sides, Unserved, Untimed, Unwritten}
 use Rattle.room_http.specs.Talk.{BreaksOff, IsFront, IsTalk, LeavesNext, Stays, Talks, Timed, Wants, replied}
 use Rattle.room_http.proofs.PromiseLaws.{promises_kept}
 use Rattle.room_http.proofs.RunLemmas.{answered_join, room_push, run_of, talk_run}
-use Rattle.room_http.proofs.TalkLemmas.{Talks-none}
+use Rattle.room_http.proofs.TalkLemmas.{Talks-as, Talks-none}
 
 module _ (zone : Zone) (are : List Timed → Type 0) (was_kept : Type 0) (stands : List Terminal → Room → Type 0) (leaves : List Terminal → List Room → Type 0) where
   -- the room after these arrivals, and what a stop leaves of it
@@ -104,6 +104,15 @@ all_of r head_only want tail is = inr (r, want, head_only, ([], sym (append-nil 
 some_of : (r : Refusal) (head_only : Bool) → IsWant r → (tail : List ℕ) → IsFront tail (fixed_bytes r head_only) → IsWantTail tail
 some_of r head_only want tail is = inr (r, want, head_only, is)
 
+-- the room has acted and nothing was written, so the answer was not written wholly
+silent : (zone : Zone) (trusted : Type 0) (stood stays : List Terminal → Room → Type 0) (held holds : Option (List ℕ)) (outs : List Timed) (x : Timed)
+    → Talks machine zone trusted stood held holds outs (λ terminals after tail. BreaksOff machine zone terminals stays after x [] × (tail ≡ []))
+    → Talks machine zone trusted stood held holds outs (λ terminals after tail. BreaksOff machine zone terminals stays after x tail)
+silent zone trusted stood stays held holds outs x talk =
+    Talks-as machine zone trusted stood stood held holds outs (λ terminals after tail. BreaksOff machine zone terminals stays after x [] × (tail ≡ []))
+    (λ terminals after tail. BreaksOff machine zone terminals stays after x tail) (λ terminals room it. it)
+    (λ trust terminals room tail it. subst (BreaksOff machine zone terminals stays room x) (sym it.1) it.0) talk
+
 -- ---- one arrival
 module _ (zone : Zone) (held holds given gives : Option (List ℕ)) (write_failed was_none : Bool) (was_kept trusted : Type 0) (stood stands : List Terminal → Room → Type 0) (leaves : List Terminal → List Room → Type 0)
     (fit : (terminals : List Terminal) (room : Room) → stood terminals room → AreTerminals room terminals) (o : Arrival) where
@@ -133,6 +142,12 @@ module _ (zone : Zone) (held holds given gives : Option (List ℕ)) (write_faile
   ]
   kept_one (Err ClockFault) a =
       none_answered (Stays was_kept stands leaves) (λ tail. tail ≡ []) (alone zone (IsAtMost o given gives) was_kept stands leaves []) (λ tail is. inl is) a.1
+  kept_one (Err Unkept) a = elim a.2 [
+    | inl talk ↦ none_answered (Stays was_kept stands leaves) (λ tail. tail ≡ []) (alone zone (IsAtMost o given gives) was_kept stands leaves []) (λ tail is. inl is) talk
+    | inr talk ↦
+        kept_short zone (IsAtMost o given gives) held holds was_kept stands leaves trusted stood fit [] (o, a.0) (refl, ([], a.1.1))
+        (silent zone trusted stood (Stays was_kept stands leaves) held holds [] (o, a.0) talk)
+  ]
   kept_one (Err Cut) a = absurd a
   kept_one (Err ReadFault) a = absurd a
   kept_one (Err ReadsSpent) a = absurd a
@@ -196,6 +211,15 @@ module _ (zone : Zone) (old : Sides) (new : Finish) (was_kept trusted : Type 0) 
       kept_short zone AreFirstHere old.held new.held was_kept stands leaves trusted stood fit outs x
       (firsts old.left old.given new.given (outs ++ x ∷ []) (λ rest. ⊤) b.begins (no_more old.given new.given (outs ++ x ∷ []) b.timed.1)) b.talk
 
+  kept_unwritten : (outs : List Timed) (x : Timed) → Unwritten machine zone old new trusted stood StaysHere outs x StaysHere → Kept
+  kept_unwritten outs x u = kept_all outs (firsts old.left old.given new.given outs (HasNext x.0) u.begins (one_more old.given new.given outs x u.timed.1)) u.talk
+
+  kept_acted : (outs : List Timed) (x : Timed) → Unwritten machine zone old new trusted stood StaysHere outs x (HasActed machine zone old new trusted stood StaysHere x) → Kept
+  kept_acted outs x u =
+      kept_short zone AreFirstHere old.held new.held was_kept stands leaves trusted stood fit outs x
+      (firsts old.left old.given new.given (outs ++ x ∷ []) (λ rest. ⊤) u.next (no_more old.given new.given (outs ++ x ∷ []) u.timed.1))
+      (silent zone trusted stood StaysHere old.held new.held outs x u.talk)
+
   -- however serving ended
   kept : (budget : ℕ) (end : ServeEnd) → ServeHere machine budget end → Kept
   kept budget Closed (inl ended) = kept_answered ended.0 (λ rest. rest ≡ []) ended.1
@@ -206,6 +230,10 @@ module _ (zone : Zone) (old : Sides) (new : Finish) (was_kept trusted : Type 0) 
   kept budget WriteFault failed = elim failed.0.2 [
     | inl b ↦ kept_broken failed.0.0 failed.0.1 b
     | inr u ↦ kept_unserved failed.0.0 failed.0.1 IsFront some_of u
+  ]
+  kept budget Unkept failed = elim failed.2 [
+    | inl u ↦ kept_unwritten failed.0 failed.1 u
+    | inr u ↦ kept_acted failed.0 failed.1 u
   ]
   kept budget ClockFault none = kept_untimed none.0 none.1 none.2
   kept budget ReadsSpent used = kept_answered used.0 (λ rest. ⊤) used.1

@@ -1,12 +1,16 @@
 -- Lemmas on what is read of a stream.
-use Rattle.std.proofs.Common.{◌≡◌, ◌∙◌, ap, sym, subst, refl, arith, ℕ, ◌+◌, ◌-◌, ◌≤◌, List, [], ◌∷◌, ◌++◌, drop, map, append-nil, append_assoc, Bool, false, Option, Some, None, All}
+use Rattle.std.proofs.Common.{◌≡◌, ◌∙◌, ap, sym, subst, refl, arith, ℕ, ◌+◌, ◌-◌, ◌≤◌, List, [], ◌∷◌, ◌++◌, drop, length, take, length-append, length-take-le, map, append-nil, append_assoc, Bool, false, Option, Some, None, All}
+use Rattle.std.proofs.lemmas.List.{take_at}
 use Rattle.std.proofs.lemmas.List.Elements.{All-head, All-tail}
 use Rattle.std.specs.Io.KnownBytes.{prepend_known, Keeps, IsAtEnd}
 use Rattle.httparse.specs.Grammar.{print_request}
 use Rattle.room_types.specs.declared.refusals.Refusal.{Refusal}
+use Rattle.room_http_messages.specs.declared.limits.TheConstants.{INBOX_ROOM}
+use Rattle.room_http_messages.specs.declared.messages.Layout.{Layout}
+use Rattle.room_http_messages.specs.Layouts.{IsLayout}
 use Rattle.room_http_messages.specs.Messages.{WholeMessage, HasMessage, IsRefused}
 use Rattle.room_http_messages.specs.Streams.{CountsBy}
-use Rattle.room_http.specs.Arrivals.{Arrival, message, refused, is_closing, BeginsWith, Begins}
+use Rattle.room_http.specs.Arrivals.{Arrival, message, refused, is_closing, BeginsWith, Begins, IsAlone}
 
 pub CountsBy-none : (known : Option ℕ) → CountsBy 0 known known
 CountsBy-none None = refl
@@ -49,6 +53,27 @@ message_passes kept after (Some left) m n has is = record {
       let same : kept ++ left ≡ rest = cc in
       (drop n kept ++ left, subst (λ (s : List ℕ). HasMessage s m (drop n kept ++ left)) same (message-append kept left m (drop n kept) has), rw is refl);
 }
+
+-- the bytes of the message at the front are that message and nothing more
+pub message_alone : (kept bytes : List ℕ) (layout : Layout) (m : WholeMessage) → HasMessage kept m (drop layout.body.end kept) → IsLayout kept layout m
+    → layout.body.end ≤ length kept → bytes ≡ kept → length bytes ≤ INBOX_ROOM → IsAlone (take layout.body.end bytes) m
+message_alone kept bytes layout m has is within same fits =
+    let n = layout.body.end in
+    let rest = drop n kept in
+    let size : length (print_request m.head ++ m.body) ≡ n = length-append (print_request m.head) m.body ∙ sym is.end in
+    let whole : take n bytes ≡ print_request m.head ++ (m.body ++ []) =
+    ap (take n) (same ∙ has.begins.reads.1 ∙ sym (append_assoc (print_request m.head) m.body rest)) ∙ take_at (print_request m.head ++ m.body) rest n size
+    ∙ ap (λ t. print_request m.head ++ t) (sym (append-nil m.body)) in
+    let many : length (take n bytes) ≡ n = length-take-le n bytes (rw same within) in
+    record {
+      whole = record {
+        begins = record { reads = (has.begins.reads.0, whole); few = has.begins.few; fits = has.begins.fits };
+        sound = has.sound;
+        size = has.size;
+      };
+      some = omega (arith, many, is.some);
+      fits = omega (arith, many, within, fits, ap length same);
+    }
 
 -- what is refused at the front of the inbox is refused in the stream
 pub refusal_passes : (kept : List ℕ) (left : Option (List ℕ)) (r : Refusal) (head_only : Bool) → ((more : List ℕ) → IsRefused (kept ++ more) r head_only)

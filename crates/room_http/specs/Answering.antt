@@ -6,7 +6,7 @@ use Rattle.room_types.specs.declared.refusals.Refusal.{Refusal}
 use Rattle.room_model.specs.Room.{Room}
 use Rattle.room_http_time.specs.declared.moments.TheConstants.{LAST_MOMENT}
 use Rattle.room_http.specs.declared.serving.ServeEnd.{ServeEnd}
-use Rattle.room_http.specs.declared.serving.ServeEnd.TheVariants.{Closed, Cut, ReadFault, WriteFault, ClockFault, ReadsSpent, Memory}
+use Rattle.room_http.specs.declared.serving.ServeEnd.TheVariants.{Closed, Cut, ReadFault, WriteFault, ClockFault, Unkept, ReadsSpent, Memory}
 use Rattle.room_service.specs.Rooms.{Step, IsWant}
 use Rattle.room_http.specs.Arrivals.{Arrival, is_head_only}
 use Rattle.room_http_time.specs.Moments.{HasNoMoment}
@@ -19,6 +19,7 @@ abbrev pub EndsAnswering : ServeEnd → Type 0
 EndsAnswering Closed = ⊤
 EndsAnswering WriteFault = ⊤
 EndsAnswering ClockFault = ⊤
+EndsAnswering Unkept = ⊤
 EndsAnswering Cut = ⊥
 EndsAnswering ReadFault = ⊥
 EndsAnswering ReadsSpent = ⊥
@@ -40,6 +41,9 @@ module _ (step : Step) (zone : Zone) (held holds given gives : Option (List ℕ)
       × (Talks step zone trusted stood held holds [] (λ terminals after tail. BreaksOff step zone terminals stands after (o, at) tail)
       ⊎ ((r : Refusal) × IsWant r × Talks step zone trusted stood held holds [] (λ terminals after tail. wants (o, at) terminals after × IsFront tail (fixed_bytes r (is_head_only o)))))
   Answers (Err ClockFault) = HasNoMoment given gives was_none [] × Talks step zone trusted stood held holds [] (λ terminals after tail. stands terminals after × (tail ≡ []))
+  Answers (Err Unkept) = (at : ℕ) × IsAt at
+      × (Talks step zone trusted stood held holds [] (λ terminals after tail. stands terminals after × (tail ≡ []))
+      ⊎ Talks step zone trusted stood held holds [] (λ terminals after tail. BreaksOff step zone terminals stands after (o, at) [] × (tail ≡ [])))
   Answers (Err Cut) = ⊥
   Answers (Err ReadFault) = ⊥
   Answers (Err ReadsSpent) = ⊥

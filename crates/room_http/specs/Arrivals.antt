@@ -1,6 +1,7 @@
 -- What is answered on a connection: the messages of its stream, and what is refused in the place of one.
-use Rattle.std.specs.Prelude.{◌≡◌, ℕ, List, [], ◌∷◌, Bool, true}
+use Rattle.std.specs.Prelude.{◌≡◌, ◌≤◌, ⊤, ℕ, List, [], ◌∷◌, length, Bool, true}
 use Rattle.room_types.specs.declared.refusals.Refusal.{Refusal}
+use Rattle.room_http_messages.specs.declared.limits.TheConstants.{INBOX_ROOM}
 use Rattle.room_http_messages.specs.Layouts.{Shows}
 use Rattle.room_http_messages.specs.Messages.{WholeMessage, is_head, closes, HasMessage, IsRefused}
 use Rattle.room_http.specs.declared.arrivals.Arrived.{Arrived}
@@ -36,9 +37,20 @@ Begins stream (o ∷ more) rest =
 abbrev pub HasNext : Arrival → List ℕ → Type 0
 HasNext o stream = (next : List ℕ) × BeginsWith stream o next
 
--- what is shown of an arrival
+-- the bytes are this message and nothing more
+pub record IsAlone (bytes : List ℕ) (m : WholeMessage) : Type 0 where
+  pub whole : HasMessage bytes m []
+  pub some : 1 ≤ length bytes
+  pub fits : length bytes ≤ INBOX_ROOM
+
+-- what is shown of an arrival: of a message also its bytes
 abbrev pub IsShown : Arrived → Arrival → Type 0
-IsShown (Message shown) (message m) = Shows shown m
-IsShown (Message shown) (refused r head_only) = ⊥
+IsShown (Message shown bytes) (message m) = Shows shown m × IsAlone bytes.now m
+IsShown (Message shown bytes) (refused r head_only) = ⊥
 IsShown (Refused r head_only) (message m) = ⊥
 IsShown (Refused r head_only) (refused s without) = (r ≡ s) × (head_only ≡ without)
+
+-- the bytes of a message are some, and no more than the longest has
+abbrev pub IsBounded : Arrived → Type 0
+IsBounded (Message shown bytes) = (1 ≤ length bytes.now) × (length bytes.now ≤ INBOX_ROOM)
+IsBounded (Refused r head_only) = ⊤

@@ -7,5 +7,6 @@ pub mod Runs
 pub mod Promises
 pub mod Served
 pub mod Laws
+pub mod Kept
 pub mod Answering
 pub mod Serving

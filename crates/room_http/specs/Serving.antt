@@ -8,7 +8,7 @@ use Rattle.room_http_answers.specs.Replies.{fixed_bytes}
 use Rattle.room_http_messages.specs.Messages.{IsCut, IsPart}
 use Rattle.room_http_messages.specs.Streams.{CountsBy}
 use Rattle.room_http.specs.declared.serving.ServeEnd.{ServeEnd}
-use Rattle.room_http.specs.declared.serving.ServeEnd.TheVariants.{Closed, Cut, ReadFault, WriteFault, ClockFault, ReadsSpent, Memory}
+use Rattle.room_http.specs.declared.serving.ServeEnd.TheVariants.{Closed, Cut, ReadFault, WriteFault, ClockFault, Unkept, ReadsSpent, Memory}
 use Rattle.room_http_time.specs.declared.moments.TheConstants.{LAST_MOMENT}
 use Rattle.room_service.specs.Rooms.{Step, IsWant}
 use Rattle.room_http.specs.Arrivals.{Arrival, is_head_only, is_closing, Begins, HasNext}
@@ -73,6 +73,17 @@ module _ (step : Step) (zone : Zone) (old : Sides) (new : Finish) (trusted : Typ
     pub clock : HasNoMoment old.given new.given new.was_none (map (λ x. x.1) outs)
     pub talk : Spoke outs (λ terminals after tail. stands terminals after × (tail ≡ []))
 
+  -- The arrivals were answered. The next one had a moment, and of it this holds: no byte of an answer was written.
+  pub record Unwritten (outs : List Timed) (x : Timed) (holds : List Terminal → Room → Type 0) : Type 0 where
+    pub begins : Reaches outs (HasNext x.0)
+    pub next : Reaches (outs ++ x ∷ []) (λ rest. ⊤)
+    pub timed : AreTimed (outs ++ x ∷ [])
+    pub talk : Spoke outs (λ terminals after tail. holds terminals after × (tail ≡ []))
+
+  -- the room has acted on the arrival
+  abbrev pub HasActed : Timed → List Terminal → Room → Type 0
+  HasActed x terminals room = BreaksOff step zone terminals stands room x []
+
   -- where memory or storage was wanting for an arrival, so much holds of the room
   module _ (wants : Timed → List Terminal → Room → Type 0) where
     -- The arrivals were answered. For the next one memory or storage was wanting: the room stayed as
@@ -95,6 +106,7 @@ module _ (step : Step) (zone : Zone) (old : Sides) (new : Finish) (trusted : Typ
     ServeIs budget Cut = (outs : List Timed) × Answered outs IsCut × (new.read_ended ≡ true)
     ServeIs budget ReadFault = (outs : List Timed) × Answered outs (λ rest. ⊤) × (new.read_failed ≡ true)
     ServeIs budget WriteFault = ((outs : List Timed) × (x : Timed) × (Broken outs x ⊎ Unserved outs x IsFront)) × (new.write_failed ≡ true)
+    ServeIs budget Unkept = (outs : List Timed) × (x : Timed) × (Unwritten outs x stands ⊎ Unwritten outs x (HasActed x))
     ServeIs budget ClockFault = (outs : List Timed) × (o : Arrival) × Untimed outs o
     ServeIs budget ReadsSpent = (outs : List Timed) × Answered outs (λ rest. ⊤) × CountsBy budget old.reads new.reads
     ServeIs budget Memory = Answered [] (λ rest. ⊤) × CountsBy 0 old.reads new.reads

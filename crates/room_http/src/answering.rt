@@ -1,7 +1,8 @@
 //! What arrives, answered.
 ghost use Rattle.std.specs.Prelude.{◌≡◌, false, IfErr, OnOk};
-ghost use Rattle.room_http.specs.Arrivals.{Arrival, IsShown};
+ghost use Rattle.room_http.specs.Arrivals.{Arrival, IsBounded, IsShown};
 ghost use Rattle.room_http.specs.Answering.{Answers, EndsAnswering};
+ghost use Rattle.room_http.specs.Kept.{Acts, KeepsOne, Unmoved};
 ghost use Rattle.room_http_messages.specs.Streams.{WritesAll};
 ghost use Rattle.room_http.specs.Served.{IsAtMost, KeepsPromises};
 ghost use Rattle.room_http.specs.Talk.{Stays, Wants};
@@ -20,7 +21,9 @@ use room_http_time::zones::Zone;
 use room_service::rooms::Room;
 use std::alloc::Global;
 
-/// Answers what has arrived at the moment of the clock, or says why serving ends with it.
+/// Answers what has arrived at the moment of the clock, or says why serving ends with it. The
+/// witness keeps a message before the room acts on it, and its answer before any byte of it is
+/// written.
 pub fn answer<W: Sink, M: Room, C: Clock, N: Witness>(
     alloc: Global,
     routes: &Routes,
@@ -33,6 +36,7 @@ pub fn answer<W: Sink, M: Room, C: Clock, N: Witness>(
 ) -> Result<(), ServeEnd>
     requires ready { M.is_ready room.old }
     requires sound { W.has_failed writer.old ≡ false }
+    requires bounded { IsBounded arrived.now }
     ensures ready { M.is_ready room.new }
     ensures trusted { M.is_trusted room.new → M.is_trusted room.old }
     ensures ends { IfErr result EndsAnswering }
@@ -50,21 +54,43 @@ pub fn answer<W: Sink, M: Room, C: Clock, N: Witness>(
         (W.held writer.old) (W.held writer.new)
         (M.is_trusted room.new) (M.is_kept room.old)
         (M.stands room.old) (M.stands room.new) (M.leaves_one_of room.new) }
+    ensures witnessed { (o : Arrival) → IsShown arrived.now o → KeepsOne N.came N.told
+        (Unmoved (M.is_trusted room.new) (M.stands room.old) (M.stands room.new))
+        (Acts M.step zone.now (M.is_trusted room.new) (M.stands room.old) (M.stands room.new))
+        (record {
+          given = C.given clock.old;
+          kept = N.held witness.old;
+          held = W.held writer.old;
+        })
+        (record {
+          given = C.given clock.new;
+          kept = N.held witness.new;
+          held = W.held writer.new;
+        })
+        o result }
 {
-    witness.arrived();
     let Some(at) = moment(clock) else {
         return Err(ServeEnd::ClockFault);
     };
+    if let Err(_) = witness.arrived(arrived, at) {
+        return Err(ServeEnd::Unkept);
+    }
     let mut asked = Asked {
         arrived,
         at,
         who: None,
     };
     match reply(alloc, routes, zone, room, arrived, at, &mut asked.who) {
-        Ok(bytes) => match tell(writer, witness, &asked, bytes.as_slice()) {
-            Ok(()) => Ok(()),
-            Err(_) => Err(ServeEnd::WriteFault),
-        },
+        Ok(bytes) => {
+            let text = bytes.as_slice();
+            if let Err(_) = witness.answering(arrived, text) {
+                return Err(ServeEnd::Unkept);
+            }
+            match tell(writer, witness, &asked, text) {
+                Ok(()) => Ok(()),
+                Err(_) => Err(ServeEnd::WriteFault),
+            }
+        }
         Err(refusal) => match tell(writer, witness, &asked, fixed(refusal, arrived.head_only())) {
             Ok(()) => Err(ServeEnd::Closed),
             Err(_) => Err(ServeEnd::WriteFault),
@@ -80,7 +106,8 @@ fn tell<W: Sink, N: Witness>(
     answer: &[u8],
 ) -> Result<(), WriteFailed>
     requires { W.has_failed writer.old ≡ false }
-    ensures { WritesAll W.held W.has_failed writer.old writer.new answer.now result }
+    ensures written { WritesAll W.held W.has_failed writer.old writer.new answer.now result }
+    ensures kept { N.held witness.new ≡ N.held witness.old }
 {
     let written = write_all(writer, answer);
     witness.answered(asked, answer);

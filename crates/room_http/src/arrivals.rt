@@ -5,11 +5,18 @@ ghost use Rattle.room_http.specs.Arrivals.{Arrival, IsShown, is_head_only, is_cl
 use room_http_messages::messages::Message;
 use room_types::refusals::Refusal;
 
-/// What is to be answered: a message, or what is refused in the place of one.
+/// What is to be answered: a message and its bytes as they came, or what is refused in the place of
+/// one.
 #[derive(Clone, Copy)]
 pub enum Arrived<'inbox> {
-    Message(Message<'inbox>),
-    Refused { refusal: Refusal, head_only: bool },
+    Message {
+        message: Message<'inbox>,
+        bytes: &'inbox [u8],
+    },
+    Refused {
+        refusal: Refusal,
+        head_only: bool,
+    },
 }
 
 impl<'inbox> Arrived<'inbox> {
@@ -18,7 +25,7 @@ impl<'inbox> Arrived<'inbox> {
         ensures { (o : Arrival) → IsShown self.now o → result ≡ is_head_only o }
     {
         match self {
-            Arrived::Message(message) => message.head_only,
+            Arrived::Message { message, .. } => message.head_only,
             Arrived::Refused { head_only, .. } => *head_only,
         }
     }
@@ -28,7 +35,7 @@ impl<'inbox> Arrived<'inbox> {
         ensures { (o : Arrival) → IsShown self.now o → result ≡ closes_after o }
     {
         match self {
-            Arrived::Message(message) => message.closing,
+            Arrived::Message { message, .. } => message.closing,
             Arrived::Refused { .. } => true,
         }
     }

@@ -139,7 +139,7 @@ pub fn event_of<M: Room>(
         result }
 {
     match arrived {
-        Arrived::Message(message) => { asked(alloc, routes, zone, room, message, at, asker) }
+        Arrived::Message { message, .. } => { asked(alloc, routes, zone, room, message, at, asker) }
         Arrived::Refused { refusal, .. } => Err(*refusal),
     }
 }

@@ -1,6 +1,7 @@
 //! A connection that is served.
 ghost use Rattle.std.specs.Prelude.{◌≡◌, false};
 ghost use Rattle.room_service.specs.Rooms.{machine};
+ghost use Rattle.room_http.specs.Kept.{ActsOnEach, KeepsEach};
 ghost use Rattle.room_http.specs.Served.{AreFirst, KeepsPromises};
 ghost use Rattle.room_http.specs.Serving.{MissesNone, ReadsAtMost, ServeIs};
 ghost use Rattle.room_http.specs.Talk.{Stays, Wants};
@@ -32,6 +33,8 @@ pub enum ServeEnd {
     WriteFault,
     /// The clock gave no moment, or a later one than the last of the room.
     ClockFault,
+    /// What was to be kept of a message could not be kept.
+    Unkept,
     /// The reads that were granted are used up.
     ReadsSpent,
     /// Memory was refused before anything was read.
@@ -42,7 +45,8 @@ pub enum ServeEnd {
 /// something fails. It makes at most `budget` reads, and reads the clock once for each message,
 /// after the message is whole or refused. Where the room is the dispatch machine's, what is served
 /// keeps the room's promises, and a stop leaves the room after every answer that was written. So it
-/// is whoever is told of it.
+/// is whoever is told of it. A witness that keeps what it is told keeps each message before the
+/// room acts on it, and its answer before it is written.
 pub fn serve<R: Source, W: Sink, M: Room, C: Clock, N: Witness>(
     alloc: Global,
     reader: &mut R,
@@ -86,6 +90,19 @@ pub fn serve<R: Source, W: Sink, M: Room, C: Clock, N: Witness>(
         (M.stands room.old) (M.stands room.new) (M.leaves_one_of room.new) }
     ensures none_missed { MissesNone (R.left reader.old) (R.left reader.new) (C.given clock.old)
         (C.given clock.new) result }
+    ensures witnessed { KeepsEach N.came N.told
+        (ActsOnEach M.step zone.now (M.is_trusted room.new) (M.stands room.old) (M.stands room.new))
+        (R.left reader.old)
+        (record {
+          given = C.given clock.old;
+          kept = N.held witness.old;
+          held = W.held writer.old;
+        })
+        (record {
+          given = C.given clock.new;
+          kept = N.held witness.new;
+          held = W.held writer.new;
+        }) }
 {
     let Ok(routes) = Routes::new(alloc) else {
         return ServeEnd::Memory;
@@ -97,7 +114,10 @@ pub fn serve<R: Source, W: Sink, M: Room, C: Clock, N: Witness>(
     'messages: loop {
         match read_message(&mut inbox, reader, &mut left) {
             Ok(layout) => {
-                let arrived = Arrived::Message(inbox.message(&layout));
+                let arrived = Arrived::Message {
+                    message: inbox.message(&layout),
+                    bytes: &inbox.bytes()[..layout.body.end],
+                };
                 if let Err(end) = answer(
                     alloc, &routes, zone, &arrived, writer, room, clock, witness,
                 ) {

@@ -1,17 +1,43 @@
-//! Who is told of what is served.
+//! Who is told of what is served, and may keep it.
+ghost use Rattle.std.specs.Prelude.{◌≡◌, ℕ, List, [], Option, None};
+ghost use Rattle.room_http.specs.Arrivals.{IsBounded};
+ghost use Rattle.room_http.specs.Kept.{KeepsAll, came_of, told_of};
 
 use crate::arrivals::Arrived;
 use room_types::asks::Who;
 use room_types::numbers::Moment;
 
-/// Who is told of each arrival and its answer, as a log is. It is told and not asked, so it changes
-/// no answer.
+/// What is told could not be kept.
+#[derive(Clone, Copy)]
+pub struct Unkept;
+
+/// Who is told of each arrival and its answer, as a log and a journal are. It is told and not
+/// asked, so it changes no answer; but where it can't keep what it is told, serving ends. What is
+/// refused in the place of a message is told too, and is not kept.
 pub trait Witness {
-    /// Something has arrived, and is answered next.
-    fn arrived(&mut self);
+    // The bytes that it keeps, where they are known.
+    ghost held: { Self → Option (List ℕ) };
+
+    // What it keeps of a message: its moment, and its bytes as they came.
+    ghost came: { ℕ → List ℕ → List ℕ };
+
+    // What it keeps of the answer's bytes.
+    ghost told: { List ℕ → List ℕ };
+
+    /// Something has arrived. The room acts on it next.
+    fn arrived(&mut self, arrived: &Arrived<'_>, at: Moment) -> Result<(), Unkept>
+        requires { IsBounded arrived.now }
+        ensures { KeepsAll (held self.old) (held self.new) (came_of came arrived.now at) result };
+
+    /// This is its answer, which is written next. Where memory or storage was wanting, this is not
+    /// called.
+    fn answering(&mut self, arrived: &Arrived<'_>, answer: &[u8]) -> Result<(), Unkept>
+        ensures { KeepsAll (held self.old) (held self.new) (told_of told arrived.now answer.now)
+            result };
 
     /// It was answered, and the bytes of its answer were written, or as many of them as were taken.
-    fn answered(&mut self, asked: &Asked<'_>, answer: &[u8]);
+    fn answered(&mut self, asked: &Asked<'_>, answer: &[u8])
+        ensures { held self.new ≡ held self.old };
 }
 
 /// What was asked.
@@ -29,7 +55,19 @@ pub struct Asked<'a> {
 pub struct Nobody;
 
 impl Witness for Nobody {
-    fn arrived(&mut self) {}
+    ghost held = { λ _. None };
+
+    ghost came = { λ _ _. [] };
+
+    ghost told = { λ _. [] };
+
+    fn arrived(&mut self, _arrived: &Arrived<'_>, _at: Moment) -> Result<(), Unkept> {
+        Ok(())
+    }
+
+    fn answering(&mut self, _arrived: &Arrived<'_>, _answer: &[u8]) -> Result<(), Unkept> {
+        Ok(())
+    }
 
     fn answered(&mut self, _asked: &Asked<'_>, _answer: &[u8]) {}
 }

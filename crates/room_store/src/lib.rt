@@ -4,6 +4,7 @@
 mod acting;
 pub mod creating;
 mod deciding;
+pub mod digests;
 mod enrolling;
 pub mod migrating;
 pub mod opening;

@@ -7,7 +7,7 @@ on_ok (Ok a) more is = more a is
 on_ok (Err e) more is = tt
 
 pub returns-clause-whole : goal.returns-clause-whole
-returns-clause-whole g c = IfOk-weaker c.create_file.result _ _ (λ done told. told.1) c.create_file.ensures
+returns-clause-whole g c = IfOk-weaker c.in_file.result _ _ (λ done told. told.1) c.in_file.ensures
 
 pub returns-clause-text : goal.returns-clause-text
-returns-clause-text g c = on_ok c.create_file.result (λ done told. (c.in_ok-plan.plan, told.0)) c.create_file.ensures
+returns-clause-text g c = on_ok c.in_file.result (λ done told. (c.in_ok-plan.plan, told.0)) c.in_file.ensures

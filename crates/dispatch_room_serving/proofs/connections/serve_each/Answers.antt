@@ -1,4 +1,4 @@
-use Rattle.std.proofs.Common.{◌≡◌, ◌∙◌, ◌<◌, ap, arith, length, length-append, refl, sym, [], ◌∷◌, ◌++◌, ◌+◌}
+use Rattle.std.proofs.Common.{◌∙◌, ◌<◌, ap, arith, length, length-append, refl, sym, [], ◌∷◌, ◌++◌, ◌+◌}
 use Rattle.dispatch_room_serving.proofs.ConnectionLaws.{attended_more, attended_none, ends_after, go_on_more, go_on_none}
 use Rattle.dispatch_room_serving.proofs.connections.serve_each.Goals as goal
 

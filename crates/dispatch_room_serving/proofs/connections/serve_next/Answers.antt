@@ -1,4 +1,4 @@
-use Rattle.std.proofs.Common.{◌≡◌, refl, None, Some}
+use Rattle.std.proofs.Common.{refl, None, Some}
 use Rattle.dispatch_room_serving.specs.Connections.{Conversation}
 use Rattle.dispatch_room_serving.proofs.ConnectionLaws.{attended_nothing, attended_one}
 use Rattle.dispatch_room_serving.proofs.connections.serve_next.Goals as goal

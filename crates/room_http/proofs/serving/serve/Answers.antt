@@ -3,10 +3,11 @@ use Rattle.std.specs.Io.KnownBytes.{prepend_known}
 use Rattle.room_http.specs.Arrivals.{message, refused}
 use Rattle.room_http.specs.declared.serving.ServeEnd.TheVariants.{Closed, Cut, ReadFault, ReadsSpent}
 use Rattle.room_http.specs.Serving.{Finish}
+use Rattle.room_http.proofs.KeptLemmas.{Noted-breaks, Noted-closes, Noted-ends, Noted-kept, Noted-more, Noted-none}
 use Rattle.room_http.proofs.ServeLemmas.{Going-none, Going-kept, Going-more, Going-ends, closes, ends, ends_missing_none, leaves_part}
 use Rattle.room_http.proofs.ServedLaws.{none_served, promised}
 use Rattle.room_http_messages.proofs.StreamLemmas.{Appends-none}
-use Rattle.room_http.proofs.StreamLemmas.{CountsBy-none, Keeps-prepend, reads_by, message_passes, refusal_passes, nothing_left}
+use Rattle.room_http.proofs.StreamLemmas.{CountsBy-none, Keeps-prepend, reads_by, message_alone, message_passes, refusal_passes, nothing_left}
 use Rattle.room_http.proofs.serving.serve.Goals as goal
 use Rattle.room_http.proofs.serving.serve.Goals.{in-Ok-answer, in-Err-answer}
 
@@ -15,6 +16,7 @@ messages-init g c =
     let none : c.args.budget - c.args.budget ≡ 0 = omega arith in
     record {
       going = ([], Going-kept _ _ _ _ _ _ _ _ _ _ _ (Going-none g.M.Room.step c.args.zone.now _ _ _ _ (λ terminals room standing. (standing, λ was. g.met.M.Room.leaves_it _ terminals room was standing))) (Keeps-prepend _ _ c.in-Ok-new.ensures));
+      noted = ([], Noted-kept _ _ _ _ _ _ _ _ _ _ _ _ _ (Noted-none g.N.Witness.came g.N.Witness.told g.M.Room.step c.args.zone.now _ _ _ _) (Keeps-prepend _ _ c.in-Ok-new.ensures));
       trusted = λ trust. trust;
       kept = λ trust was. was;
       spent = omega arith;
@@ -36,7 +38,7 @@ returns-in-Err-clause-talk g c =
     let going = c.messages.invariant.going in
     let kept = Going-kept _ _ _ _ _ _ _ _ _ _ _ going.1 c.read_message.ensures.read.same in
     ends _ _ _ _ _ _ _ (g.M.Room.leaves_one_of c.messages.room) _ _ _ going.0 kept _ _ _ _ (g.M.Room.leaves_one_of c.answer.new.room) c.in-Err.ensures.trusted (λ trust. c.messages.invariant.kept (c.in-Err.ensures.trusted trust)) (prepend_known (drop end bytes) left) (message whole.0)
-    (message_passes bytes (drop end bytes) left whole.0 end whole.1 refl) _ _ (c.in-Err.ensures.answers (message whole.0) (c.message.ensures whole.0 whole.2))
+    (message_passes bytes (drop end bytes) left whole.0 end whole.1 refl) _ _ (c.in-Err.ensures.answers (message whole.0) (c.message.ensures whole.0 whole.2, message_alone c.read_message.new.inbox c.bytes.result.now c.in-Ok-read_message.layout whole.0 whole.1 whole.2 whole.3.content.1 c.bytes.ensures.value c.bytes.ensures.fits))
 
 pub returns-then-layout-clause-reads : goal.returns-then-layout-clause-reads
 returns-then-layout-clause-reads g c = (_, omega arith, reads_by _ _ _ _ _ _ c.messages.invariant.spent c.read_message.ensures.read.spent c.messages.invariant.reads c.read_message.ensures.read.count)
@@ -50,7 +52,7 @@ returns-then-layout-clause-talk g c =
     let going = c.messages.invariant.going in
     let kept = Going-kept _ _ _ _ _ _ _ _ _ _ _ going.1 c.read_message.ensures.read.same in
     closes _ _ _ _ _ _ _ (g.M.Room.leaves_one_of c.messages.room) _ _ _ going.0 kept _ _ _ _ (g.M.Room.leaves_one_of c.answer.new.room) c.in_default-answer.ensures.trusted (λ trust. c.messages.invariant.kept (c.in_default-answer.ensures.trusted trust)) (prepend_known (drop end bytes) left) (message whole.0)
-    (message_passes bytes (drop end bytes) left whole.0 end whole.1 refl) c.args.budget (c.in_default-answer.ensures.answers (message whole.0) (c.message.ensures whole.0 whole.2))
+    (message_passes bytes (drop end bytes) left whole.0 end whole.1 refl) c.args.budget (c.in_default-answer.ensures.answers (message whole.0) (c.message.ensures whole.0 whole.2, message_alone c.read_message.new.inbox c.bytes.result.now c.in-Ok-read_message.layout whole.0 whole.1 whole.2 whole.3.content.1 c.bytes.ensures.value c.bytes.ensures.fits))
     (sym whole.2.closing ∙ c.if-layout.true)
 
 pub messages-preserved : goal.messages-preserved
@@ -61,7 +63,8 @@ messages-preserved g c =
     let left = g.R.Source.left c.read_message.new.reader in
     let going = c.messages.invariant.going in
     let kept = Going-kept _ _ _ _ _ _ _ _ _ _ _ going.1 c.read_message.ensures.read.same in
-    let answers = c.in_default-answer.ensures.answers (message whole.0) (c.message.ensures whole.0 whole.2) in
+    let noted = Noted-kept _ _ _ _ _ _ _ _ _ _ _ _ _ c.messages.invariant.noted.1 c.read_message.ensures.read.same in
+    let answers = c.in_default-answer.ensures.answers (message whole.0) (c.message.ensures whole.0 whole.2, message_alone c.read_message.new.inbox c.bytes.result.now c.in-Ok-read_message.layout whole.0 whole.1 whole.2 whole.3.content.1 c.bytes.ensures.value c.bytes.ensures.fits) in
     let new : Finish = record {
       reads = None;
       held = g.W.Sink.held c.answer.new.writer;
@@ -75,6 +78,8 @@ messages-preserved g c =
       going = Going-more _ _ _ _ _ _ _ (g.M.Room.leaves_one_of c.messages.room) _ _ _ going.0 kept new _ _ (g.M.Room.stands c.answer.new.room) (g.M.Room.leaves_one_of c.answer.new.room) c.in_default-answer.ensures.trusted
           (λ trust. c.messages.invariant.kept (c.in_default-answer.ensures.trusted trust)) (prepend_known c.remove.new.self left) (message whole.0)
           (message_passes bytes c.remove.new.self left whole.0 end whole.1 c.remove.ensures) answers (sym whole.2.closing ∙ c.if-layout.false);
+      noted = Noted-more _ _ _ _ _ _ _ _ _ _ _ _ (g.M.Room.stands c.answer.new.room) c.in_default-answer.ensures.trusted _ noted _ (prepend_known c.remove.new.self left) (message whole.0) (message_passes bytes c.remove.new.self left whole.0 end whole.1 c.remove.ensures)
+          (c.in_default-answer.ensures.witnessed (message whole.0) (c.message.ensures whole.0 whole.2, message_alone c.read_message.new.inbox c.bytes.result.now c.in-Ok-read_message.layout whole.0 whole.1 whole.2 whole.3.content.1 c.bytes.ensures.value c.bytes.ensures.fits)) (sym whole.2.closing ∙ c.if-layout.false);
       trusted = λ trust. c.messages.invariant.trusted (c.in_default-answer.ensures.trusted trust);
       kept = λ trust was. c.in_default-answer.ensures.kept trust (c.messages.invariant.kept (c.in_default-answer.ensures.trusted trust) was);
       spent = omega (arith, c.messages.invariant.spent, c.read_message.ensures.read.spent);
@@ -193,3 +198,60 @@ returns-in_default-clause-promised g c same = none_served _ _ _ _ _ _ _ (g.met.M
 
 pub returns-in_default-new-clause-promised : goal.returns-in_default-new-clause-promised
 returns-in_default-new-clause-promised g c same = none_served _ _ _ _ _ _ _ (g.met.M.Room.fits _) (g.met.M.Room.leaves_it _) ((λ stream known. (stream, refl)), ([], Appends-none _))
+
+pub returns-in-Err-clause-witnessed : goal.returns-in-Err-clause-witnessed
+returns-in-Err-clause-witnessed g c =
+    let whole = c.in-Ok-read_message.ensures.says.0 in
+    let end = c.in-Ok-read_message.layout.body.end in
+    let bytes = c.read_message.new.inbox in
+    let left = g.R.Source.left c.read_message.new.reader in
+    let noted = Noted-kept _ _ _ _ _ _ _ _ _ _ _ _ _ c.messages.invariant.noted.1 c.read_message.ensures.read.same in
+    Noted-breaks _ _ _ _ _ _ _ _ _ _ _ _ (g.M.Room.stands c.answer.new.room) c.in-Err.ensures.trusted _ noted _ (prepend_known (drop end bytes) left) (message whole.0) (message_passes bytes (drop end bytes) left whole.0 end whole.1 refl) _
+    (c.in-Err.ensures.witnessed (message whole.0) (c.message.ensures whole.0 whole.2, message_alone c.read_message.new.inbox c.bytes.result.now c.in-Ok-read_message.layout whole.0 whole.1 whole.2 whole.3.content.1 c.bytes.ensures.value c.bytes.ensures.fits))
+
+pub returns-then-layout-clause-witnessed : goal.returns-then-layout-clause-witnessed
+returns-then-layout-clause-witnessed g c =
+    let whole = c.in-Ok-read_message.ensures.says.0 in
+    let end = c.in-Ok-read_message.layout.body.end in
+    let bytes = c.read_message.new.inbox in
+    let left = g.R.Source.left c.read_message.new.reader in
+    let noted = Noted-kept _ _ _ _ _ _ _ _ _ _ _ _ _ c.messages.invariant.noted.1 c.read_message.ensures.read.same in
+    Noted-closes _ _ _ _ _ _ _ _ _ _ _ _ (g.M.Room.stands c.answer.new.room) c.in_default-answer.ensures.trusted _ noted _ (prepend_known (drop end bytes) left) (message whole.0) (message_passes bytes (drop end bytes) left whole.0 end whole.1 refl)
+    (c.in_default-answer.ensures.witnessed (message whole.0) (c.message.ensures whole.0 whole.2, message_alone c.read_message.new.inbox c.bytes.result.now c.in-Ok-read_message.layout whole.0 whole.1 whole.2 whole.3.content.1 c.bytes.ensures.value c.bytes.ensures.fits))
+
+pub returns-in-Err-Refused-clause-witnessed : goal.returns-in-Err-Refused-clause-witnessed
+returns-in-Err-Refused-clause-witnessed g c =
+    let r = c.in-Err-Refused.refusal in
+    let head_only = c.in-Err-Refused.head_only in
+    let bytes = c.read_message.new.inbox in
+    let left = g.R.Source.left c.read_message.new.reader in
+    let noted = Noted-kept _ _ _ _ _ _ _ _ _ _ _ _ _ c.messages.invariant.noted.1 c.read_message.ensures.read.same in
+    let says = (rw c.in-Err-Refused.field-0-is at c.in-Err-Refused.ensures.says) in
+    elim c.match-answer-2.branch [
+      | in-Ok-answer w ↦ Noted-closes _ _ _ _ _ _ _ _ _ _ _ _ (g.M.Room.stands c.answer-in-Err-Refused.new.room) w.in-Ok-answer.ensures.trusted _ noted _ (prepend_known bytes left) (refused r head_only) (refusal_passes bytes left r head_only says.0)
+          (w.in-Ok-answer.ensures.witnessed (refused r head_only) ((cc), (cc)))
+      | in-Err-answer w ↦ Noted-breaks _ _ _ _ _ _ _ _ _ _ _ _ (g.M.Room.stands c.answer-in-Err-Refused.new.room) w.in-Err-answer.ensures.trusted _ noted _ (prepend_known bytes left) (refused r head_only) (refusal_passes bytes left r head_only says.0) _
+          (w.in-Err-answer.ensures.witnessed (refused r head_only) ((cc), (cc)))
+    ]
+
+pub returns-in-Err-End-clause-witnessed : goal.returns-in-Err-End-clause-witnessed
+returns-in-Err-End-clause-witnessed g c =
+    Noted-ends _ _ _ _ _ _ _ _ _ _ _ _ (Noted-kept _ _ _ _ _ _ _ _ _ _ _ _ _ c.messages.invariant.noted.1 c.read_message.ensures.read.same)
+
+pub returns-in-Err-Cut-clause-witnessed : goal.returns-in-Err-Cut-clause-witnessed
+returns-in-Err-Cut-clause-witnessed g c =
+    Noted-ends _ _ _ _ _ _ _ _ _ _ _ _ (Noted-kept _ _ _ _ _ _ _ _ _ _ _ _ _ c.messages.invariant.noted.1 c.read_message.ensures.read.same)
+
+pub returns-in-Err-ReadFault-clause-witnessed : goal.returns-in-Err-ReadFault-clause-witnessed
+returns-in-Err-ReadFault-clause-witnessed g c =
+    Noted-ends _ _ _ _ _ _ _ _ _ _ _ _ (Noted-kept _ _ _ _ _ _ _ _ _ _ _ _ _ c.messages.invariant.noted.1 c.read_message.ensures.read.same)
+
+pub returns-in-Err-ReadsSpent-clause-witnessed : goal.returns-in-Err-ReadsSpent-clause-witnessed
+returns-in-Err-ReadsSpent-clause-witnessed g c =
+    Noted-ends _ _ _ _ _ _ _ _ _ _ _ _ (Noted-kept _ _ _ _ _ _ _ _ _ _ _ _ _ c.messages.invariant.noted.1 c.read_message.ensures.read.same)
+
+pub returns-in_default-clause-witnessed : goal.returns-in_default-clause-witnessed
+returns-in_default-clause-witnessed g c = Noted-ends _ _ _ _ _ _ _ _ _ _ _ _ (Noted-none g.N.Witness.came g.N.Witness.told g.M.Room.step c.args.zone.now _ _ _ _)
+
+pub returns-in_default-new-clause-witnessed : goal.returns-in_default-new-clause-witnessed
+returns-in_default-new-clause-witnessed g c = Noted-ends _ _ _ _ _ _ _ _ _ _ _ _ (Noted-none g.N.Witness.came g.N.Witness.told g.M.Room.step c.args.zone.now _ _ _ _)

@@ -3,6 +3,7 @@ use Rattle.std.specs.Io.KnownBytes.{prepend_known}
 use Rattle.room_http_messages.specs.declared.limits.TheConstants.{INBOX_ROOM}
 use Rattle.room_http_messages.specs.Streams.{CountsBy}
 use Rattle.room_http.specs.Talk.{Stays, Timed}
+use Rattle.room_http.proofs.KeptLemmas.{Noted}
 use Rattle.room_http.proofs.ServeLemmas.{Going}
 use Rattle.room_http.proofs.serving.serve.Given as goal
 
@@ -12,6 +13,11 @@ invariant-messages g l = record {
       (record { left = g.R.Source.left l.initial.reader; reads = g.R.Source.reads l.initial.reader; held = g.W.Sink.held l.initial.writer; given = g.C.Clock.given l.initial.clock })
       (prepend_known l.inbox (g.R.Source.left l.reader)) (g.W.Sink.held l.writer) (g.C.Clock.given l.clock)
       (g.M.Room.is_trusted l.room) (g.M.Room.stands l.initial.room) (Stays (g.M.Room.is_kept l.initial.room) (g.M.Room.stands l.room) (g.M.Room.leaves_one_of l.room)) outs;
+  noted : (outs : List Timed) × Noted g.N.Witness.came g.N.Witness.told g.M.Room.step l.zone (g.R.Source.left l.initial.reader)
+      (record { given = g.C.Clock.given l.initial.clock; kept = g.N.Witness.held l.initial.witness; held = g.W.Sink.held l.initial.writer })
+      (prepend_known l.inbox (g.R.Source.left l.reader))
+      (record { given = g.C.Clock.given l.clock; kept = g.N.Witness.held l.witness; held = g.W.Sink.held l.writer })
+      (g.M.Room.is_trusted l.room) (g.M.Room.stands l.initial.room) (g.M.Room.stands l.room) outs;
   trusted : g.M.Room.is_trusted l.room → g.M.Room.is_trusted l.initial.room;
   kept : g.M.Room.is_trusted l.room → g.M.Room.is_kept l.initial.room → g.M.Room.is_kept l.room;
   spent : l.left ≤ l.budget;

@@ -1,0 +1,9 @@
+pub mod TextLemmas
+pub mod DigestLemmas
+pub mod NumberLemmas
+pub mod LineLemmas
+pub mod PartLemmas
+pub mod EntryLemmas
+pub mod WritingLemmas
+pub mod ReadingLemmas
+pub mod EndLemmas

@@ -1,0 +1,53 @@
+use Rattle.std.proofs.Common.{◌≡◌, ◌∙◌, ap, ◌+◌, ◌++◌, ◌∷◌, [], min, inl, inr, rules}
+use Rattle.dispatch_room_journal.specs.Ends.{EndsWhole, most_bytes}
+use Rattle.dispatch_room_journal.proofs.EndLemmas.{nothing_taken, taken_kept, taken_more}
+use Rattle.dispatch_room_journal.proofs.ends.whole_bytes.Goals as goal
+
+pub entries-init : goal.entries-init
+entries-init g c = record {
+  taken = ([], rw (c.requires.kept, c.requires.taken) (nothing_taken _));
+  sound = c.requires.sound;
+}
+
+pub entries-preserved : goal.entries-preserved
+entries-preserved g c =
+    let read = c.in-Ok-Some.ensures.read in
+    let says = (rw c.in-Ok-Some.field-0-is at read.says) in
+    let found = says.0 in
+    let taken = c.entries.invariant.taken in
+    let kept = taken_kept _ _ _ _ _ taken.1 read.same in
+    record {
+      taken = (
+        taken.0 ++ found.0 ∷ [],
+        rw c.remove.ensures.kept (taken_more _ _ _ _ _ taken.0 _ found.0 kept found.1 (c.remove.ensures.taken ∙ ap (λ n. min (n + c.in-Ok-Some.layout.end) most_bytes) c.in-Ok-Some.ensures.taken)),
+      );
+      sound = says.1;
+    }
+
+pub returns-in-Ok-None : goal.returns-in-Ok-None
+returns-in-Ok-None g c = λ text known.
+    let taken = c.entries.invariant.taken in
+    let follows = taken.1.follows text known in
+    let first = (rw c.in-Ok-None.field-0-is at (c.in-Ok-None.ensures.read.first follows.0 follows.1)) in
+    record {
+      entries = taken.0;
+      rest = follows.0;
+      are_entries = taken.1.are_entries;
+      is = follows.2;
+      count = c.taken.ensures ∙ c.in-Ok-None.ensures.taken ∙ taken.1.count;
+      end = inl first;
+    }
+
+pub returns-in-Err-Cut : goal.returns-in-Err-Cut
+returns-in-Err-Cut g c = λ text known.
+    let taken = c.entries.invariant.taken in
+    let follows = taken.1.follows text known in
+    let first = (rw c.in-Err-Cut.field-0-is at (c.in-Err-Cut.ensures.read.first follows.0 follows.1)) in
+    record {
+      entries = taken.0;
+      rest = follows.0;
+      are_entries = taken.1.are_entries;
+      is = follows.2;
+      count = c.taken-in-Err-Cut.ensures ∙ c.in-Err-Cut.ensures.taken ∙ taken.1.count;
+      end = inr first.1;
+    }

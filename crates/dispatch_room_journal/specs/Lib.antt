@@ -1,0 +1,7 @@
+pub mod Backlogs
+pub mod Entries
+pub mod Parts
+pub mod Looks
+pub mod Readings
+pub mod Laws
+pub mod Ends

@@ -1,0 +1,27 @@
+//! Where the whole entries of a journal end.
+ghost use Rattle.std.specs.Prelude.{◌≡◌, ℕ, List, [], false, Option, Some, IfOk};
+ghost use Rattle.dispatch_room_journal.specs.Ends.{EndsWhole};
+
+use crate::inbox::JournalInbox;
+use crate::reading::{Fault, read_entry};
+use room_http_messages::sources::Source;
+
+/// How many bytes the whole entries are with which a journal begins, read by an inbox that is new.
+/// What follows them is nothing, or an entry that was cut off; where it is anything else, the
+/// journal is none.
+pub fn whole_bytes<R: Source>(inbox: &mut JournalInbox, reader: &mut R) -> Result<u64, Fault>
+    requires sound { R.has_failed reader.old ≡ false }
+    requires kept { inbox.old.kept ≡ [] }
+    requires taken { inbox.old.taken ≡ 0 }
+    ensures { (text : List ℕ) → R.left reader.old ≡ Some text → IfOk result (EndsWhole text) }
+{
+    'entries: for _entry in 0..u64::MAX {
+        match read_entry(inbox, reader) {
+            Ok(Some(layout)) => inbox.remove(&layout),
+            Ok(None) => return Ok(inbox.taken()),
+            Err(Fault::Cut) => return Ok(inbox.taken()),
+            Err(fault) => return Err(fault),
+        }
+    }
+    Err(Fault::Read)
+}

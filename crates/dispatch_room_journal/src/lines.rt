@@ -1,0 +1,101 @@
+//! The line that begins an entry.
+ghost use Rattle.std.specs.Prelude.{◌≡◌, ◌∷◌, ◌++◌, codes, MatchOption};
+ghost use Rattle.dispatch_room_journal.specs.declared.lines.Line.{Line};
+ghost use Rattle.dispatch_room_journal.specs.Entries.{IsDigest, IsLine, line_text};
+ghost use Rattle.dispatch_room_journal.specs.Parts.{AreNumbers, IsLineText, Lacks};
+
+use crate::digests::are_digest_digits;
+use crate::numbers::number;
+use memchr::memchr;
+use room_http_messages::limits::INBOX_ROOM;
+use room_types::numbers::Moment;
+
+/// The last moment, as of `Moment`.
+pub const LAST_MOMENT: u32 = 4_102_444_799;
+
+/// The least status of an answer.
+pub const LEAST_STATUS: u32 = 100;
+
+/// The greatest status of an answer.
+pub const GREATEST_STATUS: u32 = 999;
+
+/// The bytes of the longest message.
+pub const LONGEST: u32 = INBOX_ROOM as u32;
+
+/// The digits of a digest.
+pub const DIGEST_DIGITS: usize = 64;
+
+/// What an entry's line says.
+#[derive(Clone, Copy)]
+pub enum Line {
+    /// A part begins, at a room whose rows have this digest, in digits.
+    Room([u8; DIGEST_DIGITS]),
+    /// A message that was answered came at this moment, and has so many bytes.
+    Message { at: Moment, size: usize },
+    /// The message before it was answered with this status.
+    Answer(u16),
+}
+
+/// What stands before the first `mark`, and what stands after it.
+pub fn cut(bytes: &[u8], mark: u8) -> Option<(&[u8], &[u8])>
+    ensures { MatchOption result (Lacks mark bytes.now) (λ parts.
+        Lacks mark parts.0.now × (bytes.now ≡ parts.0.now ++ mark ∷ parts.1.now)) }
+{
+    match memchr(mark, bytes) {
+        Some(at) => Some((&bytes[..at], &bytes[at + 1..])),
+        None => None,
+    }
+}
+
+/// The line of a digest.
+fn room_line(digits: &[u8]) -> Option<Line>
+    ensures { MatchOption result (¬ (IsDigest digits.now))
+        (λ line. IsLine line × (codes "room 1 " ++ digits.now ≡ line_text line)) }
+{
+    if digits.len() != DIGEST_DIGITS || !are_digest_digits(digits) {
+        return None;
+    }
+    let mut digest = [0; DIGEST_DIGITS];
+    digest.copy_from_slice(digits);
+    Some(Line::Room(digest))
+}
+
+/// The line of a moment and a number of bytes.
+fn message_line(numbers: &[u8]) -> Option<Line>
+    ensures { MatchOption result (¬ (AreNumbers numbers.now))
+        (λ line. IsLine line × (codes "message " ++ numbers.now ≡ line_text line)) }
+{
+    let Some((at, size)) = cut(numbers, b' ') else {
+        return None;
+    };
+    let Some(at) = number(at, 0, LAST_MOMENT) else {
+        return None;
+    };
+    let Some(size) = number(size, 1, LONGEST) else {
+        return None;
+    };
+    Some(Line::Message {
+        at: Moment::of(at),
+        size: size as usize,
+    })
+}
+
+/// What the line says of which these are the bytes, without the line end.
+pub fn line_in(bytes: &[u8]) -> Option<Line>
+    ensures { MatchOption result (¬ (IsLineText bytes.now))
+        (λ line. IsLine line × (bytes.now ≡ line_text line)) }
+{
+    if let Some(digits) = bytes.strip_prefix(b"room 1 ") {
+        return room_line(digits);
+    }
+    if let Some(numbers) = bytes.strip_prefix(b"message ") {
+        return message_line(numbers);
+    }
+    let Some(digits) = bytes.strip_prefix(b"answer ") else {
+        return None;
+    };
+    match number(digits, LEAST_STATUS, GREATEST_STATUS) {
+        Some(status) => Some(Line::Answer(status as u16)),
+        None => None,
+    }
+}

@@ -1,0 +1,125 @@
+-- Lemmas on answers that are written as their messages are played.
+use Rattle.std.proofs.Common.{◌≡◌, ◌∙◌, sym, ap, subst, refl, ℕ, List, [], ◌∷◌, ◌++◌, append-nil, Bool, true, false, Option, None, ◌⊎◌, inl, inr, Ok}
+use Rattle.std.specs.Prelude.{⊤}
+use Rattle.std.specs.List.{flat_map}
+use Rattle.std.specs.Io.KnownBytes.{Appends, Consumes, Keeps}
+use Rattle.std.proofs.KnownBytes.{Consumes-kept}
+use Rattle.std.proofs.lemmas.Grind.{flat_map-append}
+use Rattle.room_types.specs.declared.fleet.Terminal.{Terminal}
+use Rattle.room_model.specs.Room.{Room}
+use Rattle.room_http_messages.proofs.StreamLemmas.{Appends-more}
+use Rattle.room_http_time.specs.declared.zones.Zone.{Zone}
+use Rattle.room_http.specs.Talk.{IsFront}
+use Rattle.room_service.specs.Rooms.{Step}
+use Rattle.dispatch_room_journal.specs.Entries.{Entry, message, answer, IsEntry, texts_of}
+use Rattle.dispatch_room_replaying.specs.declared.progress.Progress.{Progress}
+use Rattle.dispatch_room_replaying.specs.Turns.{Play, Turn, answered, tried, plays_in, plays_of, has_message, is_left_out, status_in, IsPlay, IsTurn, IsPlayed, AreBy, BeginsWith}
+use Rattle.dispatch_room_replaying.specs.Replays.{DigestOf, Leads}
+use Rattle.dispatch_room_replaying.specs.Steps.{Stays, Passes, StopsIn}
+use Rattle.dispatch_room_replaying.specs.Frames.{frame_of, frames_of, FollowIs}
+use Rattle.dispatch_room_replaying.proofs.StepLemmas.{WasPlayed}
+use Rattle.dispatch_room_replaying.proofs.EntryLemmas.{taken_two}
+use Rattle.dispatch_room_replaying.proofs.TurnLemmas.{one_by, two_by, all_one, begun-append, begun_by, keeps_begins, keeps_consumes, Leads-after, passes_one, stops_none}
+
+-- frames, one after another
+pub frames_append : (us ts : List Turn) → frames_of us ++ frames_of ts ≡ frames_of (us ++ ts)
+frames_append us ts =
+    sym (ap (λ (ps : List Play). flat_map (λ p. frame_of p.told) ps) (flat_map-append plays_in us ts) ∙ flat_map-append (λ p. frame_of p.told) (plays_of us) (plays_of ts))
+
+pub frames_more : (a b c : Option (List ℕ)) (us ts : List Turn) → Appends a b (frames_of us) → Appends b c (frames_of ts) → Appends a c (frames_of (us ++ ts))
+frames_more a b c us ts first second = subst (λ (t : List ℕ). Appends a c t) (frames_append us ts) (Appends-more a b c (frames_of us) (frames_of ts) first second)
+
+module _ (step : Step) (zone : Zone) (digest_of : DigestOf) (trusted : Type 0) (stood stands : List Terminal → Room → Type 0) (before : Option (List ℕ)) (held holds : Option (List ℕ)) (at : ℕ) (sent told slice : List ℕ)
+    (x : WasPlayed step zone trusted stood stands at sent told) (same : slice ≡ told) (is : IsEntry (message at sent)) where
+  leads_tried : Leads step zone digest_of trusted stood stands (tried x.0 ∷ [])
+  leads_tried trust terminals room stood_for = let y = x.5 trust terminals room stood_for in (y.0, (y.0, y.1, refl), y.2)
+
+  leads_answered : (status : ℕ) → Leads step zone digest_of trusted stood stands (answered x.0 status ∷ [])
+  leads_answered status trust terminals room stood_for = let y = x.5 trust terminals room stood_for in (y.0, (y.0, y.1, refl), y.2)
+
+  told_same : x.0.told ≡ slice
+  told_same = x.3 ∙ sym same
+
+  -- the answer was not written wholly, or what follows it was no entry, or another status
+  pub each_stops : BeginsWith before (message at sent ∷ []) (λ rest. ⊤) → (front rest : List ℕ) → frame_of slice ≡ front ++ rest → Appends held holds front
+      → (p : Play) × IsPlay p × AreBy None (message p.at p.sent ∷ []) × BeginsWith before (message p.at p.sent ∷ []) (λ rest. ⊤)
+      × Leads step zone digest_of trusted stood stands (tried p ∷ [])
+      × ((front : List ℕ) × IsFront front (frames_of (tried p ∷ [])) × Appends held holds front)
+  each_stops begins front rest split wrote =
+      let all : message at sent ∷ [] ≡ message x.0.at x.0.sent ∷ [] = λ i. message (sym x.1 i) (sym x.2 i) ∷ [] in (
+        x.0,
+        x.4,
+        subst (λ (l : List Entry). AreBy None l) all (one_by None at sent sent tt is),
+        subst (λ (l : List Entry). BeginsWith before l (λ rest. ⊤)) all begins,
+        leads_tried,
+        (front, (rest, append-nil (frame_of x.0.told) ∙ ap frame_of told_same ∙ split), wrote),
+      )
+
+  module _ (mid after : Option (List ℕ)) (failed : Bool) (took_message : Consumes before mid (texts_of (message at sent ∷ []))) (wrote : Appends held holds (frame_of slice)) where
+    wrote_one : Appends held holds (frame_of x.0.told ++ [])
+    wrote_one = subst (λ (t : List ℕ). Appends held holds t) (sym (append-nil (frame_of x.0.told) ∙ ap frame_of told_same)) wrote
+
+    -- the answer was written, and a status that follows it is the answer's
+    pub each_done : (took : Bool) → FollowIs mid after failed slice (Ok took)
+        → (t : Turn) × Passes step zone digest_of trusted stood stands before after None IsPlayed (t ∷ []) × (has_message t ≡ true) × (is_left_out t ≡ false) × (failed ≡ false)
+        × Appends held holds (frames_of (t ∷ []))
+    each_done true f = (
+      answered x.0 f.0,
+      passes_one step zone digest_of trusted stood stands before after None IsPlayed (answered x.0 f.0) (message at sent ∷ answer f.0 ∷ []) (x.4, ap status_in told_same ∙ f.1) tt
+          (λ i. message (x.1 i) (x.2 i) ∷ answer f.0 ∷ []) (two_by None at sent sent (answer f.0) tt is tt f.2) (taken_two before mid after (message at sent) (answer f.0) took_message f.3)
+          (leads_answered f.0),
+      refl,
+      refl,
+      f.4,
+      wrote_one,
+    )
+    each_done false f = (
+      tried x.0,
+      passes_one step zone digest_of trusted stood stands before after None IsPlayed (tried x.0) (message at sent ∷ []) x.4 tt
+          (λ i. message (x.1 i) (x.2 i) ∷ []) (one_by None at sent sent tt is) (Consumes-kept before mid after (texts_of (message at sent ∷ [])) took_message f.0)
+          leads_tried,
+      refl,
+      refl,
+      f.1,
+      wrote_one,
+    )
+
+module _ (step : Step) (zone : Zone) (digest_of : DigestOf) (early late : Type 0) (earlier : late → early) (stood middle stands : List Terminal → Room → Type 0) (before mid after : Option (List ℕ))
+    (stays : Stays early stood middle) (same : Keeps before mid) where
+  pub passes_after : (Kind : Turn → Type 0) (ts : List Turn) → Passes step zone digest_of late middle stands mid after None Kind ts → Passes step zone digest_of late stood stands before after None Kind ts
+  passes_after Kind ts x = record {
+    turns = x.turns;
+    kinds = x.kinds;
+    entries = x.entries;
+    read = keeps_consumes before mid after _ same x.read;
+    leads = Leads-after step zone digest_of early late stood middle stands ts earlier stays x.leads;
+  }
+
+  pub turn_stops : (held holds : Option (List ℕ)) (old : Progress) → old.is_begun ≡ true
+      → (Stays late middle stands × Appends held holds [])
+      ⊎ ((p : Play) × IsPlay p × AreBy None (message p.at p.sent ∷ []) × BeginsWith mid (message p.at p.sent ∷ []) (λ rest. ⊤)
+      × Leads step zone digest_of late middle stands (tried p ∷ [])
+      × ((front : List ℕ) × IsFront front (frames_of (tried p ∷ [])) × Appends held holds front))
+      → (last : List Turn) × StopsIn step zone digest_of late stood stands before after None old last
+      × (front : List ℕ) × IsFront front (frames_of last) × Appends held holds front
+  turn_stops held holds old begun (inl x) = (
+    [],
+    stops_none step zone digest_of late stood stands before after None old (λ trust terminals room stood_for. x.0 trust terminals room (stays (earlier trust) terminals room stood_for)),
+    [],
+    ([], refl),
+    x.1,
+  )
+  turn_stops held holds old begun (inr x) = (
+    tried x.0 ∷ [],
+    record {
+      few = inr (x.0, refl);
+      turns = all_one IsTurn (tried x.0) x.1;
+      entries = x.2;
+      begins = keeps_begins before mid (message x.0.at x.0.sent ∷ []) (λ rest. ⊤) same x.3;
+      begun = λ us y. inr (begun-append us (tried x.0 ∷ []) (begun_by old.is_begun us begun y.begun));
+      leads = Leads-after step zone digest_of early late stood middle stands (tried x.0 ∷ []) earlier stays x.4;
+    },
+    x.5.0,
+    x.5.1,
+    x.5.2,
+  )

@@ -1,0 +1,5 @@
+pub mod StepLemmas
+pub mod EntryLemmas
+pub mod TurnLemmas
+pub mod LawLemmas
+pub mod FrameLemmas

@@ -1,0 +1,19 @@
+use Rattle.std.proofs.Common.{refl}
+use Rattle.dispatch_room_journal.specs.Entries.{room}
+use Rattle.dispatch_room_replaying.proofs.StepLemmas.{left_turn, caught_turn, stops_later}
+use Rattle.dispatch_room_replaying.proofs.settling.catch_up.Goals as goal
+
+pub returns-in-Ok-true-clause-turn : goal.returns-in-Ok-true-clause-turn
+returns-in-Ok-true-clause-turn g c = left_turn _ _ _ _ _ _ _ _ c.is_at.ensures.same
+
+pub returns-in-Ok-clause-turn : goal.returns-in-Ok-clause-turn
+returns-in-Ok-clause-turn g c = (
+  room c.args.digest.now,
+  tt,
+  refl,
+  caught_turn _ _ _ _ _ c.play_open.ensures.trusted _ _ _ _ _ _ c.in-Ok-false.field-0 c.is_at.ensures.same c.in-Ok-false.ensures.says c.in-Ok-false.field-0-test c.in-Ok.ensures.turn,
+)
+
+pub returns-in-Err-play_open-clause-turn : goal.returns-in-Err-play_open-clause-turn
+returns-in-Err-play_open-clause-turn g c =
+    stops_later _ _ g.M.Digested.digest_of _ _ c.play_open.ensures.trusted _ _ _ _ _ c.is_at.ensures.same c.in-Err-play_open.ensures.turn

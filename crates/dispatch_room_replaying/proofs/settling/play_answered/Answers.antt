@@ -1,0 +1,12 @@
+use Rattle.std.proofs.Common.{sym, ap, ◌∙◌}
+use Rattle.dispatch_room_replaying.specs.Turns.{status_in}
+use Rattle.dispatch_room_replaying.proofs.StepLemmas.{answered_turn, played_stops}
+use Rattle.dispatch_room_replaying.proofs.settling.play_answered.Goals as goal
+
+pub returns-then-has_status-clause-turn : goal.returns-then-has_status-clause-turn
+returns-then-has_status-clause-turn g c =
+    answered_turn _ _ _ _ _ _ _ _ c.in-Ok.told.items c.args.status c.in-Ok.ensures.plays
+    (ap status_in (sym c.as_slice.ensures.value) ∙ c.has_status.ensures.0 c.if-has_status.true)
+
+pub returns-in-Ok-clause-turn : goal.returns-in-Ok-clause-turn
+returns-in-Ok-clause-turn g c = played_stops _ _ g.M.Digested.digest_of _ _ _ _ _ c.in-Ok.told.items c.in-Ok.ensures.plays

@@ -1,0 +1,133 @@
+-- What each step of a replay does.
+use Rattle.std.specs.Prelude.{◌≡◌, ◌⊎◌, ℕ, ◌-◌, ◌^◌, ⊤, min, count_by, List, [], ◌∷◌, ◌++◌, All, Bool, true, false, Vec, Option, Result, Ok, Err}
+use Rattle.std.specs.Io.KnownBytes.{Consumes, Keeps, IsAtEnd}
+use Rattle.room_types.specs.declared.fleet.Terminal.{Terminal}
+use Rattle.room_model.specs.Room.{Room}
+use Rattle.room_http_time.specs.declared.zones.Zone.{Zone}
+use Rattle.room_service.specs.Rooms.{Step}
+use Rattle.room_http.specs.Talk.{IsReplyTo}
+use Rattle.dispatch_room_journal.specs.declared.lines.Line.{Line}
+use Rattle.dispatch_room_journal.specs.Entries.{Entry, room, message, answer, IsEntry, line_of, texts_of}
+use Rattle.dispatch_room_journal.specs.Looks.{IsLayout}
+use Rattle.dispatch_room_replaying.specs.declared.faults.ReplayFault.{ReplayFault}
+use Rattle.dispatch_room_replaying.specs.declared.entries.Next.{Next}
+use Rattle.dispatch_room_replaying.specs.declared.entries.Next.TheVariants as next
+use Rattle.dispatch_room_replaying.specs.declared.messages.Turned.{Turned}
+use Rattle.dispatch_room_replaying.specs.declared.messages.Turned.TheVariants.{Played, LeftOut, Last}
+use Rattle.dispatch_room_replaying.specs.Turns.{Play, Turn, tried, timed, entries_in, entries_of, has_message, is_left_out, ends_open, IsPlay, IsTurn, IsReplayed, IsBy, AreBy, IsBegun, StartsBy, BeginsWith, EndsAt}
+use Rattle.dispatch_room_replaying.specs.declared.progress.Progress.{Progress}
+use Rattle.dispatch_room_replaying.specs.Replays.{DigestOf, Leads}
+
+-- what it stands for is what it stood for
+abbrev pub Stays : Type 0 → (List Terminal → Room → Type 0) → (List Terminal → Room → Type 0) → Type 0
+Stays trusted stood stands = trusted → (terminals : List Terminal) (room : Room) → stood terminals room → stands terminals room
+
+-- The bytes are one message, and the room answered it; or nothing was done.
+abbrev pub Plays : {A : Type 0} → Step → Zone → Type 0 → (List Terminal → Room → Type 0) → (List Terminal → Room → Type 0) → ℕ → List ℕ → Result (Vec ℕ A) ReplayFault → Type 0
+Plays step zone trusted stood stands at sent (Ok told) =
+    (p : Play) × (p.at ≡ at) × (p.sent ≡ sent) × (p.told ≡ told.items) × IsPlay p
+    × (trusted → (terminals : List Terminal) (room : Room) → stood terminals room
+    → (after : Room) × IsReplyTo step zone terminals room (timed p) after p.told × stands terminals after)
+Plays step zone trusted stood stands at sent (Err fault) = Stays trusted stood stands
+
+-- the entry is a head or a status
+abbrev pub IsMark : Entry → Type 0
+IsMark (room digest) = ⊤
+IsMark (message at sent) = ⊥
+IsMark (answer status) = ⊤
+
+module _ (step : Step) (zone : Zone) (digest_of : DigestOf) (trusted : Type 0) (stood stands : List Terminal → Room → Type 0) where
+  -- a turn of the message and of the entries that it takes with it
+  pub record TurnOf (at : ℕ) (sent : List ℕ) (taken : List Entry) (left_out : Bool) : Type 0 where
+    pub turn : Turn
+    pub is : IsTurn turn
+    pub replayed : IsReplayed turn
+    pub entries : entries_in turn ≡ message at sent ∷ taken
+    pub counts : has_message turn ≡ true
+    pub leaves : is_left_out turn ≡ left_out
+    pub leads : Leads step zone digest_of trusted stood stands (turn ∷ [])
+
+  -- nothing was done, or the message was played
+  abbrev pub StopsAt : ℕ → List ℕ → Type 0
+  StopsAt at sent =
+      Stays trusted stood stands
+      ⊎ ((p : Play) × (p.at ≡ at) × (p.sent ≡ sent) × IsPlay p × Leads step zone digest_of trusted stood stands (tried p ∷ []))
+
+  -- the message was played, and the room has come to this digest
+  abbrev pub ComesTo : ℕ → List ℕ → List ℕ → Type 0
+  ComesTo at sent digest =
+      (p : Play) × (p.at ≡ at) × (p.sent ≡ sent) × IsPlay p
+      × (trusted → (terminals : List Terminal) (room : Room) → stood terminals room
+      → (after : Room) × IsReplyTo step zone terminals room (timed p) after p.told × (digest_of terminals after ≡ digest) × stands terminals after)
+
+  -- what becomes of a message before this line: it takes the line's entry with it, or is left out
+  abbrev pub Settles : ℕ → List ℕ → Line → Result Bool ReplayFault → Type 0
+  Settles at sent line (Ok true) = (e : Entry) × IsMark e × (line ≡ line_of e) × TurnOf at sent (e ∷ []) false
+  Settles at sent line (Ok false) = TurnOf at sent [] true
+  Settles at sent line (Err fault) = StopsAt at sent
+
+  -- what is known of the text before, and after, and whether a read failed
+  module _ (before after : Option (List ℕ)) (failed : Bool) where
+    -- the message was left out
+    abbrev pub LeavesOut : ℕ → Type 0
+    LeavesOut at =
+        (sent : List ℕ) × TurnOf at sent [] true × IsEntry (message at sent)
+        × Consumes before after (texts_of (message at sent ∷ [])) × (failed ≡ false)
+
+    -- What became of a message at this moment. Where it was the last one, nothing is left.
+    abbrev pub MessageIs : ℕ → Result Turned ReplayFault → Type 0
+    MessageIs at (Ok Played) =
+        (sent : List ℕ) × (e : Entry) × IsMark e × TurnOf at sent (e ∷ []) false × IsEntry (message at sent) × IsEntry e
+        × Consumes before after (texts_of (message at sent ∷ e ∷ [])) × (failed ≡ false)
+    MessageIs at (Ok LeftOut) = LeavesOut at
+    MessageIs at (Ok Last) = LeavesOut at × IsAtEnd after
+    MessageIs at (Err fault) =
+        (sent : List ℕ) × IsEntry (message at sent) × BeginsWith before (message at sent ∷ []) (λ rest. ⊤) × StopsAt at sent
+
+module _ (digest_of : DigestOf) (trusted : Type 0) (stood stands : List Terminal → Room → Type 0) (before after : Option (List ℕ)) (failed : Bool) where
+  -- What stands next, up to this moment: a head, which was taken and is that of the room; a message,
+  -- which is at the front; or the end. A head came before a message.
+  abbrev pub NextIs : Option ℕ → Bool → List ℕ → Result Next ReplayFault → Type 0
+  NextIs until begun kept (Ok next.Head) =
+      (digest : List ℕ) × IsEntry (room digest) × Consumes before after (texts_of (room digest ∷ [])) × (failed ≡ false)
+      × (trusted → (terminals : List Terminal) (held : Room) → stood terminals held → (digest_of terminals held ≡ digest) × stands terminals held)
+  NextIs until begun kept (Ok (next.Message at layout)) =
+      (sent : List ℕ) × IsLayout kept layout (message at sent) × IsBy until (message at sent) × Keeps before after
+      × (begun ≡ true) × (failed ≡ false) × Stays trusted stood stands
+  NextIs until begun kept (Ok next.End) = Keeps before after × BeginsWith before [] (EndsAt until) × Stays trusted stood stands
+  NextIs until begun kept (Err fault) = Stays trusted stood stands
+
+-- the progress is that of these turns
+pub record IsProgress (progress : Progress) (ts : List Turn) : Type 0 where
+  pub records : progress.records ≡ min (count_by has_message ts) (2 ^ 64 - 1)
+  pub opens : progress.is_open ≡ ends_open ts
+  pub begun : StartsBy progress.is_begun ts
+
+-- the turns go on where others ended
+abbrev pub Progresses : Progress → Progress → List Turn → Type 0
+Progresses old new ts = (us : List Turn) → IsProgress old us → IsProgress new (us ++ ts)
+
+module _ (step : Step) (zone : Zone) (digest_of : DigestOf) (trusted : Type 0) (stood stands : List Terminal → Room → Type 0) (before after : Option (List ℕ)) (until : Option ℕ) where
+  -- turns of this kind, from the text before to the text after
+  pub record Passes (Kind : Turn → Type 0) (ts : List Turn) : Type 0 where
+    pub turns : All IsTurn ts
+    pub kinds : All Kind ts
+    pub entries : AreBy until (entries_of ts)
+    pub read : Consumes before after (texts_of (entries_of ts))
+    pub leads : Leads step zone digest_of trusted stood stands ts
+
+  -- nothing more was done, or a message was played
+  pub record StopsIn (old : Progress) (last : List Turn) : Type 0 where
+    pub few : (last ≡ []) ⊎ ((p : Play) × (last ≡ tried p ∷ []))
+    pub turns : All IsTurn last
+    pub entries : AreBy until (entries_of last)
+    pub begins : BeginsWith before (entries_of last) (λ rest. ⊤)
+    pub begun : (us : List Turn) → IsProgress old us → (us ++ last ≡ []) ⊎ IsBegun (us ++ last)
+    pub leads : Leads step zone digest_of trusted stood stands last
+
+  -- What one call does that takes a turn: whether it goes on, or the end was found; or why it stopped.
+  abbrev pub TakesTurn : (Turn → Type 0) → Progress → Progress → Bool → Result Bool ReplayFault → Type 0
+  TakesTurn Kind old new failed (Ok goes_on) =
+      (ts : List Turn) × Passes Kind ts × Progresses old new ts × (goes_on ≡ true → failed ≡ false)
+      × (goes_on ≡ false → BeginsWith before (entries_of ts) (EndsAt until))
+  TakesTurn Kind old new failed (Err fault) = (last : List Turn) × StopsIn old last

@@ -1,0 +1,92 @@
+//! What stands next in a journal.
+ghost use Rattle.std.specs.Prelude.{◌≡◌, ◌↔◌, false, IsTrue};
+ghost use Rattle.std.specs.Io.KnownBytes.{prepend_known};
+ghost use Rattle.dispatch_room_replaying.specs.Replays.{UnlessWant};
+ghost use Rattle.dispatch_room_replaying.specs.Steps.{NextIs};
+ghost use Rattle.dispatch_room_replaying.specs.Turns.{IsAfter};
+
+use crate::digests::Digested;
+use crate::faults::ReplayFault;
+use crate::playing::is_at;
+use dispatch_room_journal::inbox::JournalInbox;
+use dispatch_room_journal::lines::Line;
+use dispatch_room_journal::looks::Layout;
+use dispatch_room_journal::reading::{Fault, read_entry};
+use room_http_messages::sources::Source;
+use room_types::numbers::Moment;
+use std::alloc::Global;
+
+/// What stands next in a journal.
+#[derive(Clone, Copy)]
+pub enum Next {
+    /// A head, which was taken: the room has its digest.
+    Head,
+    /// A message, which is at the front of the inbox.
+    Message { at: Moment, layout: Layout },
+    /// Nothing, or a message that is later than the last to be played.
+    End,
+}
+
+/// The fault of a read.
+pub fn read_fault(fault: Fault) -> ReplayFault {
+    match fault {
+        Fault::Cut | Fault::Foreign => ReplayFault::Bad,
+        Fault::Read => ReplayFault::ReadFailed,
+    }
+}
+
+/// Whether a moment is after this one, if there is one.
+fn is_after(until: &Option<Moment>, at: Moment) -> bool
+    ensures { IsTrue result ↔ IsAfter until.now at }
+{
+    match until {
+        Some(until) => until.get() < at.get(),
+        None => false,
+    }
+}
+
+/// What stands next in a journal, up to a moment. A head is compared with the room, and taken.
+pub fn next_entry<R: Source, M: Digested>(
+    alloc: Global,
+    inbox: &mut JournalInbox,
+    reader: &mut R,
+    room: &mut M,
+    until: &Option<Moment>,
+    is_begun: bool,
+) -> Result<Next, ReplayFault>
+    requires ready { M.is_ready room.old }
+    requires sound { R.has_failed reader.old ≡ false }
+    ensures ready { M.is_ready room.new }
+    ensures trusted { M.is_trusted room.new → M.is_trusted room.old }
+    ensures next { NextIs M.digest_of (M.is_trusted room.new) (M.stands room.old)
+        (M.stands room.new) (prepend_known inbox.old.kept (R.left reader.old))
+        (prepend_known inbox.new.kept (R.left reader.new)) (R.has_failed reader.new) until.now
+        is_begun inbox.new.kept result }
+    ensures kept { M.is_trusted room.new → UnlessWant result (M.is_kept room.old
+        → M.is_kept room.new) }
+{
+    match read_entry(inbox, reader) {
+        Err(fault) => Err(read_fault(fault)),
+        Ok(None) => Ok(Next::End),
+        Ok(Some(layout)) => match &layout.line {
+            Line::Room(digest) => match is_at(alloc, room, digest) {
+                Ok(true) => {
+                    inbox.remove(&layout);
+                    Ok(Next::Head)
+                }
+                Ok(false) => Err(ReplayFault::Another),
+                Err(fault) => Err(fault),
+            },
+            Line::Message { at, .. } => {
+                if !is_begun {
+                    Err(ReplayFault::Bad)
+                } else if is_after(until, *at) {
+                    Ok(Next::End)
+                } else {
+                    Ok(Next::Message { at: *at, layout })
+                }
+            }
+            Line::Answer(_) => Err(ReplayFault::Bad),
+        },
+    }
+}

@@ -1,0 +1,74 @@
+//! A message of a journal, and what becomes of it.
+ghost use Rattle.std.specs.Prelude.{◌≡◌, ℕ, List, false};
+ghost use Rattle.std.specs.Io.KnownBytes.{prepend_known};
+ghost use Rattle.dispatch_room_journal.specs.Entries.{message};
+ghost use Rattle.dispatch_room_journal.specs.Looks.{IsLayout};
+ghost use Rattle.dispatch_room_replaying.specs.Replays.{UnlessWant};
+ghost use Rattle.dispatch_room_replaying.specs.Steps.{MessageIs};
+
+use crate::digests::Digested;
+use crate::entries::read_fault;
+use crate::faults::ReplayFault;
+use crate::settling::settle;
+use dispatch_room_journal::inbox::JournalInbox;
+use dispatch_room_journal::looks::Layout;
+use dispatch_room_journal::reading::read_entry;
+use room_http_messages::sources::Source;
+use room_http_requests::routes::Routes;
+use room_http_time::zones::Zone;
+use room_types::numbers::Moment;
+use room_types::refusals::Refusal;
+use std::alloc::Global;
+
+/// What became of a message.
+#[derive(Clone, Copy)]
+pub enum Turned {
+    /// It was played, with what followed it.
+    Played,
+    /// It has no status, and was left out.
+    LeftOut,
+    /// So was it, and nothing follows it.
+    Last,
+}
+
+/// Plays the message at the front of the journal, or leaves it out, by what follows it. It is
+/// copied, since what follows it takes its place.
+pub fn replay_message<R: Source, M: Digested>(
+    alloc: Global,
+    routes: &Routes,
+    zone: &Zone,
+    inbox: &mut JournalInbox,
+    reader: &mut R,
+    room: &mut M,
+    at: Moment,
+    layout: &Layout,
+) -> Result<Turned, ReplayFault>
+    requires ready { M.is_ready room.old }
+    requires sound { R.has_failed reader.old ≡ false }
+    requires front { (sent : List ℕ) × IsLayout inbox.old.kept layout.now (message at sent) }
+    ensures ready { M.is_ready room.new }
+    ensures trusted { M.is_trusted room.new → M.is_trusted room.old }
+    ensures turn { MessageIs M.step zone.now M.digest_of (M.is_trusted room.new)
+        (M.stands room.old) (M.stands room.new)
+        (prepend_known inbox.old.kept (R.left reader.old))
+        (prepend_known inbox.new.kept (R.left reader.new)) (R.has_failed reader.new) at result }
+    ensures kept { M.is_trusted room.new → UnlessWant result (M.is_kept room.old
+        → M.is_kept room.new) }
+{
+    let Ok(sent) = inbox.message(layout).to_vec(alloc) else {
+        return Err(ReplayFault::Want(Refusal::Memory));
+    };
+    inbox.remove(layout);
+    match read_entry(inbox, reader) {
+        Err(fault) => Err(read_fault(fault)),
+        Ok(None) => Ok(Turned::Last),
+        Ok(Some(next)) => match settle(alloc, routes, zone, room, sent.as_slice(), at, &next.line) {
+            Ok(true) => {
+                inbox.remove(&next);
+                Ok(Turned::Played)
+            }
+            Ok(false) => Ok(Turned::LeftOut),
+            Err(fault) => Err(fault),
+        },
+    }
+}

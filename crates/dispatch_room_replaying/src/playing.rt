@@ -1,0 +1,126 @@
+//! One message of a journal, played.
+ghost use Rattle.std.specs.Prelude.{◌≡◌, ◌≤◌, ◌↔◌, ⊤, [], length, IsTrue, IfOk, List, decimal};
+ghost use Rattle.std.specs.Prelude.{MatchOption};
+ghost use Rattle.room_types.specs.declared.fleet.Terminal.{Terminal};
+ghost use Rattle.room_model.specs.Room.{Room as Held};
+ghost use Rattle.room_http_messages.specs.declared.limits.TheConstants.{INBOX_ROOM};
+ghost use Rattle.room_http_messages.specs.Layouts.{Shows};
+ghost use Rattle.room_http_messages.specs.Messages.{WholeMessage, HasMessage};
+ghost use Rattle.dispatch_room_replaying.specs.Turns.{status_in};
+ghost use Rattle.dispatch_room_replaying.specs.Replays.{UnlessWant};
+ghost use Rattle.dispatch_room_replaying.specs.Steps.{Plays};
+
+use crate::digests::Digested;
+use crate::faults::ReplayFault;
+use dispatch_room_journal::lines::DIGEST_DIGITS;
+use itoa::Buffer;
+use room_http::arrivals::Arrived;
+use room_http::replies::reply;
+use room_http_messages::looks::{Look, look_at};
+use room_http_messages::messages::Message;
+use room_http_requests::routes::Routes;
+use room_http_time::zones::Zone;
+use room_service::rooms::Room;
+use room_types::numbers::Moment;
+use std::alloc::Global;
+
+/// The message that the bytes are, one and nothing after it.
+fn message_in(bytes: &[u8]) -> Option<Message<'_>>
+    requires { length bytes.now ≤ INBOX_ROOM }
+    ensures { MatchOption result ⊤
+        (λ shown. (m : WholeMessage) × HasMessage bytes.now m [] × Shows shown m
+        × (1 ≤ length bytes.now)) }
+{
+    let Look::Whole(layout) = look_at(bytes) else {
+        return None;
+    };
+    if layout.body.end != bytes.len() {
+        return None;
+    }
+    Some(Message {
+        method: layout.method.of(bytes),
+        target: layout.target.of(bytes),
+        body: layout.body.of(bytes),
+        terminal: layout.terminal.map(|value| value.of(bytes)),
+        head_only: layout.head_only,
+        closing: layout.closing,
+    })
+}
+
+/// Plays a message: the bytes of its answer. Where the bytes are no message, nothing is done.
+pub fn play<M: Room>(
+    alloc: Global,
+    routes: &Routes,
+    zone: &Zone,
+    room: &mut M,
+    sent: &[u8],
+    at: Moment,
+) -> Result<Vec<u8>, ReplayFault>
+    requires ready { M.is_ready room.old }
+    requires fits { length sent.now ≤ INBOX_ROOM }
+    ensures ready { M.is_ready room.new }
+    ensures trusted { M.is_trusted room.new → M.is_trusted room.old }
+    ensures plays { Plays M.step zone.now (M.is_trusted room.new) (M.stands room.old)
+        (M.stands room.new) at sent.now result }
+    ensures kept { M.is_trusted room.new → UnlessWant result (M.is_kept room.old
+        → M.is_kept room.new) }
+{
+    let Some(message) = message_in(sent) else {
+        return Err(ReplayFault::Bad);
+    };
+    let mut asker = None;
+    match reply(
+        alloc,
+        routes,
+        zone,
+        room,
+        &Arrived::Message {
+            message,
+            bytes: sent,
+        },
+        at,
+        &mut asker,
+    ) {
+        Ok(told) => Ok(told),
+        Err(refusal) => Err(ReplayFault::Want(refusal)),
+    }
+}
+
+/// The three digits that follow the version in an answer's first line (RFC 9112, section 4).
+pub fn status_in(answer: &[u8]) -> &[u8]
+    ensures value { result.now ≡ status_in answer.now }
+    ensures short { length result.now ≤ 3 }
+{
+    let rest = &answer[answer.len().min(9)..];
+    &rest[..rest.len().min(3)]
+}
+
+/// Whether an answer has this status.
+pub fn has_status(answer: &[u8], status: u16) -> bool
+    ensures { IsTrue result ↔ (status_in answer.now ≡ decimal status) }
+{
+    Buffer::new().format(status).as_bytes() == status_in(answer)
+}
+
+/// Whether the digest of the room's rows is this one.
+pub fn is_at<M: Digested>(
+    alloc: Global,
+    room: &mut M,
+    digest: &[u8; DIGEST_DIGITS],
+) -> Result<bool, ReplayFault>
+    requires { M.is_ready room.old }
+    ensures ready { M.is_ready room.new }
+    ensures trusted { M.is_trusted room.new → M.is_trusted room.old }
+    ensures same { M.is_trusted room.new → (terminals : List Terminal) (room_then : Held)
+        → M.stands room.old terminals room_then → M.stands room.new terminals room_then }
+    ensures says { M.is_trusted room.new → IfOk result (λ is. (terminals : List Terminal)
+        (room_then : Held) → M.stands room.old terminals room_then
+        → (IsTrue is ↔ (M.digest_of terminals room_then ≡ digest.now))) }
+    ensures kept { M.is_trusted room.new → UnlessWant result (M.is_kept room.old
+        → M.is_kept room.new) }
+{
+    match room.digest(alloc) {
+        Ok(digits) => Ok(digits.as_slice() == digest.as_slice()),
+        Err(refusal) => Err(ReplayFault::Want(refusal)),
+    }
+}

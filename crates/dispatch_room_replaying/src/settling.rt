@@ -1,0 +1,144 @@
+//! What becomes of a message, by what follows it in the journal.
+ghost use Rattle.std.specs.Prelude.{◌≤◌, ◌∷◌, [], length, false, MatchResult};
+ghost use Rattle.room_http_messages.specs.declared.limits.TheConstants.{INBOX_ROOM};
+ghost use Rattle.dispatch_room_journal.specs.declared.lines.Line.TheVariants.{Room};
+ghost use Rattle.dispatch_room_journal.specs.Entries.{answer};
+ghost use Rattle.dispatch_room_replaying.specs.Replays.{UnlessWant};
+ghost use Rattle.dispatch_room_replaying.specs.Steps.{ComesTo, Settles, StopsAt, TurnOf};
+
+use crate::digests::Digested;
+use crate::faults::ReplayFault;
+use crate::playing::{has_status, is_at, play};
+use dispatch_room_journal::lines::{DIGEST_DIGITS, Line};
+use room_http_requests::routes::Routes;
+use room_http_time::zones::Zone;
+use room_types::numbers::Moment;
+use std::alloc::Global;
+
+/// Plays a message that has this status.
+fn play_answered<M: Digested>(
+    alloc: Global,
+    routes: &Routes,
+    zone: &Zone,
+    room: &mut M,
+    sent: &[u8],
+    at: Moment,
+    status: u16,
+) -> Result<(), ReplayFault>
+    requires ready { M.is_ready room.old }
+    requires fits { length sent.now ≤ INBOX_ROOM }
+    ensures ready { M.is_ready room.new }
+    ensures trusted { M.is_trusted room.new → M.is_trusted room.old }
+    ensures turn { MatchResult result
+        (λ _. TurnOf M.step zone.now M.digest_of (M.is_trusted room.new) (M.stands room.old)
+        (M.stands room.new) at sent.now (answer status ∷ []) false)
+        (λ _. StopsAt M.step zone.now M.digest_of (M.is_trusted room.new) (M.stands room.old)
+        (M.stands room.new) at sent.now) }
+    ensures kept { M.is_trusted room.new → UnlessWant result (M.is_kept room.old
+        → M.is_kept room.new) }
+{
+    match play(alloc, routes, zone, room, sent, at) {
+        Ok(told) => {
+            if has_status(told.as_slice(), status) {
+                Ok(())
+            } else {
+                Err(ReplayFault::Differs)
+            }
+        }
+        Err(fault) => Err(fault),
+    }
+}
+
+/// Plays a message that has no status, to a room that comes to this digest by it.
+fn play_open<M: Digested>(
+    alloc: Global,
+    routes: &Routes,
+    zone: &Zone,
+    room: &mut M,
+    sent: &[u8],
+    at: Moment,
+    digest: &[u8; DIGEST_DIGITS],
+) -> Result<(), ReplayFault>
+    requires ready { M.is_ready room.old }
+    requires fits { length sent.now ≤ INBOX_ROOM }
+    ensures ready { M.is_ready room.new }
+    ensures trusted { M.is_trusted room.new → M.is_trusted room.old }
+    ensures turn { MatchResult result
+        (λ _. ComesTo M.step zone.now M.digest_of (M.is_trusted room.new) (M.stands room.old)
+        (M.stands room.new) at sent.now digest.now)
+        (λ _. StopsAt M.step zone.now M.digest_of (M.is_trusted room.new) (M.stands room.old)
+        (M.stands room.new) at sent.now) }
+    ensures kept { M.is_trusted room.new → UnlessWant result (M.is_kept room.old
+        → M.is_kept room.new) }
+{
+    match play(alloc, routes, zone, room, sent, at) {
+        Ok(_) => match is_at(alloc, room, digest) {
+            Ok(true) => Ok(()),
+            Ok(false) => Err(ReplayFault::Another),
+            Err(fault) => Err(fault),
+        },
+        Err(fault) => Err(fault),
+    }
+}
+
+/// Plays a message that has no status before the head of a part, where the room has not come to
+/// the head's digest yet. Whether it was played.
+fn catch_up<M: Digested>(
+    alloc: Global,
+    routes: &Routes,
+    zone: &Zone,
+    room: &mut M,
+    sent: &[u8],
+    at: Moment,
+    digest: &[u8; DIGEST_DIGITS],
+) -> Result<bool, ReplayFault>
+    requires ready { M.is_ready room.old }
+    requires fits { length sent.now ≤ INBOX_ROOM }
+    ensures ready { M.is_ready room.new }
+    ensures trusted { M.is_trusted room.new → M.is_trusted room.old }
+    ensures turn { Settles M.step zone.now M.digest_of (M.is_trusted room.new)
+        (M.stands room.old) (M.stands room.new) at sent.now (Room digest.now) result }
+    ensures kept { M.is_trusted room.new → UnlessWant result (M.is_kept room.old
+        → M.is_kept room.new) }
+{
+    match is_at(alloc, room, digest) {
+        Ok(true) => Ok(false),
+        Ok(false) => match play_open(alloc, routes, zone, room, sent, at, digest) {
+            Ok(()) => Ok(true),
+            Err(fault) => Err(fault),
+        },
+        Err(fault) => Err(fault),
+    }
+}
+
+/// Plays a message or leaves it out, by the line that follows it. Whether that line's entry is
+/// taken with it.
+pub fn settle<M: Digested>(
+    alloc: Global,
+    routes: &Routes,
+    zone: &Zone,
+    room: &mut M,
+    sent: &[u8],
+    at: Moment,
+    line: &Line,
+) -> Result<bool, ReplayFault>
+    requires ready { M.is_ready room.old }
+    requires fits { length sent.now ≤ INBOX_ROOM }
+    ensures ready { M.is_ready room.new }
+    ensures trusted { M.is_trusted room.new → M.is_trusted room.old }
+    ensures turn { Settles M.step zone.now M.digest_of (M.is_trusted room.new)
+        (M.stands room.old) (M.stands room.new) at sent.now line.now result }
+    ensures kept { M.is_trusted room.new → UnlessWant result (M.is_kept room.old
+        → M.is_kept room.new) }
+{
+    match line {
+        Line::Answer(status) => {
+            match play_answered(alloc, routes, zone, room, sent, at, *status) {
+                Ok(()) => Ok(true),
+                Err(fault) => Err(fault),
+            }
+        }
+        Line::Room(digest) => catch_up(alloc, routes, zone, room, sent, at, digest),
+        Line::Message { .. } => Ok(false),
+    }
+}

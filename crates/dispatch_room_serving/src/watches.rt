@@ -1,0 +1,69 @@
+//! Who watches over what is served: a log, and perhaps a journal.
+ghost use Rattle.dispatch_room_serving.specs.Journals.{answer_text, held_by, message_text, room_text};
+
+use crate::journals::{Journal, Synced};
+use crate::logs::Log;
+use crate::watchers::Watcher;
+use dispatch_room_journal::lines::DIGEST_DIGITS;
+use room_http::arrivals::Arrived;
+use room_http::witnesses::{Asked, Unkept, Witness};
+use room_types::numbers::Moment;
+use std::io::Write;
+use std::time::Clock;
+
+/// A log and perhaps a journal, as one witness. It keeps what the journal does.
+#[derive(Drop)]
+pub struct Watch<'a, E, T, W> {
+    log: Log<'a, E, T>,
+    journal: Option<Journal<W>>,
+}
+
+impl<'a, E: Write, T: Clock, W: Synced> Watch<'a, E, T, W> {
+    /// A log, and a journal or none.
+    pub fn new(log: Log<'a, E, T>, journal: Option<Journal<W>>) -> Watch<'a, E, T, W> {
+        Watch { log, journal }
+    }
+}
+
+impl<'a, E: Write, T: Clock, W: Synced> Witness for Watch<'a, E, T, W> {
+    ghost held = { λ watch. held_by W.held watch.journal };
+
+    ghost came = { message_text };
+
+    ghost told = { answer_text };
+
+    fn arrived(&mut self, arrived: &Arrived<'_>, at: Moment) -> Result<(), Unkept> {
+        self.log.begin();
+        match &mut self.journal {
+            Some(journal) => journal.arrived(arrived, at),
+            None => Ok(()),
+        }
+    }
+
+    fn answering(&mut self, arrived: &Arrived<'_>, answer: &[u8]) -> Result<(), Unkept> {
+        match &mut self.journal {
+            Some(journal) => journal.answering(arrived, answer),
+            None => Ok(()),
+        }
+    }
+
+    fn answered(&mut self, asked: &Asked<'_>, answer: &[u8]) {
+        self.log.answered(asked, answer);
+    }
+}
+
+impl<'a, E: Write, T: Clock, W: Synced> Watcher for Watch<'a, E, T, W> {
+    ghost begun = { room_text };
+
+    // A log has no use for it.
+    fn wants_digest(&self) -> bool {
+        self.journal.is_some()
+    }
+
+    fn begins(&mut self, digest: &[u8; DIGEST_DIGITS]) -> Result<(), Unkept> {
+        match &mut self.journal {
+            Some(journal) => journal.begin(digest),
+            None => Ok(()),
+        }
+    }
+}

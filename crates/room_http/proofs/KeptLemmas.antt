@@ -1,0 +1,297 @@
+-- Lemmas on what a witness keeps.
+use Rattle.std.proofs.Common.{◌≡◌, ◌∙◌, ◌≤◌, ap, sym, refl, inl, inr, ℕ, List, [], ◌∷◌, ◌++◌, map, append-nil, append_assoc, Bool, false, Option, Some, Result, Ok, Err, All}
+use Rattle.std.proofs.lemmas.List.{map-append}
+use Rattle.std.proofs.lemmas.List.Elements.{All-nil, All-push}
+use Rattle.std.proofs.lemmas.List.Folds.{concat-append}
+use Rattle.std.specs.List.{concat}
+use Rattle.std.specs.Io.KnownBytes.{Appends, Keeps}
+use Rattle.room_types.specs.declared.fleet.Terminal.{Terminal}
+use Rattle.room_types.specs.declared.refusals.Refusal.{Refusal}
+use Rattle.room_model.specs.Room.{Room}
+use Rattle.room_http_answers.specs.Replies.{fixed_bytes}
+use Rattle.room_http_messages.proofs.StreamLemmas.{Appends-more, Appends-none}
+use Rattle.room_http_time.specs.declared.moments.TheConstants.{LAST_MOMENT}
+use Rattle.room_http_time.specs.declared.zones.Zone.{Zone}
+use Rattle.room_http_time.specs.Moments.{HasNoMoment}
+use Rattle.room_service.specs.Rooms.{IsWant, Step}
+use Rattle.room_http.specs.declared.arrivals.Arrived.{Arrived}
+use Rattle.room_http.specs.declared.arrivals.Arrived.TheVariants.{Message, Refused}
+use Rattle.room_http.specs.declared.serving.ServeEnd.{ServeEnd}
+use Rattle.room_http.specs.declared.serving.ServeEnd.TheVariants.{Closed, WriteFault, ClockFault, Unkept}
+use Rattle.room_http.specs.Arrivals.{Arrival, message, refused, is_closing, is_head_only, Begins, HasNext, IsShown}
+use Rattle.room_http.specs.Kept.{Acts, ActsOnEach, AreKept, AreReplies, DoesNothing, Grow, IsBegun, IsCome, IsRecord, KeepsEach, KeepsOne, Tapes, Unmoved, answer_kept, came_of, told_of}
+use Rattle.room_http.specs.Talk.{Timed, IsFront, IsReplyTo}
+use Rattle.room_http.proofs.ServeLemmas.{still_begins}
+use Rattle.room_http.proofs.StreamLemmas.{Passes, Begins-push}
+
+-- ---- one arrival
+-- the clock gave none
+pub nothing_done : (given gives kept held : Option (List ℕ)) (was_none : Bool) → HasNoMoment given gives was_none []
+    → DoesNothing (record { given = given; kept = kept; held = held }) (record { given = gives; kept = kept; held = held })
+nothing_done given gives kept held was_none (inl none) = ([], inl refl, record { given = none.1; kept = Appends-none kept; held = Appends-none held })
+nothing_done given gives kept held was_none (inr late) = (late.0 ∷ [], inr (late.0, late.1, refl), record { given = late.2; kept = Appends-none kept; held = Appends-none held })
+
+-- one arrival more
+AreReplies-push : (step : Step) (zone : Zone) (terminals : List Terminal) (room mid after : Room) (outs : List Timed) (answers : List (List ℕ)) (x : Timed) (answer : List ℕ)
+    → AreReplies step zone terminals room outs answers mid → IsReplyTo step zone terminals mid x after answer → AreReplies step zone terminals room (outs ++ x ∷ []) (answers ++ answer ∷ []) after
+AreReplies-push step zone terminals room mid after [] [] x answer are is = (after, rw are at is, refl)
+AreReplies-push step zone terminals room mid after [] (y ∷ answers) x answer are is = absurd are
+AreReplies-push step zone terminals room mid after (y ∷ outs) [] x answer are is = absurd are
+AreReplies-push step zone terminals room mid after (y ∷ outs) (z ∷ answers) x answer are is =
+    (are.0, are.1, AreReplies-push step zone terminals are.0 mid after outs answers x answer are.2 is)
+
+module _ (came : ℕ → List ℕ → List ℕ) (told : List ℕ → List ℕ) where
+  come : (arrived : Arrived) (o : Arrival) (at : ℕ) → at ≤ LAST_MOMENT → IsShown arrived o → IsCome came told (o, at) (came_of came arrived at)
+  come (Message shown bytes) (message m) at within is = (bytes.now, is.1, within, refl)
+  come (Message shown bytes) (refused r head_only) at within is = absurd is
+  come (Refused r head_only) (message m) at within is = absurd is
+  come (Refused r head_only) (refused s without) at within is = refl
+
+  answer_is : (arrived : Arrived) (o : Arrival) (answer : List ℕ) → IsShown arrived o → told_of told arrived answer ≡ answer_kept came told o answer
+  answer_is (Message shown bytes) (message m) answer is = refl
+  answer_is (Message shown bytes) (refused r head_only) answer is = absurd is
+  answer_is (Refused r head_only) (message m) answer is = absurd is
+  answer_is (Refused r head_only) (refused s without) answer is = refl
+
+  module _ (unmoved : Type 0) (moved : Timed → List ℕ → Type 0) (arrived : Arrived) (o : Arrival) (shown : IsShown arrived o) (at : ℕ) (within : at ≤ LAST_MOMENT)
+      (given gives : Option (List ℕ)) (moment : Appends given gives (at ∷ [])) where
+    abbrev coming : List ℕ
+    coming = came_of came arrived at
+
+    abbrev Here : Option (List ℕ) → Option (List ℕ) → Option (List ℕ) → Option (List ℕ) → Result (Unit {0}) ServeEnd → Type 0
+    Here kept keeps held holds =
+        KeepsOne came told unmoved moved (record { given = given; kept = kept; held = held }) (record { given = gives; kept = keeps; held = holds }) o
+
+    is_record : (answer : List ℕ) → IsRecord came told (o, at) answer (coming ++ told_of told arrived answer)
+    is_record answer = (coming, come arrived o at within shown, ap (λ t. coming ++ t) (answer_is arrived o answer shown))
+
+    -- it could not be kept as it came
+    pub kept_none : (kept keeps held : Option (List ℕ)) → unmoved → ((front : List ℕ) × IsFront front coming × Appends kept keeps front) → Here kept keeps held held (Err Unkept)
+    kept_none kept keeps held still cut = (
+      at,
+      cut.0,
+      [],
+      inl (still, inl (coming, come arrived o at within shown, cut.1, refl)),
+      record { given = moment; kept = cut.2; held = Appends-none held },
+    )
+
+    -- memory or storage was wanting
+    pub kept_want : (kept comes last held holds : Option (List ℕ)) (r : Refusal) (wrote : List ℕ) → unmoved → IsWant r → Appends kept comes coming → last ≡ comes
+        → IsFront wrote (fixed_bytes r (is_head_only o)) → Appends held holds wrote → Here kept last held holds (Err Closed)
+    kept_want kept comes last held holds r wrote still want first same front written = (
+      at,
+      coming,
+      wrote,
+      inl (still, inr (come arrived o at within shown, (r, want, front))),
+      record { given = moment; kept = rw same first; held = written },
+    )
+
+    -- the room has acted, and these are the bytes of its answer
+    module _ (answer bytes : List ℕ) (are : answer ≡ bytes) (acts : moved (o, at) bytes) where
+      acted : moved (o, at) answer
+      acted = rw are acts
+
+      -- it could not be kept
+      pub kept_part : (kept comes keeps held : Option (List ℕ)) → Appends kept comes coming → ((front : List ℕ) × IsFront front (told_of told arrived answer) × Appends comes keeps front)
+          → Here kept keeps held held (Err Unkept)
+      kept_part kept comes keeps held first cut = (
+        at,
+        coming ++ cut.0,
+        [],
+        inr (answer, acted, inl (coming, cut.0, come arrived o at within shown, (cut.1.0, sym (answer_is arrived o answer shown) ∙ cut.1.1), refl, refl)),
+        record { given = moment; kept = Appends-more kept comes keeps coming cut.0 first cut.2; held = Appends-none held },
+      )
+
+      -- the record was kept, and it was written
+      pub kept_all : (kept comes keeps last held holds : Option (List ℕ)) → Appends kept comes coming → Appends comes keeps (told_of told arrived answer) → last ≡ keeps
+          → Appends held holds answer → Here kept last held holds (Ok tt)
+      kept_all kept comes keeps last held holds first second same wrote = (
+        at,
+        answer,
+        coming ++ told_of told arrived answer,
+        acted,
+        is_record answer,
+        record { given = moment; kept = rw same (Appends-more kept comes keeps coming (told_of told arrived answer) first second); held = wrote },
+      )
+
+      -- it was not written wholly
+      pub kept_cut : (kept comes keeps last held holds : Option (List ℕ)) (wrote : List ℕ) → Appends kept comes coming → Appends comes keeps (told_of told arrived answer) → last ≡ keeps
+          → IsFront wrote answer → Appends held holds wrote → Here kept last held holds (Err WriteFault)
+      kept_cut kept comes keeps last held holds wrote first second same front written = (
+        at,
+        coming ++ told_of told arrived answer,
+        wrote,
+        inr (answer, acted, inr (is_record answer, front)),
+        record { given = moment; kept = rw same (Appends-more kept comes keeps coming (told_of told arrived answer) first second); held = written },
+      )
+
+  -- ---- a connection
+  AreKept-push : (outs : List Timed) (answers : List (List ℕ)) (text : List ℕ) (x : Timed) (answer last : List ℕ) → AreKept came told outs answers text → IsRecord came told x answer last
+      → AreKept came told (outs ++ x ∷ []) (answers ++ answer ∷ []) (text ++ last)
+  AreKept-push [] [] text x answer last kept is = (last, [], is, ap (λ t. t ++ last) kept ∙ sym (append-nil last), refl)
+  AreKept-push [] (y ∷ answers) text x answer last kept is = absurd kept
+  AreKept-push (y ∷ outs) [] text x answer last kept is = absurd kept
+  AreKept-push (y ∷ outs) (z ∷ answers) text x answer last kept is = (
+    kept.0,
+    kept.1 ++ last,
+    kept.2,
+    ap (λ t. t ++ last) kept.3 ∙ append_assoc kept.0 kept.1 last,
+    AreKept-push outs answers kept.1 x answer last kept.4 is,
+  )
+
+  -- the arrivals were answered, all of them stay open, and these bytes are left; and the record of each was kept
+  pub record Noted (step : Step) (zone : Zone) (left : Option (List ℕ)) (old : Tapes) (remains : Option (List ℕ)) (new : Tapes) (trusted : Type 0) (stood stands : List Terminal → Room → Type 0) (outs : List Timed) : Type 0 where
+    pub answers : List (List ℕ)
+    pub text : List ℕ
+    pub begins : (stream : List ℕ) → left ≡ Some stream → (rest : List ℕ) × (remains ≡ Some rest) × Begins stream (map (λ x. x.0) outs) rest
+    pub stay : All (λ x. is_closing x.0 ≡ false) outs
+    pub kept : AreKept came told outs answers text
+    pub grew : Grow old new (map (λ x. x.1) outs) text (concat answers)
+    pub moved : ActsOnEach step zone trusted stood stands outs answers
+
+  module _ (step : Step) (zone : Zone) (left : Option (List ℕ)) (old : Tapes) where
+    pub Noted-none : (trusted : Type 0) (stood : List Terminal → Room → Type 0) → Noted step zone left old left old trusted stood stood []
+    Noted-none trusted stood = record {
+      answers = [];
+      text = [];
+      begins = λ stream known. (stream, known, refl);
+      stay = All-nil (λ (x : Timed). is_closing x.0 ≡ false);
+      kept = refl;
+      grew = record { given = Appends-none old.given; kept = Appends-none old.kept; held = Appends-none old.held };
+      moved = λ trust terminals room standing. (room, refl, standing);
+    }
+
+    -- the bytes that are left come from the reader to the inbox
+    pub Noted-kept : (remains after : Option (List ℕ)) (new : Tapes) (trusted : Type 0) (stood stands : List Terminal → Room → Type 0) (outs : List Timed)
+        → Noted step zone left old remains new trusted stood stands outs → Keeps remains after → Noted step zone left old after new trusted stood stands outs
+    Noted-kept remains after new trusted stood stands outs before same = record {
+      answers = before.answers;
+      text = before.text;
+      begins = λ stream known. still_begins stream outs remains after (before.begins stream known) same;
+      stay = before.stay;
+      kept = before.kept;
+      grew = before.grew;
+      moved = before.moved;
+    }
+
+    -- serving ended between arrivals
+    pub Noted-ends : (remains : Option (List ℕ)) (new : Tapes) (trusted : Type 0) (stood stands : List Terminal → Room → Type 0) (outs : List Timed)
+        → Noted step zone left old remains new trusted stood stands outs → KeepsEach came told (ActsOnEach step zone trusted stood stands) left old new
+    Noted-ends remains new trusted stood stands outs before = record {
+      outs = outs;
+      answers = before.answers;
+      text = before.text;
+      kept = before.kept;
+      ends = inl (before.moved, (λ stream known. let begins = before.begins stream known in (begins.0, begins.2, tt)), ([], inl refl, rw append-nil before.grew));
+    }
+
+    -- one more arrival
+    module _ (remains : Option (List ℕ)) (mid : Tapes) (early late : Type 0) (stood stays stands : List Terminal → Room → Type 0) (earlier : late → early) (outs : List Timed)
+        (before : Noted step zone left old remains mid early stood stays outs) (new : Tapes) (after : Option (List ℕ)) (o : Arrival) (pass : Passes remains after o) where
+      abbrev Now : List Timed → List (List ℕ) → Type 0
+      Now = ActsOnEach step zone late stood stands
+
+      abbrev One : Result (Unit {0}) ServeEnd → Type 0
+      One = KeepsOne came told (Unmoved late stays stands) (Acts step zone late stays stands) mid new o
+
+      same_moves : Unmoved late stays stands → Now outs before.answers
+      same_moves still trust terminals room standing =
+          let first = before.moved (earlier trust) terminals room standing in
+          (first.0, first.1, still trust terminals first.0 first.2)
+
+      one_moves : (at : ℕ) (answer : List ℕ) → Acts step zone late stays stands (o, at) answer → Now (outs ++ (o, at) ∷ []) (before.answers ++ answer ∷ [])
+      one_moves at answer acts trust terminals room standing =
+          let first = before.moved (earlier trust) terminals room standing in
+          let second = acts trust terminals first.0 first.2 in
+          (second.0, AreReplies-push step zone terminals room first.0 second.0 outs before.answers (o, at) answer first.1 second.1, second.2)
+
+      begins_more : (at : ℕ) (stream : List ℕ) → left ≡ Some stream → (next : List ℕ) × (after ≡ Some next) × Begins stream (map (λ x. x.0) (outs ++ (o, at) ∷ [])) next
+      begins_more at stream known =
+          let begins = before.begins stream known in
+          let passes = pass.passes begins.0 begins.1 in
+          (passes.0, passes.2, Begins-push stream outs begins.0 (o, at) passes.0 begins.2 before.stay passes.1)
+
+      has_next : (stream : List ℕ) → left ≡ Some stream → (rest : List ℕ) × Begins stream (map (λ x. x.0) outs) rest × HasNext o rest
+      has_next stream known =
+          let begins = before.begins stream known in
+          let passes = pass.passes begins.0 begins.1 in
+          (begins.0, begins.2, (passes.0, passes.1))
+
+      grow_more : (moments text bytes : List ℕ) → Grow mid new moments text bytes → Grow old new (map (λ x. x.1) outs ++ moments) (before.text ++ text) (concat before.answers ++ bytes)
+      grow_more moments text bytes more = record {
+        given = Appends-more old.given mid.given new.given (map (λ x. x.1) outs) moments before.grew.given more.given;
+        kept = Appends-more old.kept mid.kept new.kept before.text text before.grew.kept more.kept;
+        held = Appends-more old.held mid.held new.held (concat before.answers) bytes before.grew.held more.held;
+      }
+
+      grow_next : (at : ℕ) (text bytes : List ℕ) → Grow mid new (at ∷ []) text bytes
+          → Grow old new (map (λ x. x.1) (outs ++ (o, at) ∷ [])) (before.text ++ text) (concat before.answers ++ bytes)
+      grow_next at text bytes more = rw (map-append (λ (x : Timed). x.1) outs ((o, at) ∷ [])) (grow_more (at ∷ []) text bytes more)
+
+      grow_one : (at : ℕ) (text answer : List ℕ) → Grow mid new (at ∷ []) text answer
+          → Grow old new (map (λ x. x.1) (outs ++ (o, at) ∷ [])) (before.text ++ text) (concat (before.answers ++ answer ∷ []))
+      grow_one at text answer more =
+          let all : concat (before.answers ++ answer ∷ []) ≡ concat before.answers ++ answer = concat-append before.answers (answer ∷ []) ∙ ap (λ t. concat before.answers ++ t) (append-nil answer) in
+          rw all (grow_next at text answer more)
+
+      -- it was answered, and stays open
+      pub Noted-more : One (Ok tt) → is_closing o ≡ false → (more : List Timed) × Noted step zone left old after new late stood stands more
+      Noted-more one open_ = (
+        outs ++ (o, one.0) ∷ [],
+        record {
+          answers = before.answers ++ one.1 ∷ [];
+          text = before.text ++ one.2;
+          begins = begins_more one.0;
+          stay = All-push (λ (x : Timed). is_closing x.0 ≡ false) outs (o, one.0) before.stay open_;
+          kept = AreKept-push outs before.answers before.text (o, one.0) one.1 one.2 before.kept one.4;
+          grew = grow_one one.0 one.2 one.1 one.5;
+          moved = one_moves one.0 one.1 one.3;
+        },
+      )
+
+      -- it was answered, and closes
+      pub Noted-closes : One (Ok tt) → KeepsEach came told Now left old new
+      Noted-closes one = record {
+        outs = outs ++ (o, one.0) ∷ [];
+        answers = before.answers ++ one.1 ∷ [];
+        text = before.text ++ one.2;
+        kept = AreKept-push outs before.answers before.text (o, one.0) one.1 one.2 before.kept one.4;
+        ends = inl (
+          one_moves one.0 one.1 one.3,
+          (λ stream known. let begins = begins_more one.0 stream known in (begins.0, begins.2, tt)),
+          ([], inl refl, rw append-nil (grow_one one.0 one.2 one.1 one.5)),
+        );
+      }
+
+      stopped : Unmoved late stays stands → DoesNothing mid new → KeepsEach came told Now left old new
+      stopped still none = record {
+        outs = outs;
+        answers = before.answers;
+        text = before.text;
+        kept = before.kept;
+        ends = inl (
+          same_moves still,
+          (λ stream known. let begins = before.begins stream known in (begins.0, begins.2, tt)),
+          (none.0, none.1, simp append-nil at (grow_more none.0 [] [] none.2)),
+        );
+      }
+
+      begun_after : (at : ℕ) (tail wrote : List ℕ) → IsBegun came told (Unmoved late stays stands) (Acts step zone late stays stands (o, at)) (o, at) tail wrote
+          → IsBegun came told (Now outs before.answers) (λ answer. Now (outs ++ (o, at) ∷ []) (before.answers ++ answer ∷ [])) (o, at) tail wrote
+      begun_after at tail wrote (inl none) = inl (same_moves none.0, none.1)
+      begun_after at tail wrote (inr some) = inr (some.0, one_moves at some.0 some.1, some.2)
+
+      begun : (at : ℕ) (tail wrote : List ℕ) → IsBegun came told (Unmoved late stays stands) (Acts step zone late stays stands (o, at)) (o, at) tail wrote → Grow mid new (at ∷ []) tail wrote
+          → KeepsEach came told Now left old new
+      begun at tail wrote is grew = record {
+        outs = outs;
+        answers = before.answers;
+        text = before.text;
+        kept = before.kept;
+        ends = inr ((o, at), tail, wrote, has_next, begun_after at tail wrote is, grow_next at tail wrote grew);
+      }
+
+      -- serving ended with it
+      pub Noted-breaks : (end : ServeEnd) → One (Err end) → KeepsEach came told Now left old new
+      Noted-breaks ClockFault one = stopped one.0 one.1
+      Noted-breaks end one = begun one.0 one.1 one.2 one.3 one.4

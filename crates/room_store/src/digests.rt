@@ -1,0 +1,71 @@
+//! The digest of the room that a store keeps, by which it is known again.
+ghost use Rattle.std.specs.Prelude.{◌≡◌, List, [], ◌∷◌, IsTrue, IfOk, IfErr, OnOk};
+ghost use Rattle.sha2.specs.Sha256.{sha256};
+ghost use Rattle.sqlite.specs.Held.{state};
+ghost use Rattle.sqlite.specs.State.{HasCleanDisk, Survives};
+ghost use Rattle.room_types.specs.declared.fleet.Terminal.{Terminal};
+ghost use Rattle.room_model.specs.Room.{Room};
+ghost use Rattle.room_service.specs.Rooms.{IsWant};
+ghost use Rattle.room_store_digest.specs.Texts.{digest_text};
+ghost use Rattle.room_store_writes.specs.Houses.{house_of};
+ghost use Rattle.room_store_writes.specs.Writing.{Leaves};
+ghost use Rattle.room_store.specs.Keeping.{IsKept, IsReady, IsRoom, LeavesOneOf};
+
+use crate::store::Store;
+use room_store_digest::digests::digest_in;
+use room_types::refusals::Refusal;
+use sqlite::Alter;
+
+/// The SHA-256 of the room with its terminals, whatever its zone is. The room stays as it was. A
+/// refusal is of memory or of storage.
+pub fn digest_of_room<S: Alter>(store: &mut Store<S>) -> Result<[u8; 32], Refusal>
+    requires ready { IsReady S.Store store.old }
+    ensures ready { IsReady S.Store store.new }
+    ensures plan { store.new.plan ≡ store.old.plan }
+    ensures trusted { HasCleanDisk (state S.Store store.new.conn)
+        → HasCleanDisk (state S.Store store.old.conn) }
+    ensures known { HasCleanDisk (state S.Store store.new.conn)
+        → IfOk result (λ digest. (terminals : List Terminal) (room : Room)
+        → IsRoom S.Store store.old terminals room
+        → digest ≡ sha256 (digest_text terminals room)) }
+    ensures same { HasCleanDisk (state S.Store store.new.conn)
+        → (terminals : List Terminal) (room : Room) → IsRoom S.Store store.old terminals room
+        → IsRoom S.Store store.new terminals room }
+    ensures kept { HasCleanDisk (state S.Store store.new.conn)
+        → OnOk result (IsKept S.Store store.old → IsKept S.Store store.new) }
+    ensures left { HasCleanDisk (state S.Store store.new.conn) → IsKept S.Store store.old
+        → (terminals : List Terminal) (room : Room) → IsRoom S.Store store.old terminals room
+        → LeavesOneOf S.Store store.new terminals (room ∷ []) }
+    ensures wants { IfErr result IsWant }
+{
+    read_digest(store)
+}
+
+fn read_digest<S: Alter>(store: &mut Store<S>) -> Result<[u8; 32], Refusal>
+    requires ready { IsReady S.Store store.old }
+    ensures ready { IsReady S.Store store.new }
+    ensures plan { store.new.plan ≡ store.old.plan }
+    ensures known { HasCleanDisk (state S.Store store.new.conn)
+        → IfOk result (λ digest. (terminals : List Terminal) (room : Room)
+        → IsRoom S.Store store.old terminals room
+        → digest ≡ sha256 (digest_text terminals room)) }
+    ensures leaves { HasCleanDisk (state S.Store store.new.conn)
+        → Leaves (state S.Store store.old.conn) (state S.Store store.new.conn) }
+    ensures stays_open { HasCleanDisk (state S.Store store.new.conn)
+        → OnOk result (IsTrue (state S.Store store.new.conn).is_open) }
+    ensures wants { IfErr result IsWant }
+    ensures survives { Survives (state S.Store store.old.conn) (state S.Store store.new.conn)
+        (λ _. ⊥) }
+{
+    if !store.is_sound {
+        return Err(Refusal::Storage);
+    }
+    let _ = store.conn.is_autocommit();
+    match digest_in(&mut store.conn) {
+        Ok(digest) => Ok(digest),
+        Err(fault) => {
+            store.test_file();
+            Err(Refusal::from(fault))
+        }
+    }
+}

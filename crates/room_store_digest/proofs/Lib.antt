@@ -1,0 +1,12 @@
+-- numbers as bytes
+pub mod Numbers
+-- bytes added to a hash, one after another
+pub mod Added
+-- tables read, one after another
+pub mod Tables
+-- the texts that read the tables of a room
+pub mod WholeTables
+-- what bytes tell of
+pub mod Told
+-- rooms whose texts are the same
+pub mod Rooms

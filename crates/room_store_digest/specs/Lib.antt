@@ -1,0 +1,6 @@
+-- rows as bytes, and the text of a room
+pub mod Texts
+-- what is added to a hash
+pub mod Hashing
+-- what the texts of SQL read
+pub mod Reading

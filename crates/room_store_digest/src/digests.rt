@@ -1,0 +1,103 @@
+//! The digest of a room that is kept in tables.
+ghost use Rattle.std.specs.Prelude.{◌≡◌, ◌<◌, List, length, map, IfOk, OnOk};
+ghost use Rattle.std.specs.List.{AllByRecursion, flat_map};
+ghost use Rattle.sha2.specs.Sha256.{sha256};
+ghost use Rattle.sqlite.specs.Held.{state};
+ghost use Rattle.sqlite.specs.State.{HasCleanDisk};
+ghost use Rattle.sqlite_value.specs.Order.{Row};
+ghost use Rattle.room_model.specs.Room.{Room};
+ghost use Rattle.room_tables_rows.specs.Stands.{House, Stands};
+ghost use Rattle.room_tables_schema.specs.Connections.{HasRoomSchema};
+ghost use Rattle.room_tables_sql.specs.Outcomes.{ReadsOnly};
+ghost use Rattle.room_store_digest.specs.Hashing.{Adds};
+ghost use Rattle.room_store_digest.specs.Reading.{IsKnown, ReadEach, ReadsTable};
+ghost use Rattle.room_store_digest.specs.Texts.{digest_text, table_text};
+
+use crate::hashing::add_rows;
+use room_tables_rows::areas::ALL_AREAS;
+use room_tables_rows::assignments::ALL_ASSIGNMENTS;
+use room_tables_rows::calls::ALL_CALLS;
+use room_tables_rows::divisions::ALL_DIVISIONS;
+use room_tables_rows::incidents::ALL_INCIDENTS;
+use room_tables_rows::loans::ALL_LOANS;
+use room_tables_rows::offers::ALL_OFFERS;
+use room_tables_rows::points::ALL_POINTS;
+use room_tables_rows::reports::ALL_REPORTS;
+use room_tables_rows::terminals::ALL_TERMINALS;
+use room_tables_rows::turns::ALL_TURNS;
+use room_tables_rows::vehicles::ALL_VEHICLES;
+use room_tables_schema::faults::Fault;
+use room_tables_sql::reading::select;
+use sha2::{Digest, Sha256};
+use sqlite::{Alter, Connection};
+
+// Selects all rows of each table but `meta`, the tables in the order in which they are made.
+const WHOLE_TABLES: [&str; 12] = [
+    ALL_AREAS,
+    ALL_TERMINALS,
+    ALL_DIVISIONS,
+    ALL_INCIDENTS,
+    ALL_CALLS,
+    ALL_VEHICLES,
+    ALL_TURNS,
+    ALL_ASSIGNMENTS,
+    ALL_POINTS,
+    ALL_LOANS,
+    ALL_REPORTS,
+    ALL_OFFERS,
+];
+
+/// The SHA-256 of all rows of a room, table by table, but that of its version and its zone, on which
+/// no other row depends. Two tables are never in memory at once.
+pub fn digest_in<S: Alter>(conn: &mut Connection<S>) -> Result<[u8; 32], Fault>
+    requires room { HasRoomSchema S.Store conn.old }
+    ensures digest { HasCleanDisk (state S.Store conn.new)
+        → IfOk result (λ digest. (house : House) (room : Room)
+        → Stands (state S.Store conn.old).now.trees house room
+        → digest ≡ sha256 (digest_text house.terminals room)) }
+    ensures reads { ReadsOnly S.Store conn.old conn.new result }
+{
+    let mut hasher = Sha256::new();
+    add_tables(conn, &mut hasher, &WHOLE_TABLES)?;
+    Ok(hasher.finalize())
+}
+
+// Adds the rows of several tables, by the texts that select them.
+fn add_tables<S: Alter>(
+    conn: &mut Connection<S>,
+    hasher: &mut Sha256,
+    texts: &[&str],
+) -> Result<(), Fault>
+    requires room { HasRoomSchema S.Store conn.old }
+    requires known { AllByRecursion IsKnown (map (λ text. text.now) texts.now) }
+    requires some { 0 < length texts.now }
+    ensures rows { HasCleanDisk (state S.Store conn.new)
+        → OnOk result ((tables : List (List Row))
+        → ReadEach (map (λ text. text.now) texts.now) (state S.Store conn.old).now.trees tables
+        → Adds hasher.old hasher.new (flat_map table_text tables)) }
+    ensures reads { ReadsOnly S.Store conn.old conn.new result }
+{
+    for text in texts {
+        add_table(conn, hasher, text)?;
+    }
+    Ok(())
+}
+
+// Adds the rows of a table, by the text that selects them.
+fn add_table<S: Alter>(
+    conn: &mut Connection<S>,
+    hasher: &mut Sha256,
+    text: &str,
+) -> Result<(), Fault>
+    requires room { HasRoomSchema S.Store conn.old }
+    requires known { IsKnown text.now }
+    ensures rows { HasCleanDisk (state S.Store conn.new)
+        → OnOk result ((rows : List Row)
+        → ReadsTable text.now (state S.Store conn.old).now.trees rows
+        → Adds hasher.old hasher.new (table_text rows)) }
+    ensures reads { ReadsOnly S.Store conn.old conn.new result }
+{
+    let shown = select(conn, text, &[])?;
+    add_rows(hasher, shown.as_slice());
+    Ok(())
+}

@@ -1,0 +1,48 @@
+"""The digest of a room's file, as docs/FILES.md tells it: SHA-256 of all rows but that of its version
+and its zone. The file is one that no program has open."""
+import collections.abc
+import contextlib
+import hashlib
+import pathlib
+import sqlite3
+
+# The tables in their order, with their keys.
+TABLES = {'areas': 'n', 'terminals': 'token', 'divisions': 'number', 'incidents': 'division, number',
+          'calls': 'position, serial', 'vehicles': 'callsign', 'turns': 'callsign, ord',
+          'assignments': 'callsign', 'points': 'division, number', 'loans': 'callsign',
+          'reports': 'callsign, number', 'offers': 'callsign'}
+
+
+def of_number(number: int) -> bytes:
+    """A number in groups of seven bits, the lowest first; each but the last has 128 added."""
+    groups = bytearray()
+    while number >= 128:
+        groups.append(128 + number % 128)
+        number //= 128
+    return bytes(groups) + bytes([number])
+
+
+def of_value(value: None | int | str | bytes) -> bytes:
+    """A value's kind, and what it holds."""
+    if value is None:
+        return b'\0'
+    if isinstance(value, int):
+        return b'\1' + of_number(value) if value >= 0 else b'\2' + of_number(-1 - value)
+    text = value.encode() if isinstance(value, str) else value
+    return (b'\3' if isinstance(value, str) else b'\4') + of_number(len(text)) + text
+
+
+def of_tables(room: sqlite3.Connection) -> collections.abc.Iterator[bytes]:
+    for table, key in TABLES.items():
+        yield of_number(room.execute(f'SELECT count(*) FROM {table}').fetchone()[0])
+        for row in room.execute(f'SELECT * FROM {table} ORDER BY {key}'):
+            yield of_number(len(row)) + b''.join(map(of_value, row))
+
+
+def of_file(file: pathlib.Path) -> str:
+    """The digest in hexadecimal digits."""
+    found = hashlib.sha256()
+    with contextlib.closing(sqlite3.connect(f'{file.resolve().as_uri()}?mode=ro', uri=True)) as room:
+        for part in of_tables(room):
+            found.update(part)
+    return found.hexdigest()

@@ -1,0 +1,389 @@
+"""The journal of a served room and its replay. The list that is kept is what was asked and answered;
+over a room that stands where the list begins a replay gives the room again, row by row, also where
+the program or the machine stopped in between; and a list that is none is refused at its record."""
+# needs: python3 gcc libc6-dev sqlite3
+# builds: dispatch_room
+import io
+import os
+import re
+import shutil
+import stat
+import subprocess
+import sys
+import time
+
+from preloaded import PreloadedTestCase
+from room import (FLEET, PATIENT, PLAN, PROGRAM, TOP, TestCase, call, dump, free_port, made,
+                  message, read_dated, run, serving, sql, talk)
+from test_stops import EVERY, MANY, NEVER, STOPPING, stop
+
+sys.path += [str(TOP / 'bench' / 'crossings'), str(TOP / 'examples' / 'three')]
+
+import day  # noqa: E402
+import digest  # noqa: E402
+import terminals  # noqa: E402
+
+CREW = 'A1,1,1,TQ303804,crewofa1'
+UNTIL = int(time.time()) + 3600
+DUTY = message('deskone1', 'POST /vehicles/A1/duty', f'{{"place":"TQ303804","until":{UNTIL}}}')
+MOBILISE = message('deskone1', 'POST /incidents/1/mobilise', '{"vehicle":"A1"}')
+REPORT = message('crewofa1', 'POST /report',
+                 '{"button":"mobile","number":1,"order":1,"place":"TQ302802"}')
+QUEUE = message('deskone1', 'GET /queue')
+
+
+def entries(text):
+    """The entries of a journal: the words of each line, and with a message its bytes."""
+    found, at = [], 0
+    while at < len(text):
+        end = text.index(b'\n', at)
+        words, at = text[at:end].decode().split(' '), end + 1
+        if words[0] == 'message':
+            size = int(words[2])
+            words[2:], at = [text[at:at + size]], at + size + 1
+        found.append(tuple(words))
+    return found
+
+
+def written(found):
+    """The text of a journal of these entries."""
+    text = b''
+    for words in found:
+        if words[0] == 'message':
+            text += f'message {words[1]} {len(words[2])}\n'.encode() + words[2] + b'\n'
+        else:
+            text += ' '.join(words).encode() + b'\n'
+    return text
+
+
+def replay(room, text, *words):
+    """Replays a list over a room; the status, what was printed, and what was told."""
+    done = subprocess.run([PROGRAM, 'replay', room, *words], input=text, capture_output=True,
+                          timeout=300)
+    return done.returncode, done.stdout, done.stderr.decode()
+
+
+class JournalTestCase(TestCase):
+    def setUp(self):
+        super().setUp()
+        self.room = made(self.folder / 'room.db', CREW)
+        self.list = self.folder / 'room.list'
+
+    def copy(self):
+        """A copy of the room as it is, under another name each time."""
+        self.copies = getattr(self, 'copies', 0) + 1
+        return shutil.copy(self.room, self.folder / f'copy{self.copies}.db')
+
+    def serve(self, *connections, words=()):
+        """Serves the room with a journal to connections, each of some messages; gives the dated
+        answers, and what was told on standard error."""
+        found = []
+        words = *PATIENT, '--journal', self.list, *words
+        with serving(self.room, len(connections), *map(str, words)) as (port, process):
+            for sent in connections:
+                stream = io.BytesIO(talk(port, *sent))
+                found += iter(lambda: read_dated(stream), None)
+            process.wait(timeout=60)
+            return found, process.stderr.read().decode()
+
+    def entries(self):
+        return entries(self.list.read_bytes())
+
+
+class Kept(JournalTestCase):
+    """What is kept is what was asked and answered."""
+
+    SENT = [call(1), DUTY, MOBILISE, REPORT, REPORT, QUEUE, message('deskone1', 'GET /nowhere'),
+            message('nobody12', 'GET /queue'), message('takerone', 'POST /call', '{}'),
+            message('deskone1', 'HEAD /queue'), QUEUE]
+
+    def test_entries(self):
+        sent = [it for it in self.SENT if b'HEAD' not in it]
+        answers, _ = self.serve(sent[:4], sent[4:])
+        head, *rest = self.entries()
+        self.check('its head', (head[:2], re.fullmatch('[0-9a-f]{64}', head[2]) is not None),
+                   (('room', '1'), True))
+        wanted = []
+        for bytes_sent, (moment, status, _) in zip(sent, answers):
+            wanted += [('message', str(moment), bytes_sent), ('answer', str(status))]
+        self.check('its records', rest, wanted)
+        self.check('its mode', stat.S_IMODE(os.stat(self.list).st_mode), 0o600)
+
+    def test_what_is_no_message(self):
+        """What is refused in the place of a message is no record."""
+        self.serve([QUEUE, b'what\r\n\r\n'])
+        self.check('its records', [it[0] for it in self.entries()], ['room', 'message', 'answer'])
+
+    def test_head(self):
+        """A message whose answer has no content is one."""
+        self.serve([message('deskone1', 'HEAD /queue')])
+        self.check('its records', [it[-1] for it in self.entries()][2], '200')
+
+    def test_parts(self):
+        """Each start begins a part; the digest changes with the room, and with nothing else."""
+        for sent in [[QUEUE], [call(1)], [QUEUE]]:
+            self.serve(sent)
+        digests = [it[2] for it in self.entries() if it[0] == 'room']
+        self.check('as told in Python', digests[2], digest.of_file(self.room))
+        self.check('the same room', digests[0] == digests[1], True)
+        self.check('another room', digests[1] == digests[2], False)
+
+    def test_synced(self):
+        self.serve([call(1)], words=['--journal-sync', 'always'])
+        self.check('its records', len(self.entries()), 3)
+
+
+class Unkept(JournalTestCase):
+    """A room is not served without the journal that was asked for."""
+
+    def refused(self, what, path, wanted=(6, '', 'journal\n')):
+        before = dump(self.room)
+        address = f'127.0.0.1:{free_port()}'
+        told = run('serve', self.room, address, '--connections', 1, '--journal', path)
+        self.check(what, told, wanted)
+        self.check(f'{what}: the room', dump(self.room), before)
+
+    def test_no_file(self):
+        self.refused('a folder', self.folder)
+        self.refused('in no folder', self.folder / 'none' / 'list')
+
+    def test_no_journal(self):
+        self.list.write_text('deskone1 POST /call\n')
+        self.refused('another text', self.list)
+        self.check('which stays', self.list.read_text(), 'deskone1 POST /call\n')
+
+    def test_in_use(self):
+        other = made(self.folder / 'other.db', CREW)
+        with serving(other, 1, *PATIENT, '--journal', str(self.list)):
+            self.refused('a list in use', self.list)
+
+    def test_full(self):
+        self.refused('a full disk', '/dev/full')
+
+
+class Cut(JournalTestCase):
+    def test_cut(self):
+        """A record that was cut off is told and taken away at the next start."""
+        copy = self.copy()
+        self.serve([call(1)])
+        whole = self.list.read_bytes()
+        for length in [1, 7, 20, 40]:
+            part = whole[whole.index(b'message'):][:length]
+            self.list.write_bytes(whole + part)
+            _, told = self.serve([QUEUE])
+            self.check(f'{length} bytes: it is told', 'cut off' in told, True)
+            self.check(f'{length} bytes: what stays', self.list.read_bytes()[:len(whole) + 5],
+                       whole + b'room ')
+            whole = self.list.read_bytes()
+        status, out, err = replay(copy, whole)
+        self.check('it is a list', (status, out, err), (0, b'replayed 5\n', ''))
+
+
+class Replayed(JournalTestCase):
+    """Last night's copy and today's journal give today's room."""
+
+    def setUp(self):
+        super().setUp()
+        self.before = self.copy()
+        self.answers, _ = self.serve([call(1), DUTY], [MOBILISE, REPORT, REPORT, QUEUE])
+        self.text = self.list.read_bytes()
+
+    def test_whole(self):
+        room = shutil.copy(self.before, self.folder / 'again.db')
+        self.check('it is replayed', replay(room, self.text), (0, b'replayed 6\n', ''))
+        self.check('the room', dump(room), dump(self.room))
+
+    def test_of_another_room(self):
+        self.check('after the list', replay(self.room, self.text)[0], 1)
+        other = made(self.folder / 'other.db', CREW, 'A2,1,1,TQ303804,crewofa2')
+        before = dump(other)
+        status, out, err = replay(other, self.text)
+        self.check('a vehicle more', (status, out), (1, b''))
+        self.check('it is told', 'another room' in err, True)
+        self.check('the room', dump(other), before)
+
+    def test_bad_lists(self):
+        found = entries(self.text)
+        first = found[:3]
+        moment = found[1][1]
+        text = written(first)
+        bad = {
+            'cut in a message': self.text[:len(text) + 30],
+            'cut in a line': self.text[:len(text) + 3],
+            'no list behind a record': text + b'what is this\n',
+            'a length that lies': text + f'message {moment} 3\nGET /queue HTTP/1.1\n'.encode(),
+            'a moment out of range': text + b'message 4102444800 1\nx\nanswer 200\n',
+            'two statuses': text + b'answer 200\n',
+            'no message': text + f'message {moment} 4\nwhat\nanswer 400\n'.encode(),
+            'two messages in one': written([*first, ('message', moment, QUEUE + QUEUE),
+                                            ('answer', '200')]),
+            'zeros': text + bytes(100_000),
+        }
+        for what, text in bad.items():
+            with self.subTest(what):
+                status, out, err = replay(self.fresh(), text)
+                self.assertEqual((status, out, 'record 2' in err), (1, b'', True), err)
+                self.assertEqual(dump(self.again), dump(self.after(1)))
+
+    def fresh(self):
+        self.again = shutil.copy(self.before, self.folder / 'again.db')
+        return self.again
+
+    def after(self, records):
+        """A room after so many of the records."""
+        room = shutil.copy(self.before, self.folder / 'wanted.db')
+        status, *_ = replay(room, written(entries(self.text)[:1 + 2 * records]))
+        self.assertEqual(status, 0)
+        return room
+
+    def test_another_version(self):
+        status, out, err = replay(self.fresh(), self.text.replace(b'room 1', b'room 2', 1))
+        self.check('another version', (status, out, 'record 1' in err), (1, b'', True))
+
+    def test_no_head(self):
+        status, out, err = replay(self.fresh(), written(entries(self.text)[1:]))
+        self.check('no head', (status, out, 'record 1' in err), (1, b'', True))
+        self.check('the room', dump(self.again), dump(self.before))
+
+    def test_zeros_without_end(self):
+        with open('/dev/zero', 'rb') as zeros:
+            done = subprocess.run([PROGRAM, 'replay', self.fresh()], stdin=zeros,
+                                  capture_output=True, timeout=60)
+        self.check('zeros', (done.returncode, done.stdout), (1, b''))
+
+    def test_another_status(self):
+        found = entries(self.text)
+        found[4] = ('answer', '404')
+        status, out, err = replay(self.fresh(), written(found))
+        self.check('another status', (status, out, 'record 2' in err), (1, b'', True))
+
+    def test_left_open(self):
+        """A message without a status is left out within a part, and at the list's end."""
+        found = entries(self.text)
+        opened = ('message', found[1][1], call(9))
+        for at in [3, len(found)]:
+            text = written([*found[:at], opened, *found[at:]])
+            self.check(f'opened at {at}', replay(self.fresh(), text)[:2], (0, b'replayed 7\n'))
+            self.check(f'opened at {at}: the room', dump(self.again), dump(self.room))
+
+    def test_until(self):
+        found = entries(self.text)
+        moment = int(found[1][1])
+        for nth in range(1, len(found), 2):
+            found[nth] = ('message', str(moment + 60 * (nth // 2)), found[nth][2])
+        text = written(found)
+        for records in range(7):
+            last = moment + 60 * (records - 1) + 59
+            told = replay(self.fresh(), text, '--until', str(last))
+            self.check(f'until {records}', told, (0, f'replayed {records}\n'.encode(), ''))
+            wanted = shutil.copy(self.before, self.folder / 'wanted.db')
+            replay(wanted, written(found[:1 + 2 * records]))
+            self.check(f'until {records}: the room', dump(self.again), dump(wanted))
+
+
+class Piped(JournalTestCase):
+    """Another program drives a room by pipes: one record in, one answer out."""
+
+    def test_answers(self):
+        moment = int(time.time())
+        self.digest = digest.of_file(self.room)
+        process = subprocess.Popen([PROGRAM, 'replay', self.room, '--answers'],
+                                   stdin=subprocess.PIPE, stdout=subprocess.PIPE,
+                                   stderr=subprocess.PIPE)
+        with process:
+            process.stdin.write(written([('room', '1', self.digest)]))
+            for nth, (sent, wanted) in enumerate([(call(1), 200), (DUTY, 200), (call(1), 200),
+                                                  (message('nobody12', 'GET /queue'), 403)]):
+                process.stdin.write(written([('message', str(moment + nth), sent)]))
+                process.stdin.flush()
+                word, status, size = process.stdout.readline().decode().split()
+                answer = process.stdout.read(int(size))
+                found = read_dated(io.BytesIO(answer))
+                self.check(f'answer {nth}', (word, int(status), found[:2]),
+                           ('answer', wanted, (moment + nth, wanted)))
+                self.check(f'answer {nth} ends', process.stdout.read(1), b'\n')
+            process.stdin.close()
+            self.check('nothing more', process.stdout.read(), b'')
+            self.check('its end', (process.wait(timeout=60), process.stderr.read()), (0, b''))
+        self.check('one call', sql(self.room, 'SELECT count(*) FROM calls'), '1\n')
+
+    def test_no_message(self):
+        text = written([('room', '1', digest.of_file(self.room)), ('message', '1000', b'what')])
+        done = subprocess.run([PROGRAM, 'replay', self.room, '--answers'], input=text,
+                              capture_output=True, timeout=60)
+        self.check('no message', (done.returncode, done.stdout, b'record 1' in done.stderr),
+                   (1, b'', True))
+
+
+class Day(TestCase):
+    """A generated day of nine divisions, replayed over the room before it."""
+
+    def test_day(self):
+        stations = day.stations(60)
+        fleet = [f'{it},{division},1,{day.reference(place)},crewof{it}'
+                 for it, (division, place) in stations.items()]
+        journal = self.folder / 'day.list'
+        room = terminals.Room(self.folder, day.plan(), fleet, ['--journal', journal],
+                              lambda file: shutil.copy(file, self.folder / 'before.db'))
+        try:
+            homes = {it: division for it, (division, _) in stations.items()}
+            day.Day(1, terminals.Terminals(room, homes), stations).play(400)
+        finally:
+            room.end()
+        # the room that was killed, as the next command finds it
+        run('times', self.folder / 'room.db', 1, '1970-01-01')
+        before = self.folder / 'before.db'
+        status, out, err = replay(before, journal.read_bytes())
+        self.check('it is replayed', (status, out.startswith(b'replayed '), err), (0, True, ''))
+        with self.subTest('it is long'):
+            self.assertGreater(int(out.split()[1]), 3000)
+        for table in sql(before, "SELECT name FROM sqlite_schema WHERE type = 'table'").split():
+            self.check(table, sql(before, f'SELECT * FROM {table}'),
+                       sql(self.folder / 'room.db', f'SELECT * FROM {table}'))
+
+
+# What the library counts more: writes to a file that are no changes of the room, but its journal.
+WRITING = STOPPING + r"""
+ssize_t write(int file, const void *bytes, size_t size) {
+  struct stat now;
+  if (fstat(file, &now) == 0 && S_ISREG(now.st_mode)) {
+    if (stops()) {
+      if (how() == 1) NEXT(write)(file, bytes, size / 2);
+      _exit(9);
+    }
+  }
+  return NEXT(write)(file, bytes, size);
+}
+"""
+
+
+class Stopped(PreloadedTestCase):
+    """Wherever the program or the machine stops, the copy and the journal give the room that the
+    next start finds."""
+
+    LIBRARY = WRITING
+
+    def stopped(self, what, before, sent):
+        file, listed = self.fresh(before), self.folder / 'case' / 'room.list'
+        words = '--journal', listed, '--journal-sync', 'always'
+        self.program.serve(NEVER, file, sent, *words)
+        total = self.program.total()
+        for at in sorted({*range(1, total + 1, 1 if EVERY else 1 + total // MANY), total}):
+            for how in range(3):
+                with self.subTest(f'{what}, stopped at {at}, {how}'):
+                    file = self.fresh(before)
+                    self.program.serve(stop(at, how), file, sent, *words)
+                    _, status, told = self.program.serve(NEVER, file, QUEUE, *words)
+                    self.assertEqual(status, 0, told)
+                    copy = shutil.copy(before, self.folder / 'copy.db')
+                    status, _, err = replay(copy, listed.read_bytes())
+                    self.assertEqual((status, err), (0, ''))
+                    self.assertEqual(dump(copy), dump(file))
+
+    def test_stops(self):
+        before = made(self.folder / 'before.db', CREW)
+        self.stopped('a call', before, call(1))
+        with serving(before, 1) as (port, process):
+            talk(port, call(1), DUTY)
+            process.wait(timeout=60)
+        self.stopped('an order', before, MOBILISE)
