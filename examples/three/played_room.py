@@ -17,6 +17,7 @@ OPENS_WITHIN = 120.0  # seconds until the first record is answered: opening read
 ANSWERS_WITHIN = 10.0  # seconds until any other is
 DROPS_WITHIN = 0.5  # seconds that one of no more use may take to end by itself
 ENDS_WITHIN = 30.0  # seconds that the program may take to put its log into its file
+LEAST_LOG = 32 + 24 + 512  # bytes of SQLite's log with one page of the smallest size
 
 
 class Ended(Exception):
@@ -73,9 +74,9 @@ def sync(path: pathlib.Path) -> None:
 
 
 def look_at(file: pathlib.Path) -> None:
-    """Looks whether a file alone is the room, without a log."""
+    """Looks whether a file alone is the room, as it is where its log has no page."""
     log = file.with_name(f'{file.name}-wal')
-    if log.exists() and log.stat().st_size:
+    if log.exists() and log.stat().st_size >= LEAST_LOG:
         raise Ended(f'{file} is not closed: it has a log')
 
 

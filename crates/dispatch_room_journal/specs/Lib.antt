@@ -3,5 +3,6 @@ pub mod Entries
 pub mod Parts
 pub mod Looks
 pub mod Readings
+pub mod Records
 pub mod Laws
 pub mod Ends

@@ -23,4 +23,5 @@ pub mod lines;
 pub mod looks;
 pub mod numbers;
 pub mod reading;
+pub mod statuses;
 pub mod writing;

@@ -1,14 +1,15 @@
 -- Lemmas on the entries that a replay takes from a journal.
-use Rattle.std.proofs.Common.{◌≡◌, ◌∙◌, sym, ap, subst, arith, ℕ, List, [], ◌∷◌, ◌++◌, drop, append-nil, append_assoc, Option, Some, None, inr}
+use Rattle.std.proofs.Common.{◌≡◌, ◌∙◌, sym, ap, subst, refl, arith, ℕ, List, [], ◌∷◌, ◌++◌, drop, append-nil, append_assoc, Option, Some, None, inr}
 use Rattle.std.specs.Prelude.{⊤}
 use Rattle.std.specs.Io.KnownBytes.{Consumes, Keeps, IsAtEnd, prepend_known}
 use Rattle.std.proofs.KnownBytes.{Consumes-trans}
 use Rattle.dispatch_room_journal.specs.declared.lines.Line.TheVariants.{Room, Message}
 use Rattle.dispatch_room_journal.specs.declared.looks.Layout.{Layout}
-use Rattle.dispatch_room_journal.specs.Entries.{Entry, room, message, answer, line_of, text_of, texts_of}
+use Rattle.dispatch_room_journal.specs.Entries.{Entry, room, message, answer, line_of, text_of, texts_of, Begins}
 use Rattle.dispatch_room_journal.specs.Looks.{IsLayout}
+use Rattle.dispatch_room_journal.proofs.EntryLemmas.{one_entry_law, no_end_law}
 use Rattle.dispatch_room_replaying.specs.Steps.{IsMark}
-use Rattle.dispatch_room_replaying.specs.Turns.{BeginsWith, EndsAt, IsBy, IsAfter}
+use Rattle.dispatch_room_replaying.specs.Turns.{HasNoStatus, BeginsWith, EndsAt, IsBy, IsAfter}
 
 -- what a line says of its entry
 pub layout_of_room : (kept : List ℕ) (layout : Layout) (e : Entry) (digest : List ℕ) → IsLayout kept layout e → layout.line ≡ Room digest → IsLayout kept layout (room digest)
@@ -57,6 +58,18 @@ begins_front (Some more) kept layout e x text is =
       sym same ∙ ap (λ t. t ++ more) x.begins.1 ∙ append_assoc (text_of e) (drop layout.end kept) more ∙ ap (λ t. t ++ (drop layout.end kept ++ more)) (sym (append-nil (text_of e))),
       tt,
     )
+
+-- no status stands next
+pub no_status_front : (left : Option (List ℕ)) (kept : List ℕ) (layout : Layout) (e : Entry) → IsLayout kept layout e → ((status : ℕ) → ¬ (layout.line ≡ line_of (answer status)))
+    → BeginsWith (prepend_known kept left) [] HasNoStatus
+no_status_front left kept layout e x other text is =
+    let y = begins_front left kept layout e x text is in
+    let first : Begins text e y.0 = (x.begins.0, y.1 ∙ ap (λ t. t ++ y.0) (append-nil (text_of e))) in
+    (text, refl, λ status more begins. other status (x.line ∙ ap line_of (one_entry_law text e (answer status) y.0 more first begins).0))
+
+pub no_status_end : (left : Option (List ℕ)) → IsAtEnd left → BeginsWith left [] HasNoStatus
+no_status_end None end text is = absurd (cc)
+no_status_end (Some x) end text is = let same : x ≡ text = cc in (text, refl, λ status more begins. (no_end_law text (answer status) more begins).0 (sym same ∙ end))
 
 -- nothing is left
 pub at_end : (left : Option (List ℕ)) (kept : List ℕ) → kept ≡ [] → IsAtEnd left → IsAtEnd (prepend_known kept left)

@@ -1,6 +1,5 @@
 -- Lemmas on answers that are written as their messages are played.
-use Rattle.std.proofs.Common.{◌≡◌, ◌∙◌, sym, ap, subst, refl, ℕ, List, [], ◌∷◌, ◌++◌, append-nil, Bool, true, false, Option, None, ◌⊎◌, inl, inr, Ok}
-use Rattle.std.specs.Prelude.{⊤}
+use Rattle.std.proofs.Common.{◌≡◌, ◌∙◌, sym, ap, subst, refl, ℕ, List, [], ◌∷◌, ◌++◌, append-nil, Bool, true, false, Option, Some, None, Ok}
 use Rattle.std.specs.List.{flat_map}
 use Rattle.std.specs.Io.KnownBytes.{Appends, Consumes, Keeps}
 use Rattle.std.proofs.KnownBytes.{Consumes-kept}
@@ -11,15 +10,18 @@ use Rattle.room_http_messages.proofs.StreamLemmas.{Appends-more}
 use Rattle.room_http_time.specs.declared.zones.Zone.{Zone}
 use Rattle.room_http.specs.Talk.{IsFront}
 use Rattle.room_service.specs.Rooms.{Step}
-use Rattle.dispatch_room_journal.specs.Entries.{Entry, message, answer, IsEntry, texts_of}
-use Rattle.dispatch_room_replaying.specs.declared.progress.Progress.{Progress}
-use Rattle.dispatch_room_replaying.specs.Turns.{Play, Turn, answered, tried, plays_in, plays_of, has_message, is_left_out, status_in, IsPlay, IsTurn, IsPlayed, AreBy, BeginsWith}
-use Rattle.dispatch_room_replaying.specs.Replays.{DigestOf, Leads}
+use Rattle.dispatch_room_journal.specs.Entries.{message, answer, IsEntry, texts_of}
+use Rattle.dispatch_room_replaying.specs.declared.faults.ReplayFault.{ReplayFault}
+use Rattle.dispatch_room_journal.specs.Records.{status_in}
+use Rattle.dispatch_room_replaying.specs.Turns.{Play, Turn, answered, tried, plays_in, plays_of, has_message, is_left_out, IsPlayed, BeginsWith}
+use Rattle.dispatch_room_replaying.specs.Faults.{Explains, IsDueTo}
+use Rattle.dispatch_room_replaying.specs.Replays.{DigestOf, Leads, LeadsElsewhere}
 use Rattle.dispatch_room_replaying.specs.Steps.{Stays, Passes, StopsIn}
 use Rattle.dispatch_room_replaying.specs.Frames.{frame_of, frames_of, FollowIs}
-use Rattle.dispatch_room_replaying.proofs.StepLemmas.{WasPlayed}
+use Rattle.dispatch_room_replaying.proofs.FaultLemmas.{begins_explain}
+use Rattle.dispatch_room_replaying.proofs.StepLemmas.{WasPlayed, Shows, played_stops}
 use Rattle.dispatch_room_replaying.proofs.EntryLemmas.{taken_two}
-use Rattle.dispatch_room_replaying.proofs.TurnLemmas.{one_by, two_by, all_one, begun-append, begun_by, keeps_begins, keeps_consumes, Leads-after, passes_one, stops_none}
+use Rattle.dispatch_room_replaying.proofs.TurnLemmas.{one_by, two_by, consumes_begins, keeps_consumes, Leads-after, passes_one}
 
 -- frames, one after another
 pub frames_append : (us ts : List Turn) → frames_of us ++ frames_of ts ≡ frames_of (us ++ ts)
@@ -41,19 +43,18 @@ module _ (step : Step) (zone : Zone) (digest_of : DigestOf) (trusted : Type 0) (
   told_same = x.3 ∙ sym same
 
   -- the answer was not written wholly, or what follows it was no entry, or another status
-  pub each_stops : BeginsWith before (message at sent ∷ []) (λ rest. ⊤) → (front rest : List ℕ) → frame_of slice ≡ front ++ rest → Appends held holds front
-      → (p : Play) × IsPlay p × AreBy None (message p.at p.sent ∷ []) × BeginsWith before (message p.at p.sent ∷ []) (λ rest. ⊤)
-      × Leads step zone digest_of trusted stood stands (tried p ∷ [])
-      × ((front : List ℕ) × IsFront front (frames_of (tried p ∷ [])) × Appends held holds front)
-  each_stops begins front rest split wrote =
-      let all : message at sent ∷ [] ≡ message x.0.at x.0.sent ∷ [] = λ i. message (sym x.1 i) (sym x.2 i) ∷ [] in (
-        x.0,
-        x.4,
-        subst (λ (l : List Entry). AreBy None l) all (one_by None at sent sent tt is),
-        subst (λ (l : List Entry). BeginsWith before l (λ rest. ⊤)) all begins,
-        leads_tried,
-        (front, (rest, append-nil (frame_of x.0.told) ∙ ap frame_of told_same ∙ split), wrote),
-      )
+  pub each_stops : (fault : ReplayFault) (read_failed write_failed : Bool)
+      → BeginsWith before (message at sent ∷ []) (Shows false step zone digest_of trusted stood stands fault (tried x.0 ∷ [])) → IsDueTo read_failed write_failed fault
+      → (front rest : List ℕ) → frame_of slice ≡ front ++ rest → Appends held holds front
+      → (last : List Turn) × StopsIn step zone digest_of trusted stood stands false before (Some at) true fault read_failed write_failed last
+      × (front : List ℕ) × IsFront front (frames_of last) × Appends held holds front
+  each_stops fault read_failed write_failed begins due front rest split wrote = (
+    tried x.0 ∷ [],
+    played_stops false step zone digest_of trusted stood stands before at sent is read_failed write_failed x.0 fault x.1 x.2 x.4 leads_tried begins due,
+    front,
+    (rest, append-nil (frame_of x.0.told) ∙ ap frame_of told_same ∙ split),
+    wrote,
+  )
 
   module _ (mid after : Option (List ℕ)) (failed : Bool) (took_message : Consumes before mid (texts_of (message at sent ∷ []))) (wrote : Appends held holds (frame_of slice)) where
     wrote_one : Appends held holds (frame_of x.0.told ++ [])
@@ -67,7 +68,7 @@ module _ (step : Step) (zone : Zone) (digest_of : DigestOf) (trusted : Type 0) (
       answered x.0 f.0,
       passes_one step zone digest_of trusted stood stands before after None IsPlayed (answered x.0 f.0) (message at sent ∷ answer f.0 ∷ []) (x.4, ap status_in told_same ∙ f.1) tt
           (λ i. message (x.1 i) (x.2 i) ∷ answer f.0 ∷ []) (two_by None at sent sent (answer f.0) tt is tt f.2) (taken_two before mid after (message at sent) (answer f.0) took_message f.3)
-          (leads_answered f.0),
+          (leads_answered f.0) (λ never. absurd (cc)),
       refl,
       refl,
       f.4,
@@ -77,12 +78,22 @@ module _ (step : Step) (zone : Zone) (digest_of : DigestOf) (trusted : Type 0) (
       tried x.0,
       passes_one step zone digest_of trusted stood stands before after None IsPlayed (tried x.0) (message at sent ∷ []) x.4 tt
           (λ i. message (x.1 i) (x.2 i) ∷ []) (one_by None at sent sent tt is) (Consumes-kept before mid after (texts_of (message at sent ∷ [])) took_message f.0)
-          leads_tried,
+          leads_tried (λ _. f.2),
       refl,
       refl,
       f.1,
       wrote_one,
     )
+
+-- what followed the answer is no entry, or another status
+pub each_follows : (step : Step) (zone : Zone) (digest_of : DigestOf) (trusted : Type 0) (stood stands : List Terminal → Room → Type 0) (before mid : Option (List ℕ)) (at : ℕ) (sent slice : List ℕ)
+    (p : Play) (fault : ReplayFault) → p.told ≡ slice → Consumes before mid (texts_of (message at sent ∷ []))
+    → ((p : Play) → p.told ≡ slice → BeginsWith mid [] (Explains false ⊥ ⊥ (λ digest. ⊥) (tried p ∷ []) fault))
+    → BeginsWith before (message at sent ∷ []) (Shows false step zone digest_of trusted stood stands fault (tried p ∷ []))
+each_follows step zone digest_of trusted stood stands before mid at sent slice p fault same took follows =
+    consumes_begins before mid (message at sent ∷ []) [] (Shows false step zone digest_of trusted stood stands fault (tried p ∷ [])) took
+    (begins_explain mid [] false ⊥ ⊥ (true ≡ false) ⊥ (λ digest. ⊥) (LeadsElsewhere step zone digest_of trusted stood stands (tried p ∷ [])) (tried p ∷ []) fault
+    (λ never. absurd never) (λ never. never) (λ digest never. absurd never) (follows p same))
 
 module _ (step : Step) (zone : Zone) (digest_of : DigestOf) (early late : Type 0) (earlier : late → early) (stood middle stands : List Terminal → Room → Type 0) (before mid after : Option (List ℕ))
     (stays : Stays early stood middle) (same : Keeps before mid) where
@@ -92,34 +103,6 @@ module _ (step : Step) (zone : Zone) (digest_of : DigestOf) (early late : Type 0
     kinds = x.kinds;
     entries = x.entries;
     read = keeps_consumes before mid after _ same x.read;
+    unanswered = x.unanswered;
     leads = Leads-after step zone digest_of early late stood middle stands ts earlier stays x.leads;
   }
-
-  pub turn_stops : (held holds : Option (List ℕ)) (old : Progress) → old.is_begun ≡ true
-      → (Stays late middle stands × Appends held holds [])
-      ⊎ ((p : Play) × IsPlay p × AreBy None (message p.at p.sent ∷ []) × BeginsWith mid (message p.at p.sent ∷ []) (λ rest. ⊤)
-      × Leads step zone digest_of late middle stands (tried p ∷ [])
-      × ((front : List ℕ) × IsFront front (frames_of (tried p ∷ [])) × Appends held holds front))
-      → (last : List Turn) × StopsIn step zone digest_of late stood stands before after None old last
-      × (front : List ℕ) × IsFront front (frames_of last) × Appends held holds front
-  turn_stops held holds old begun (inl x) = (
-    [],
-    stops_none step zone digest_of late stood stands before after None old (λ trust terminals room stood_for. x.0 trust terminals room (stays (earlier trust) terminals room stood_for)),
-    [],
-    ([], refl),
-    x.1,
-  )
-  turn_stops held holds old begun (inr x) = (
-    tried x.0 ∷ [],
-    record {
-      few = inr (x.0, refl);
-      turns = all_one IsTurn (tried x.0) x.1;
-      entries = x.2;
-      begins = keeps_begins before mid (message x.0.at x.0.sent ∷ []) (λ rest. ⊤) same x.3;
-      begun = λ us y. inr (begun-append us (tried x.0 ∷ []) (begun_by old.is_begun us begun y.begun));
-      leads = Leads-after step zone digest_of early late stood middle stands (tried x.0 ∷ []) earlier stays x.4;
-    },
-    x.5.0,
-    x.5.1,
-    x.5.2,
-  )

@@ -22,7 +22,7 @@ use Rattle.dispatch_room_replaying.proofs.TurnLemmas.{talk_of}
 
 module _ (step : Step) (zone : Zone) (digest_of : DigestOf) (terminals : List Terminal) where
   -- equal bytes at equal moments, in equal rooms, are answered equally
-  same_play : (held after other : Room) (p q : Play) → IsPlay p → IsPlay q → p.at ≡ q.at → p.sent ≡ q.sent
+  pub same_play : (held after other : Room) (p q : Play) → IsPlay p → IsPlay q → p.at ≡ q.at → p.sent ≡ q.sent
       → Answers step zone digest_of terminals held p after → Answers step zone digest_of terminals held q other → (p ≡ q) × (after ≡ other)
   same_play held after other p q p_is q_is at sent first second =
       let whole : p.whole ≡ q.whole = (one_message_law p.sent p.whole q.whole [] [] p_is (subst (λ (t : List ℕ). HasMessage t q.whole []) (sym sent) q_is)).0 in

@@ -1,14 +1,27 @@
 -- Lemmas on the steps of a replay.
-use Rattle.std.proofs.Common.{◌≡◌, ◌∙◌, ap, refl, ℕ, List, [], ◌∷◌, decimal, Bool, true, false, ◌↔◌, IsTrue, inl, inr}
+use Rattle.std.proofs.Common.{◌≡◌, ◌∙◌, sym, ap, subst, refl, arith, ℕ, List, [], ◌∷◌, drop, decimal, Bool, true, false, ◌↔◌, IsTrue, Option, Some, Ok, Err, inl, inr}
+use Rattle.std.specs.Io.KnownBytes.{Consumes}
 use Rattle.room_types.specs.declared.fleet.Terminal.{Terminal}
 use Rattle.room_model.specs.Room.{Room}
 use Rattle.room_http_time.specs.declared.zones.Zone.{Zone}
 use Rattle.room_service.specs.Rooms.{Step}
 use Rattle.room_http.specs.Talk.{IsReplyTo}
-use Rattle.dispatch_room_journal.specs.Entries.{room, message, answer}
-use Rattle.dispatch_room_replaying.specs.Turns.{Play, answered, caught_up, left_out, timed, status_in, IsPlay}
-use Rattle.dispatch_room_replaying.specs.Replays.{DigestOf}
-use Rattle.dispatch_room_replaying.specs.Steps.{Stays, TurnOf, StopsAt, ComesTo}
+use Rattle.dispatch_room_journal.specs.declared.lines.Line.{Line}
+use Rattle.dispatch_room_journal.specs.declared.looks.Layout.{Layout}
+use Rattle.dispatch_room_journal.specs.declared.reading.Fault.{Fault}
+use Rattle.dispatch_room_journal.specs.Entries.{Entry, room, message, answer, IsEntry, line_of, texts_of}
+use Rattle.dispatch_room_journal.specs.Looks.{IsLayout}
+use Rattle.dispatch_room_journal.specs.Readings.{FirstIs}
+use Rattle.dispatch_room_replaying.specs.declared.faults.ReplayFault.{ReplayFault}
+use Rattle.dispatch_room_replaying.specs.declared.faults.ReplayFault.TheVariants.{Differs, Another}
+use Rattle.dispatch_room_journal.specs.Records.{status_in}
+use Rattle.dispatch_room_replaying.specs.Turns.{Play, Turn, answered, caught_up, tried, left_out, timed, IsPlay, AreBy, BeginsWith}
+use Rattle.dispatch_room_replaying.specs.Faults.{read_fault, IsWanting, broken_after, Explains, IsDueTo, Refuses}
+use Rattle.dispatch_room_replaying.specs.Replays.{DigestOf, Leads, LeadsElsewhere}
+use Rattle.dispatch_room_replaying.specs.Steps.{Stays, TurnOf, Deviates, StopsAt, StopsIn, ComesTo}
+use Rattle.dispatch_room_replaying.proofs.FaultLemmas.{not_both, known_after, begins_one, read_explains, wanting_explains, wanting_due, refuses_explains, refuses_due}
+use Rattle.dispatch_room_replaying.proofs.EntryLemmas.{layout_of_mark}
+use Rattle.dispatch_room_replaying.proofs.TurnLemmas.{one_by}
 
 -- the message was played, with this answer
 abbrev pub WasPlayed : Step → Zone → Type 0 → (List Terminal → Room → Type 0) → (List Terminal → Room → Type 0) → ℕ → List ℕ → List ℕ → Type 0
@@ -35,9 +48,24 @@ module _ (step : Step) (zone : Zone) (digest_of : DigestOf) (trusted : Type 0) (
     leads = λ trust terminals room stood_for. let y = x.5 trust terminals room stood_for in (y.0, (y.0, y.1, refl), y.2);
   }
 
-  pub played_stops : (told : List ℕ) → WasPlayed step zone trusted stood stands at sent told → StopsAt step zone digest_of trusted stood stands at sent
-  played_stops told x =
-      inr (x.0, x.1, x.2, x.4, λ trust terminals room stood_for. let y = x.5 trust terminals room stood_for in (y.0, (y.0, y.1, refl), y.2))
+  leads_tried : (told : List ℕ) (x : WasPlayed step zone trusted stood stands at sent told) → Leads step zone digest_of trusted stood stands (tried x.0 ∷ [])
+  leads_tried told x trust terminals held stood_for = let y = x.5 trust terminals held stood_for in (y.0, (y.0, y.1, refl), y.2)
+
+  -- the status is another
+  pub differs_stops : (told : List ℕ) (status : ℕ) → WasPlayed step zone trusted stood stands at sent told → ¬ (status_in told ≡ decimal status)
+      → StopsAt step zone digest_of trusted stood stands at sent (line_of (answer status)) Differs
+  differs_stops told status x other =
+      inr (x.0, x.1, x.2, x.4, leads_tried told x, inl (refl, status, refl, λ same. other (ap status_in (sym x.3) ∙ same)))
+
+  -- memory or storage is wanting after it was played
+  pub wanting_stops : (told : List ℕ) (line : Line) (fault : ReplayFault) → WasPlayed step zone trusted stood stands at sent told → IsWanting fault
+      → StopsAt step zone digest_of trusted stood stands at sent line fault
+  wanting_stops told line fault x want = inr (x.0, x.1, x.2, x.4, leads_tried told x, inr (inr want))
+
+  -- a line is that of its entry
+  pub stops_line : (line other : Line) (fault : ReplayFault) → line ≡ other → StopsAt step zone digest_of trusted stood stands at sent other fault
+      → StopsAt step zone digest_of trusted stood stands at sent line fault
+  stops_line line other fault is x = subst (λ (l : Line). StopsAt step zone digest_of trusted stood stands at sent l fault) (sym is) x
 
   pub left_turn : Stays trusted stood stands → TurnOf step zone digest_of trusted stood stands at sent [] true
   left_turn stays = record {
@@ -82,10 +110,122 @@ module _ (step : Step) (zone : Zone) (digest_of : DigestOf) (early late : Type 0
         let differs : ¬ (digest_of terminals held ≡ digest) = λ same. not_both is said ((tells (earlier trust) terminals held stood_for).1 same) in
         (y.0, (y.0, (differs, y.1, y.2), refl), y.3);
   }
-    where
-      not_both : (b : Bool) → b ≡ false → IsTrue b → ⊥
-      not_both b f t = cc
 
-  pub stops_later : Stays early stood mid → StopsAt step zone digest_of late mid stands at sent → StopsAt step zone digest_of late stood stands at sent
-  stops_later stays (inl same) = inl (λ trust terminals room stood_for. same trust terminals room (stays (earlier trust) terminals room stood_for))
-  stops_later stays (inr x) = inr (x.0, x.1, x.2, x.3, λ trust terminals room stood_for. x.4 trust terminals room (stays (earlier trust) terminals room stood_for))
+  -- the room has come to another digest
+  pub elsewhere_stops : (told digest : List ℕ) (is : Bool) → Stays late mid stands → Tells digest_of late mid digest is → is ≡ false → WasPlayed step zone early stood mid at sent told
+      → StopsAt step zone digest_of late stood stands at sent (line_of (room digest)) Another
+  elsewhere_stops told digest is stays tells said x =
+      inr (
+        x.0,
+        x.1,
+        x.2,
+        x.4,
+        λ trust terminals held stood_for. let y = x.5 (earlier trust) terminals held stood_for in (y.0, (y.0, y.1, refl), stays trust terminals y.0 y.2),
+        inr (inl (
+          refl,
+          digest,
+          refl,
+          λ trust terminals held stood_for.
+              let y = x.5 (earlier trust) terminals held stood_for in
+              (y.0, (y.0, y.1, refl), λ same. not_both is said ((tells trust terminals y.0 y.2).1 same), stays trust terminals y.0 y.2),
+        )),
+      )
+
+  deviates_later : (p : Play) (line : Line) (fault : ReplayFault) → Stays early stood mid → Deviates step zone digest_of late mid stands p line fault
+      → Deviates step zone digest_of late stood stands p line fault
+  deviates_later p line fault stays (inl x) = inl x
+  deviates_later p line fault stays (inr (inl x)) =
+      inr (inl (x.0, x.1, x.2, λ trust terminals room stood_for. x.3 trust terminals room (stays (earlier trust) terminals room stood_for)))
+  deviates_later p line fault stays (inr (inr x)) = inr (inr x)
+
+  pub stops_later : (line : Line) (fault : ReplayFault) → Stays early stood mid → StopsAt step zone digest_of late mid stands at sent line fault
+      → StopsAt step zone digest_of late stood stands at sent line fault
+  stops_later line fault stays (inl x) = inl (λ trust terminals room stood_for. x.0 trust terminals room (stays (earlier trust) terminals room stood_for), x.1)
+  stops_later line fault stays (inr x) =
+      inr (x.0, x.1, x.2, x.3, λ trust terminals room stood_for. x.4 trust terminals room (stays (earlier trust) terminals room stood_for), deviates_later x.0 line fault stays x.5)
+
+-- what follows a message explains why it stopped the replay
+abbrev pub Shows : Bool → Step → Zone → DigestOf → Type 0 → (List Terminal → Room → Type 0) → (List Terminal → Room → Type 0) → ReplayFault → List Turn → List ℕ → Type 0
+Shows waits step zone digest_of trusted stood stands fault last = Explains waits (true ≡ false) ⊥ (LeadsElsewhere step zone digest_of trusted stood stands last) last fault
+
+-- why a message stopped the replay
+module _ (waits : Bool) (step : Step) (zone : Zone) (digest_of : DigestOf) (trusted : Type 0) (stood stands : List Terminal → Room → Type 0) (before : Option (List ℕ)) (at : ℕ) (sent : List ℕ)
+    (is : IsEntry (message at sent)) (read_failed write_failed : Bool) where
+  abbrev Stops : ReplayFault → List Turn → Type 0
+  Stops fault last = StopsIn step zone digest_of trusted stood stands waits before (Some at) true fault read_failed write_failed last
+
+  unplayed_stops : (fault : ReplayFault) → Stays trusted stood stands → BeginsWith before [] (Shows waits step zone digest_of trusted stood stands fault [])
+      → IsDueTo read_failed write_failed fault → Stops fault []
+  unplayed_stops fault stays begins due = record {
+    few = inl refl;
+    begins = begins;
+    leads = λ trust terminals held stood_for. (held, refl, stays trust terminals held stood_for);
+    due = due;
+  }
+
+  pub played_stops : (p : Play) (fault : ReplayFault) → p.at ≡ at → p.sent ≡ sent → IsPlay p → Leads step zone digest_of trusted stood stands (tried p ∷ [])
+      → BeginsWith before (message at sent ∷ []) (Shows waits step zone digest_of trusted stood stands fault (tried p ∷ [])) → IsDueTo read_failed write_failed fault → Stops fault (tried p ∷ [])
+  played_stops p fault same_at same_sent played leads begins due =
+      let all : message at sent ∷ [] ≡ message p.at p.sent ∷ [] = λ i. message (sym same_at i) (sym same_sent i) ∷ [] in
+      record {
+        few = inr (p, played, subst (λ (l : List Entry). AreBy (Some at) l) all (one_by (Some at) at sent sent (omega arith) is), refl, refl);
+        begins = subst (λ (l : List Entry). BeginsWith before l (Shows waits step zone digest_of trusted stood stands fault (tried p ∷ []))) all begins;
+        leads = leads;
+        due = due;
+      }
+
+  module _ (mid : Option (List ℕ)) (took : Consumes before mid (texts_of (message at sent ∷ []))) where
+    -- it was not played, since its bytes are no message, or memory or storage is wanting
+    pub refused_stops : (fault : ReplayFault) → read_failed ≡ false → write_failed ≡ false → Stays trusted stood stands → Refuses sent fault → Stops fault []
+    refused_stops fault read write stays refuses =
+        unplayed_stops fault stays
+        (λ text known.
+        let x = known_after before mid (texts_of (message at sent ∷ [])) text took known in
+        let begins = begins_one (message at sent) text x.0 is x.2 in
+        (text, refl, refuses_explains waits (true ≡ false) ⊥ (LeadsElsewhere step zone digest_of trusted stood stands []) at sent fault text x.0 begins refuses))
+        (refuses_due read_failed write_failed sent fault read write refuses)
+
+    -- it was not played, since what follows it was not read
+    pub unread_stops : (fault : Fault) → waits ≡ true → Stays trusted stood stands → ((text : List ℕ) → mid ≡ Some text → FirstIs text (Err fault))
+        → IsDueTo read_failed write_failed (read_fault fault) → Stops (read_fault fault) []
+    unread_stops fault wait stays first due =
+        unplayed_stops (read_fault fault) stays
+        (λ text known.
+        let x = known_after before mid (texts_of (message at sent ∷ [])) text took known in (
+          text,
+          refl,
+          read_explains waits (true ≡ false) ⊥ (LeadsElsewhere step zone digest_of trusted stood stands []) [] fault text x.0 (first x.0 x.1)
+              (λ b. broken_after at sent x.0 wait refl (begins_one (message at sent) text x.0 is x.2) b),
+        ))
+        due
+
+    -- it was played, and is not as the line after it says
+    deviates_explains : (p : Play) (layout : Layout) (e : Entry) (fault : ReplayFault) (text : List ℕ) → IsLayout text layout e
+        → Deviates step zone digest_of trusted stood stands p layout.line fault → Shows waits step zone digest_of trusted stood stands fault (tried p ∷ []) text
+    deviates_explains p layout e fault text l (inl x) =
+        subst (λ (f : ReplayFault). Shows waits step zone digest_of trusted stood stands f (tried p ∷ []) text) (sym x.0)
+        (p, x.1, drop layout.end text, refl, (layout_of_mark text layout e (answer x.1) l tt x.2).begins, x.3)
+    deviates_explains p layout e fault text l (inr (inl x)) =
+        subst (λ (f : ReplayFault). Shows waits step zone digest_of trusted stood stands f (tried p ∷ []) text) (sym x.0)
+        (x.1, drop layout.end text, (layout_of_mark text layout e (room x.1) l tt x.2).begins, x.3)
+    deviates_explains p layout e fault text l (inr (inr x)) =
+        wanting_explains waits (true ≡ false) ⊥ (LeadsElsewhere step zone digest_of trusted stood stands (tried p ∷ [])) (tried p ∷ []) fault text x
+
+    deviates_due : (p : Play) (line : Line) (fault : ReplayFault) → read_failed ≡ false → write_failed ≡ false → Deviates step zone digest_of trusted stood stands p line fault
+        → IsDueTo read_failed write_failed fault
+    deviates_due p line fault read write (inl x) = subst (λ (f : ReplayFault). IsDueTo read_failed write_failed f) (sym x.0) (read, write)
+    deviates_due p line fault read write (inr (inl x)) = subst (λ (f : ReplayFault). IsDueTo read_failed write_failed f) (sym x.0) (read, write)
+    deviates_due p line fault read write (inr (inr x)) = wanting_due read_failed write_failed fault read write x
+
+    pub settled_stops : (layout : Layout) (fault : ReplayFault) → ((text : List ℕ) → mid ≡ Some text → FirstIs text (Ok (Some layout))) → read_failed ≡ false → write_failed ≡ false
+        → StopsAt step zone digest_of trusted stood stands at sent layout.line fault → (last : List Turn) × Stops fault last
+    settled_stops layout fault first read write (inl x) = ([], refused_stops fault read write x.0 x.1)
+    settled_stops layout fault first read write (inr x) = (
+      tried x.0 ∷ [],
+      played_stops x.0 fault x.1 x.2 x.3 x.4
+          (λ text known.
+          let y = known_after before mid (texts_of (message at sent ∷ [])) text took known in
+          let found = first y.0 y.1 in
+          (y.0, y.2, deviates_explains x.0 layout found.0 fault y.0 found.1 x.5))
+          (deviates_due x.0 layout.line fault read write x.5),
+    )

@@ -1,21 +1,29 @@
 -- Lemmas on the turns of a replay, one after another.
-use Rattle.std.proofs.Common.{◌≡◌, ◌∙◌, sym, ap, subst, refl, arith, ℕ, ◌+◌, ◌-◌, ◌^◌, min, List, [], ◌∷◌, ◌++◌, append-nil, append_assoc, Bool, true, false, cond, Option, Some, None, ◌⊎◌, inl, inr}
-use Rattle.std.specs.Prelude.{⊤, All, count_by}
+use Rattle.std.proofs.Common.{◌≡◌, ◌∙◌, sym, ap, subst, refl, arith, ℕ, ◌+◌, ◌-◌, ◌^◌, ◌≤◌, min, List, [], ◌∷◌, ◌++◌, append-nil, append_assoc, length, Bool, true, false, cond, Option, Some, None}
+use Rattle.std.proofs.Common.{◌⊎◌, inl, inr}
+use Rattle.std.specs.Prelude.{All, count_by}
 use Rattle.std.specs.Io.KnownBytes.{Consumes, Keeps, IsAtEnd}
 use Rattle.std.proofs.KnownBytes.{Consumes-trans}
 use Rattle.std.proofs.lemmas.Grind.{flat_map-append}
-use Rattle.std.proofs.lemmas.List.Elements.{All-append, All-cons, All-nil}
+use Rattle.std.proofs.lemmas.List.Elements.{All-append, All-cons, All-head, All-nil}
 use Rattle.std.proofs.lemmas.List.Sums.{sum_by-append}
 use Rattle.room_types.specs.declared.fleet.Terminal.{Terminal}
+use Rattle.room_types.specs.declared.refusals.Refusal.TheVariants.{Memory}
 use Rattle.room_model.specs.Room.{Room}
 use Rattle.room_http_time.specs.declared.zones.Zone.{Zone}
 use Rattle.room_service.specs.Rooms.{Step}
 use Rattle.room_http.specs.Talk.{IsTalk}
 use Rattle.dispatch_room_journal.specs.Entries.{Entry, room, message, answer, IsEntry, text_of, texts_of}
+use Rattle.dispatch_room_replaying.specs.declared.faults.ReplayFault.{ReplayFault}
+use Rattle.dispatch_room_replaying.specs.declared.faults.ReplayFault.TheVariants.{Bad, Want}
+use Rattle.dispatch_room_replaying.specs.declared.faults.Stopped.{Stopped}
 use Rattle.dispatch_room_replaying.specs.declared.progress.Progress.{Progress}
-use Rattle.dispatch_room_replaying.specs.Turns.{Turn, head, answered, caught_up, tried, left_out, entries_in, entries_of, arrivals_of, bytes_of, has_message, is_left_out, ends_open, IsTurn, IsBy, AreBy, IsBegun, StartsBy, BeginsWith, EndsAt, AreTurns}
-use Rattle.dispatch_room_replaying.specs.Replays.{DigestOf, IsReplay, Leads, LeadsTalking}
-use Rattle.dispatch_room_replaying.specs.Steps.{Stays, IsMark, StopsAt, IsProgress, Progresses, Passes, StopsIn}
+use Rattle.dispatch_room_replaying.specs.Turns.{Play, Turn, head, answered, caught_up, tried, left_out, entries_in, entries_of, arrivals_of, bytes_of, has_message, is_left_out, is_unanswered}
+use Rattle.dispatch_room_replaying.specs.Turns.{ends_open, ends_unanswered, IsPlay, IsTurn, IsReplayed, IsBy, AreBy, IsBegun, StartsBy, HasNoStatus, BeginsWith, EndsAt, AreTurns}
+use Rattle.dispatch_room_replaying.specs.Faults.{too_many, Explains, IsDueTo}
+use Rattle.dispatch_room_replaying.specs.Replays.{DigestOf, IsReplay, Leads, LeadsElsewhere, LeadsTalking, StopsAfter}
+use Rattle.dispatch_room_replaying.specs.Steps.{Stays, IsMark, IsElsewhere, IsProgress, Progresses, Passes, StopsIn}
+use Rattle.dispatch_room_replaying.proofs.FaultLemmas.{begins_explain}
 
 -- the last turn
 ends_open-snoc : (us : List Turn) (t : Turn) → ends_open (us ++ t ∷ []) ≡ is_left_out t
@@ -23,12 +31,34 @@ ends_open-snoc [] t = refl
 ends_open-snoc (u ∷ []) t = refl
 ends_open-snoc (u ∷ v ∷ us) t = ends_open-snoc (v ∷ us) t
 
+ends_unanswered-append : (us ts : List Turn) → length ts ≡ 1 → ends_unanswered (us ++ ts) ≡ ends_unanswered ts
+ends_unanswered-append [] ts one = refl
+ends_unanswered-append (u ∷ []) [] one = absurd (omega arith)
+ends_unanswered-append (u ∷ []) (t ∷ ts) one = refl
+ends_unanswered-append (u ∷ v ∷ us) ts one = ends_unanswered-append (v ∷ us) ts one
+
+-- a turn of a replay that has a message, and no entry after it, leaves it out
+pub replayed_answered : (t : Turn) → IsReplayed t → is_left_out t ≡ false → is_unanswered t ≡ true → ⊥
+replayed_answered (head digest) replayed left is = cc
+replayed_answered (answered p status) replayed left is = cc
+replayed_answered (caught_up p digest) replayed left is = cc
+replayed_answered (tried p) replayed left is = replayed
+replayed_answered (left_out at sent) replayed left is = cc
+
 pub begun-append : (us ts : List Turn) → IsBegun us → IsBegun (us ++ ts)
 begun-append us ts x = (x.0, x.1 ++ ts, ap (λ l. l ++ ts) x.2)
 
 pub begun_by : (b : Bool) (us : List Turn) → b ≡ true → StartsBy b us → IsBegun us
 begun_by true us is x = x
 begun_by false us is x = absurd (cc)
+
+unbegun : (b : Bool) (us : List Turn) → b ≡ false → StartsBy b us → us ≡ []
+unbegun true us is x = absurd (cc)
+unbegun false us is x = x
+
+none_begun : (b : Bool) (us : List Turn) → StartsBy b us → (us ++ [] ≡ []) ⊎ IsBegun (us ++ [])
+none_begun true us x = inr (begun-append us [] x)
+none_begun false us x = inl (append-nil us ∙ x)
 
 head_begins : (b : Bool) (us : List Turn) (digest : List ℕ) → StartsBy b us → IsBegun (us ++ head digest ∷ [])
 head_begins true us digest x = begun-append us (head digest ∷ []) x
@@ -117,6 +147,10 @@ message_by : (until : Option ℕ) (at : ℕ) (sent other : List ℕ) → IsBy un
 message_by None at sent other x = tt
 message_by (Some until) at sent other x = x
 
+earlier_by : (until : Option ℕ) (at then : ℕ) (sent other : List ℕ) → IsBy until (message at sent) → then ≤ at → IsBy until (message then other)
+earlier_by None at then sent other x early = tt
+earlier_by (Some until) at then sent other x early = omega (arith, x, early)
+
 pub all_one : {X : Type 0} (P : X → Type 0) (x : X) → P x → All P (x ∷ [])
 all_one P x is = All-cons P x [] is (All-nil P)
 
@@ -147,49 +181,59 @@ module _ (step : Step) (zone : Zone) (digest_of : DigestOf) where
       kinds = All-nil Kind;
       entries = All-nil (IsIn until);
       read = keeps_nothing before after same;
+      unanswered = λ never. absurd (cc);
       leads = λ trust terminals held stood_for. (held, refl, stays trust terminals held stood_for);
     }
 
     pub passes_one : (Kind : Turn → Type 0) (t : Turn) (entries : List Entry) → IsTurn t → Kind t → entries_in t ≡ entries → AreBy until entries → Consumes before after (texts_of entries)
-        → Leads step zone digest_of trusted stood stands (t ∷ []) → Passes step zone digest_of trusted stood stands before after until Kind (t ∷ [])
-    passes_one Kind t entries is kind same by read leads =
+        → Leads step zone digest_of trusted stood stands (t ∷ []) → (is_unanswered t ≡ true → BeginsWith after [] HasNoStatus)
+        → Passes step zone digest_of trusted stood stands before after until Kind (t ∷ [])
+    passes_one Kind t entries is kind same by read leads unanswered =
         let all : entries ≡ entries_of (t ∷ []) = sym same ∙ sym (append-nil (entries_in t)) in record {
           turns = all_one IsTurn t is;
           kinds = all_one Kind t kind;
           entries = subst (λ (l : List Entry). AreBy until l) all by;
           read = subst (λ (l : List Entry). Consumes before after (texts_of l)) all read;
+          unanswered = unanswered;
           leads = leads;
         }
 
-    pub stops_none : (old : Progress) → Stays trusted stood stands → StopsIn step zone digest_of trusted stood stands before after until old []
-    stops_none old stays = record {
-      few = inl refl;
-      turns = All-nil IsTurn;
-      entries = All-nil (IsIn until);
-      begins = λ text is. (text, refl, tt);
-      begun = λ us x. starts old.is_begun us x.begun;
-      leads = λ trust terminals held stood_for. (held, refl, stays trust terminals held stood_for);
-    }
-      where
-        starts : (b : Bool) (us : List Turn) → StartsBy b us → (us ++ [] ≡ []) ⊎ IsBegun (us ++ [])
-        starts true us x = inr (begun-append us [] x)
-        starts false us x = inl (append-nil us ∙ x)
+-- what stood next stopped it
+module _ (waits : Bool) (step : Step) (zone : Zone) (digest_of : DigestOf) (trusted : Type 0) (stood stands : List Terminal → Room → Type 0) (before : Option (List ℕ)) (until : Option ℕ) where
+  pub next_stops : (is_begun : Bool) (fault : ReplayFault) (read_failed write_failed : Bool) → Stays trusted stood stands
+      → BeginsWith before [] (Explains waits (is_begun ≡ false) ⊥ (IsElsewhere digest_of trusted stood stands) [] fault) → IsDueTo read_failed write_failed fault
+      → StopsIn step zone digest_of trusted stood stands waits before until is_begun fault read_failed write_failed []
+  next_stops is_begun fault read_failed write_failed stays begins due = record {
+    few = inl refl;
+    begins = begins_explain before [] waits (is_begun ≡ false) ⊥ (is_begun ≡ false) ⊥ (IsElsewhere digest_of trusted stood stands) (LeadsElsewhere step zone digest_of trusted stood stands []) [] fault
+        (λ none. none) (λ never. never) (λ digest x trust terminals held stood_for. let y = x trust terminals held stood_for in (held, refl, y.0, y.1)) begins;
+    leads = λ trust terminals held stood_for. (held, refl, stays trust terminals held stood_for);
+    due = due;
+  }
 
-    pub stops_tried : (old : Progress) (at : ℕ) (sent : List ℕ) → old.is_begun ≡ true → AreBy until (message at sent ∷ []) → BeginsWith before (message at sent ∷ []) (λ rest. ⊤)
-        → StopsAt step zone digest_of trusted stood stands at sent → (last : List Turn) × StopsIn step zone digest_of trusted stood stands before after until old last
-    stops_tried old at sent begun by begins (inl stays) = ([], stops_none old stays)
-    stops_tried old at sent begun by begins (inr x) =
-        let same : message at sent ∷ [] ≡ message x.0.at x.0.sent ∷ [] = λ i. message (sym x.1 i) (sym x.2 i) ∷ [] in (
-          tried x.0 ∷ [],
-          record {
-            few = inr (x.0, refl);
-            turns = all_one IsTurn (tried x.0) x.3;
-            entries = subst (λ (l : List Entry). AreBy until l) same by;
-            begins = subst (λ (l : List Entry). BeginsWith before l (λ rest. ⊤)) same begins;
-            begun = λ us y. inr (begun-append us (tried x.0 ∷ []) (begun_by old.is_begun us begun y.begun));
-            leads = x.4;
-          },
-        )
+-- a message that is next stopped it
+module _ (waits : Bool) (step : Step) (zone : Zone) (digest_of : DigestOf) (early late : Type 0) (earlier : late → early) (stood mid stands : List Terminal → Room → Type 0)
+    (a b : Option (List ℕ)) (until : Option ℕ) (at : ℕ) (sent : List ℕ) (stays : Stays early stood mid) (same : Keeps a b) (by : IsBy until (message at sent)) where
+  few_turn : (is_begun : Bool) (last : List Turn) → is_begun ≡ true
+      → (last ≡ []) ⊎ ((p : Play) × IsPlay p × AreBy (Some at) (message p.at p.sent ∷ []) × (true ≡ true) × (last ≡ tried p ∷ []))
+      → (last ≡ []) ⊎ ((p : Play) × IsPlay p × AreBy until (message p.at p.sent ∷ []) × (is_begun ≡ true) × (last ≡ tried p ∷ []))
+  few_turn is_begun last begun (inl x) = inl x
+  few_turn is_begun last begun (inr x) =
+      let is = All-head (IsIn (Some at)) (message x.0.at x.0.sent) [] x.2 in
+      inr (x.0, x.1, all_one (IsIn until) (message x.0.at x.0.sent) (is.0, earlier_by until at x.0.at sent x.0.sent by is.1), begun, x.4)
+
+  pub turn_stops : (is_begun : Bool) (fault : ReplayFault) (read_failed write_failed : Bool) (last : List Turn) → is_begun ≡ true
+      → StopsIn step zone digest_of late mid stands waits b (Some at) true fault read_failed write_failed last
+      → StopsIn step zone digest_of late stood stands waits a until is_begun fault read_failed write_failed last
+  turn_stops is_begun fault read_failed write_failed last begun x = record {
+    few = few_turn is_begun last begun x.few;
+    begins = keeps_begins a b (entries_of last) (Explains waits (is_begun ≡ false) ⊥ (LeadsElsewhere step zone digest_of late stood stands last) last fault) same
+        (begins_explain b (entries_of last) waits (true ≡ false) ⊥ (is_begun ≡ false) ⊥ (LeadsElsewhere step zone digest_of late mid stands last)
+        (LeadsElsewhere step zone digest_of late stood stands last) last fault
+        (λ never. absurd (cc)) (λ never. never) (λ digest y trust terminals held stood_for. y trust terminals held (stays (earlier trust) terminals held stood_for)) x.begins);
+    leads = Leads-after step zone digest_of early late stood mid stands last earlier stays x.leads;
+    due = x.due;
+  }
 
 module _ (step : Step) (zone : Zone) (digest_of : DigestOf) (terminals : List Terminal) where
   IsReplay-append : (held mid after : Room) (us ts : List Turn) → IsReplay step zone digest_of terminals held us mid → IsReplay step zone digest_of terminals mid ts after
@@ -215,22 +259,30 @@ module _ (step : Step) (zone : Zone) (digest_of : DigestOf) (early late : Type 0
       let y = second trust terminals x.0 x.2 in
       (y.0, IsReplay-append step zone digest_of terminals held x.0 y.0 us ts x.1 y.1, y.2)
 
+  Elsewhere-append : (digest : List ℕ) → Leads step zone digest_of early stood mid us → LeadsElsewhere step zone digest_of late mid stands ts digest
+      → LeadsElsewhere step zone digest_of late stood stands (us ++ ts) digest
+  Elsewhere-append digest first second trust terminals held stood_for =
+      let x = first (earlier trust) terminals held stood_for in
+      let y = second trust terminals x.0 x.2 in
+      (y.0, IsReplay-append step zone digest_of terminals held x.0 y.0 us ts x.1 y.1, y.2, y.3)
+
   pub Talks-append : Leads step zone digest_of early stood mid us → Leads step zone digest_of late mid stands ts → LeadsTalking step zone digest_of late stood stands (us ++ ts)
   Talks-append first second trust terminals held stood_for =
       let x = Leads-append first second trust terminals held stood_for in
       (x.0, x.1, talk_of step zone digest_of terminals held (us ++ ts) x.0 x.1, x.2)
 
-  module _ (a b c : Option (List ℕ)) (until : Option ℕ) (Kind : Turn → Type 0) (first : Passes step zone digest_of early stood mid a b until Kind us) where
+  module _ (a b : Option (List ℕ)) (until : Option ℕ) (Kind : Turn → Type 0) (first : Passes step zone digest_of early stood mid a b until Kind us) where
     entries_append : entries_of us ++ entries_of ts ≡ entries_of (us ++ ts)
     entries_append = sym (flat_map-append entries_in us ts)
 
-    pub passes_more : Passes step zone digest_of late mid stands b c until Kind ts → Passes step zone digest_of late stood stands a c until Kind (us ++ ts)
-    passes_more second = record {
+    pub passes_more : (c : Option (List ℕ)) → length ts ≡ 1 → Passes step zone digest_of late mid stands b c until Kind ts → Passes step zone digest_of late stood stands a c until Kind (us ++ ts)
+    passes_more c one second = record {
       turns = All-append IsTurn us ts first.turns second.turns;
       kinds = All-append Kind us ts first.kinds second.kinds;
       entries = subst (λ (l : List Entry). AreBy until l) entries_append (All-append (IsIn until) (entries_of us) (entries_of ts) first.entries second.entries);
       read = subst (λ (l : List Entry). Consumes a c (texts_of l)) entries_append
           (subst (λ (t : List ℕ). Consumes a c t) (sym (flat_map-append text_of (entries_of us) (entries_of ts))) (Consumes-trans a b c _ _ first.read second.read));
+      unanswered = λ ends. second.unanswered (sym (ends_unanswered-append us ts one) ∙ ends);
       leads = Leads-append first.leads second.leads;
     }
 
@@ -248,25 +300,76 @@ module _ (step : Step) (zone : Zone) (digest_of : DigestOf) (early late : Type 0
     }
 
     -- the turns of a replay that has ended
-    pub ended : (new : Progress) → Passes step zone digest_of late mid stands b c until Kind ts → BeginsWith b (entries_of ts) (EndsAt until) → IsProgress new (us ++ ts)
+    pub ended : (c : Option (List ℕ)) (new : Progress) → Passes step zone digest_of late mid stands b c until Kind ts → BeginsWith b (entries_of ts) (EndsAt until) → IsProgress new (us ++ ts)
         → All Kind (us ++ ts) × AreTurns a until (us ++ ts) (EndsAt until) × LeadsTalking step zone digest_of late stood stands (us ++ ts)
-    ended new second begins progress = (
+    ended c new second begins progress = (
       All-append Kind us ts first.kinds second.kinds,
       are_turns (EndsAt until) second.turns second.entries begins (starts_begun new.is_begun (us ++ ts) progress.begun),
       Talks-append first.leads second.leads,
     )
 
     -- the turns of a replay that has stopped
-    pub stopped : (old : Progress) → IsProgress old us → StopsIn step zone digest_of late mid stands b c until old ts
-        → AreTurns a until (us ++ ts) (λ rest. ⊤) × LeadsTalking step zone digest_of late stood stands (us ++ ts)
-    stopped old progress second =
-        (are_turns (λ rest. ⊤) second.turns second.entries second.begins (second.begun us progress), Talks-append first.leads second.leads)
+    module _ (waits : Bool) (old : Progress) (progress : IsProgress old us) (fault : ReplayFault) (read_failed write_failed : Bool) (s : Stopped)
+        (is : s ≡ record { fault = fault; number = min (old.records + 1) (2 ^ 64 - 1) }) where
+      number : min (old.records + 1) (2 ^ 64 - 1) ≡ min (count_by has_message us + 1) (2 ^ 64 - 1)
+      number = omega (arith, progress.records)
+
+      stops_after : (ts ≡ []) ⊎ ((p : Play) × (ts ≡ tried p ∷ [])) → All IsTurn ts → AreBy until (entries_of ts)
+          → BeginsWith b (entries_of ts) (Explains waits (us ≡ []) (length us ≡ 2 ^ 64 - 1) (LeadsElsewhere step zone digest_of late stood stands (us ++ ts)) ts fault)
+          → (us ++ ts ≡ []) ⊎ IsBegun (us ++ ts) → Leads step zone digest_of late mid stands ts → IsDueTo read_failed write_failed fault
+          → StopsAfter step zone digest_of late stood stands a until waits Kind read_failed write_failed s us ts
+      stops_after few turns entries begins begun leads due =
+          subst (λ (t : Stopped). StopsAfter step zone digest_of late stood stands a until waits Kind read_failed write_failed t us ts) (sym is) (record {
+            kinds = first.kinds;
+            few = few;
+            turns = are_turns _ turns entries begins begun;
+            unanswered = λ ends. subst (λ (l : List Entry). BeginsWith a l HasNoStatus) (append-nil (entries_of us))
+                (consumes_begins a b (entries_of us) [] HasNoStatus first.read (first.unanswered ends));
+            leads = Talks-append first.leads leads;
+            due = due;
+            number = number;
+          })
+
+      pub stopped : StopsIn step zone digest_of late mid stands waits b until old.is_begun fault read_failed write_failed ts
+          → StopsAfter step zone digest_of late stood stands a until waits Kind read_failed write_failed s us ts
+      stopped x = go x.few
+        where
+          begins : BeginsWith b (entries_of ts) (Explains waits (us ≡ []) (length us ≡ 2 ^ 64 - 1) (LeadsElsewhere step zone digest_of late stood stands (us ++ ts)) ts fault)
+          begins = begins_explain b (entries_of ts) waits (old.is_begun ≡ false) ⊥ (us ≡ []) (length us ≡ 2 ^ 64 - 1) (LeadsElsewhere step zone digest_of late mid stands ts)
+              (LeadsElsewhere step zone digest_of late stood stands (us ++ ts)) ts fault
+              (λ none. unbegun old.is_begun us none progress.begun) (λ never. absurd never) (λ digest y. Elsewhere-append digest first.leads y) x.begins
+
+          go : (ts ≡ []) ⊎ ((p : Play) × IsPlay p × AreBy until (message p.at p.sent ∷ []) × (old.is_begun ≡ true) × (ts ≡ tried p ∷ []))
+              → StopsAfter step zone digest_of late stood stands a until waits Kind read_failed write_failed s us ts
+          go (inl none) =
+              stops_after (inl none) (subst (λ (l : List Turn). All IsTurn l) (sym none) (All-nil IsTurn)) (subst (λ (l : List Turn). AreBy until (entries_of l)) (sym none) (All-nil (IsIn until)))
+              begins (subst (λ (l : List Turn). (us ++ l ≡ []) ⊎ IsBegun (us ++ l)) (sym none) (none_begun old.is_begun us progress.begun)) x.leads x.due
+          go (inr y) =
+              stops_after (inr (y.0, y.4)) (subst (λ (l : List Turn). All IsTurn l) (sym y.4) (all_one IsTurn (tried y.0) y.1)) (subst (λ (l : List Turn). AreBy until (entries_of l)) (sym y.4) y.2)
+              begins (inr (begun-append us ts (begun_by old.is_begun us y.3 progress.begun))) x.leads x.due
+
+-- no more turns are taken
+module _ (step : Step) (zone : Zone) (digest_of : DigestOf) (trusted : Type 0) (stood stands : List Terminal → Room → Type 0) (a b : Option (List ℕ)) (until : Option ℕ)
+    (Kind : Turn → Type 0) (us : List Turn) where
+  pub exhausted : (waits : Bool) (old : Progress) (read_failed write_failed : Bool) (s : Stopped) → Passes step zone digest_of trusted stood stands a b until Kind us → IsProgress old us
+      → s ≡ record { fault = Bad; number = min (old.records + 1) (2 ^ 64 - 1) } → length us ≡ 2 ^ 64 - 1 → read_failed ≡ false → write_failed ≡ false
+      → StopsAfter step zone digest_of trusted stood stands a until waits Kind read_failed write_failed s us []
+  exhausted waits old read_failed write_failed s first progress is full read write =
+      stops_after step zone digest_of trusted trusted (λ trust. trust) stood stands stands us [] a b until Kind first waits old progress Bad read_failed write_failed s is
+      (inl refl) (All-nil IsTurn) (All-nil (IsIn until)) (λ text known. (text, refl, too_many full)) (none_begun old.is_begun us progress.begun)
+      (λ trust terminals held stood_for. (held, refl, stood_for)) (read, write)
 
 -- nothing was done
-pub nothing_done : (step : Step) (zone : Zone) (digest_of : DigestOf) (trusted : Type 0) (stood stands : List Terminal → Room → Type 0) (left : Option (List ℕ)) (until : Option ℕ) (Kind : Turn → Type 0)
-    → Stays trusted stood stands → All Kind [] × AreTurns left until [] (λ rest. ⊤) × LeadsTalking step zone digest_of trusted stood stands []
-nothing_done step zone digest_of trusted stood stands left until Kind stays = (
-  All-nil Kind,
-  record { turns = All-nil IsTurn; entries = All-nil (IsIn until); begins = λ text is. (text, refl, tt); begun = inl refl },
-  λ trust terminals held stood_for. (held, refl, (refl, refl), stays trust terminals held stood_for),
-)
+pub nothing_done : (waits : Bool) (step : Step) (zone : Zone) (digest_of : DigestOf) (trusted : Type 0) (stands : List Terminal → Room → Type 0) (left : Option (List ℕ)) (until : Option ℕ)
+    (Kind : Turn → Type 0) (read_failed write_failed : Bool) (s : Stopped) → s ≡ record { fault = Want Memory; number = 1 } → read_failed ≡ false → write_failed ≡ false
+    → StopsAfter step zone digest_of trusted stands stands left until waits Kind read_failed write_failed s [] []
+nothing_done waits step zone digest_of trusted stands left until Kind read_failed write_failed s is read write =
+    subst (λ (t : Stopped). StopsAfter step zone digest_of trusted stands stands left until waits Kind read_failed write_failed t [] []) (sym is) (record {
+      kinds = All-nil Kind;
+      few = inl refl;
+      turns = record { turns = All-nil IsTurn; entries = All-nil (IsIn until); begins = λ text is. (text, refl, tt); begun = inl refl };
+      unanswered = λ never. absurd (cc);
+      leads = λ trust terminals held stood_for. (held, refl, (refl, refl), stood_for);
+      due = (read, write, inl refl);
+      number = refl;
+    })

@@ -1,4 +1,5 @@
 pub mod Turns
+pub mod Faults
 pub mod Replays
 pub mod Steps
 pub mod Laws

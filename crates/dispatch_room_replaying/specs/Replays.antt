@@ -1,5 +1,5 @@
 -- What a replay does: the turns of a journal, and the room after them.
-use Rattle.std.specs.Prelude.{◌≡◌, ◌⊎◌, ℕ, ◌-◌, ◌^◌, ⊤, min, List, [], ◌∷◌, ◌++◌, All, count_by, Option, Result, Ok, Err}
+use Rattle.std.specs.Prelude.{◌≡◌, ◌⊎◌, ℕ, ◌+◌, ◌-◌, ◌^◌, ⊤, min, List, [], ◌∷◌, ◌++◌, length, All, count_by, Bool, true, false, Option, Result, Ok, Err}
 use Rattle.room_types.specs.declared.fleet.Terminal.{Terminal}
 use Rattle.room_model.specs.Room.{Room}
 use Rattle.room_http_time.specs.declared.zones.Zone.{Zone}
@@ -9,7 +9,9 @@ use Rattle.dispatch_room_replaying.specs.declared.faults.ReplayFault.{ReplayFaul
 use Rattle.dispatch_room_replaying.specs.declared.faults.ReplayFault.TheVariants.{Bad, Differs, Another, ReadFailed, WriteFailed, Want}
 use Rattle.dispatch_room_replaying.specs.declared.faults.Stopped.{Stopped}
 use Rattle.dispatch_room_replaying.specs.declared.replaying.Replayed.{Replayed}
-use Rattle.dispatch_room_replaying.specs.Turns.{Play, Turn, head, answered, caught_up, tried, left_out, timed, arrivals_of, bytes_of, has_message, ends_open, IsReplayed, AreTurns, EndsAt}
+use Rattle.dispatch_room_replaying.specs.Turns.{Play, Turn, head, answered, caught_up, tried, left_out, timed, entries_of, arrivals_of, bytes_of, has_message, ends_open, ends_unanswered, IsReplayed}
+use Rattle.dispatch_room_replaying.specs.Turns.{HasNoStatus, BeginsWith, AreTurns, EndsAt}
+use Rattle.dispatch_room_replaying.specs.Faults.{Explains, IsDueTo}
 
 -- the digest of a room's rows, with its terminals, in digits
 abbrev pub DigestOf : Type 0
@@ -40,23 +42,40 @@ Leads step zone digest_of trusted stood stands ts =
     trusted → (terminals : List Terminal) (room : Room) → stood terminals room
     → (after : Room) × IsReplay step zone digest_of terminals room ts after × stands terminals after
 
--- the same, and what is played is a talk
+-- the same, to a room that has another digest than this
+abbrev pub LeadsElsewhere : Step → Zone → DigestOf → Type 0 → (List Terminal → Room → Type 0) → (List Terminal → Room → Type 0) → List Turn → List ℕ → Type 0
+LeadsElsewhere step zone digest_of trusted stood stands ts digest =
+    trusted → (terminals : List Terminal) (room : Room) → stood terminals room
+    → (after : Room) × IsReplay step zone digest_of terminals room ts after × (¬ (digest_of terminals after ≡ digest)) × stands terminals after
+
+-- as `Leads`, and what is played is a talk
 abbrev pub LeadsTalking : Step → Zone → DigestOf → Type 0 → (List Terminal → Room → Type 0) → (List Terminal → Room → Type 0) → List Turn → Type 0
 LeadsTalking step zone digest_of trusted stood stands ts =
     trusted → (terminals : List Terminal) (room : Room) → stood terminals room
     → (after : Room) × IsReplay step zone digest_of terminals room ts after × IsTalk step zone terminals room (arrivals_of ts) after (bytes_of ts) × stands terminals after
 
--- What a replay gives, and the room after it. It was read to the end, up to this moment; or it
--- stopped after some turns, where the last message may be one that was played and not compared.
 module _ (step : Step) (zone : Zone) (digest_of : DigestOf) (trusted : Type 0) (stood stands : List Terminal → Room → Type 0) (left : Option (List ℕ)) (until : Option ℕ) where
-  abbrev pub Replays : Result Replayed Stopped → Type 0
-  Replays (Ok done) =
+  -- Why it stopped, after turns of this kind that were done with. One more message may have been
+  -- played and not compared (`last`). No status stands after a message that was done with without
+  -- one. The number is that of the message after those that were done with.
+  pub record StopsAfter (waits : Bool) (Kind : Turn → Type 0) (read_failed write_failed : Bool) (stopped : Stopped) (ts last : List Turn) : Type 0 where
+    pub kinds : All Kind ts
+    pub few : (last ≡ []) ⊎ ((p : Play) × (last ≡ tried p ∷ []))
+    pub turns : AreTurns left until (ts ++ last)
+        (Explains waits (ts ≡ []) (length ts ≡ 2 ^ 64 - 1) (LeadsElsewhere step zone digest_of trusted stood stands (ts ++ last)) last stopped.fault)
+    pub unanswered : ends_unanswered ts ≡ true → BeginsWith left (entries_of ts) HasNoStatus
+    pub leads : LeadsTalking step zone digest_of trusted stood stands (ts ++ last)
+    pub due : IsDueTo read_failed write_failed stopped.fault
+    pub number : stopped.number ≡ min (count_by has_message ts + 1) (2 ^ 64 - 1)
+
+  -- What a replay gives, and the room after it. It was read to the end, up to this moment; or it
+  -- stopped, and each message waits for what stands after it.
+  abbrev pub Replays : Bool → Result Replayed Stopped → Type 0
+  Replays read_failed (Ok done) =
       (ts : List Turn) × All IsReplayed ts × AreTurns left until ts (EndsAt until)
       × LeadsTalking step zone digest_of trusted stood stands ts
       × (done.records ≡ min (count_by has_message ts) (2 ^ 64 - 1)) × (done.is_open ≡ ends_open ts)
-  Replays (Err stopped) =
-      (ts last : List Turn) × All IsReplayed ts × ((last ≡ []) ⊎ ((p : Play) × (last ≡ tried p ∷ [])))
-      × AreTurns left until (ts ++ last) (λ rest. ⊤) × LeadsTalking step zone digest_of trusted stood stands (ts ++ last)
+  Replays read_failed (Err stopped) = (ts last : List Turn) × StopsAfter true IsReplayed read_failed false stopped ts last
 
 -- unless memory or storage was wanting
 abbrev pub Unless : ReplayFault → Type 0 → Type 0

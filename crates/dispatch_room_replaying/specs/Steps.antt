@@ -1,5 +1,5 @@
 -- What each step of a replay does.
-use Rattle.std.specs.Prelude.{◌≡◌, ◌⊎◌, ℕ, ◌-◌, ◌^◌, ⊤, min, count_by, List, [], ◌∷◌, ◌++◌, All, Bool, true, false, Vec, Option, Result, Ok, Err}
+use Rattle.std.specs.Prelude.{◌≡◌, ◌⊎◌, ℕ, ◌-◌, ◌^◌, ⊤, min, count_by, List, [], ◌∷◌, ◌++◌, length, decimal, All, Bool, true, false, Vec, Option, Some, Result, Ok, Err}
 use Rattle.std.specs.Io.KnownBytes.{Consumes, Keeps, IsAtEnd}
 use Rattle.room_types.specs.declared.fleet.Terminal.{Terminal}
 use Rattle.room_model.specs.Room.{Room}
@@ -10,25 +10,29 @@ use Rattle.dispatch_room_journal.specs.declared.lines.Line.{Line}
 use Rattle.dispatch_room_journal.specs.Entries.{Entry, room, message, answer, IsEntry, line_of, texts_of}
 use Rattle.dispatch_room_journal.specs.Looks.{IsLayout}
 use Rattle.dispatch_room_replaying.specs.declared.faults.ReplayFault.{ReplayFault}
+use Rattle.dispatch_room_replaying.specs.declared.faults.ReplayFault.TheVariants.{Differs, Another}
 use Rattle.dispatch_room_replaying.specs.declared.entries.Next.{Next}
 use Rattle.dispatch_room_replaying.specs.declared.entries.Next.TheVariants as next
 use Rattle.dispatch_room_replaying.specs.declared.messages.Turned.{Turned}
 use Rattle.dispatch_room_replaying.specs.declared.messages.Turned.TheVariants.{Played, LeftOut, Last}
-use Rattle.dispatch_room_replaying.specs.Turns.{Play, Turn, tried, timed, entries_in, entries_of, has_message, is_left_out, ends_open, IsPlay, IsTurn, IsReplayed, IsBy, AreBy, IsBegun, StartsBy, BeginsWith, EndsAt}
+use Rattle.dispatch_room_journal.specs.Records.{status_in}
+use Rattle.dispatch_room_replaying.specs.Turns.{Play, Turn, tried, timed, entries_in, entries_of, has_message, is_left_out, ends_open, ends_unanswered, IsPlay, IsTurn, IsReplayed, IsBy}
+use Rattle.dispatch_room_replaying.specs.Turns.{AreBy, StartsBy, HasNoStatus, BeginsWith, EndsAt}
 use Rattle.dispatch_room_replaying.specs.declared.progress.Progress.{Progress}
-use Rattle.dispatch_room_replaying.specs.Replays.{DigestOf, Leads}
+use Rattle.dispatch_room_replaying.specs.Faults.{IsWanting, Refuses, Explains, IsDueTo}
+use Rattle.dispatch_room_replaying.specs.Replays.{DigestOf, Leads, LeadsElsewhere}
 
 -- what it stands for is what it stood for
 abbrev pub Stays : Type 0 → (List Terminal → Room → Type 0) → (List Terminal → Room → Type 0) → Type 0
 Stays trusted stood stands = trusted → (terminals : List Terminal) (room : Room) → stood terminals room → stands terminals room
 
--- The bytes are one message, and the room answered it; or nothing was done.
+-- The bytes are one message, and the room answered it; or nothing was done, and why.
 abbrev pub Plays : {A : Type 0} → Step → Zone → Type 0 → (List Terminal → Room → Type 0) → (List Terminal → Room → Type 0) → ℕ → List ℕ → Result (Vec ℕ A) ReplayFault → Type 0
 Plays step zone trusted stood stands at sent (Ok told) =
     (p : Play) × (p.at ≡ at) × (p.sent ≡ sent) × (p.told ≡ told.items) × IsPlay p
     × (trusted → (terminals : List Terminal) (room : Room) → stood terminals room
     → (after : Room) × IsReplyTo step zone terminals room (timed p) after p.told × stands terminals after)
-Plays step zone trusted stood stands at sent (Err fault) = Stays trusted stood stands
+Plays step zone trusted stood stands at sent (Err fault) = Stays trusted stood stands × Refuses sent fault
 
 -- the entry is a head or a status
 abbrev pub IsMark : Entry → Type 0
@@ -47,11 +51,18 @@ module _ (step : Step) (zone : Zone) (digest_of : DigestOf) (trusted : Type 0) (
     pub leaves : is_left_out turn ≡ left_out
     pub leads : Leads step zone digest_of trusted stood stands (turn ∷ [])
 
-  -- nothing was done, or the message was played
-  abbrev pub StopsAt : ℕ → List ℕ → Type 0
-  StopsAt at sent =
-      Stays trusted stood stands
-      ⊎ ((p : Play) × (p.at ≡ at) × (p.sent ≡ sent) × IsPlay p × Leads step zone digest_of trusted stood stands (tried p ∷ []))
+  -- a message that was played is not as this line says, or memory or storage is wanting
+  abbrev pub Deviates : Play → Line → ReplayFault → Type 0
+  Deviates p line fault =
+      ((fault ≡ Differs) × (status : ℕ) × (line ≡ line_of (answer status)) × (¬ (status_in p.told ≡ decimal status)))
+      ⊎ ((fault ≡ Another) × (digest : List ℕ) × (line ≡ line_of (room digest)) × LeadsElsewhere step zone digest_of trusted stood stands (tried p ∷ []) digest)
+      ⊎ IsWanting fault
+
+  -- a message before this line was not played, or it was and is not as the line says
+  abbrev pub StopsAt : ℕ → List ℕ → Line → ReplayFault → Type 0
+  StopsAt at sent line fault =
+      (Stays trusted stood stands × Refuses sent fault)
+      ⊎ ((p : Play) × (p.at ≡ at) × (p.sent ≡ sent) × IsPlay p × Leads step zone digest_of trusted stood stands (tried p ∷ []) × Deviates p line fault)
 
   -- the message was played, and the room has come to this digest
   abbrev pub ComesTo : ℕ → List ℕ → List ℕ → Type 0
@@ -63,16 +74,24 @@ module _ (step : Step) (zone : Zone) (digest_of : DigestOf) (trusted : Type 0) (
   -- what becomes of a message before this line: it takes the line's entry with it, or is left out
   abbrev pub Settles : ℕ → List ℕ → Line → Result Bool ReplayFault → Type 0
   Settles at sent line (Ok true) = (e : Entry) × IsMark e × (line ≡ line_of e) × TurnOf at sent (e ∷ []) false
-  Settles at sent line (Ok false) = TurnOf at sent [] true
-  Settles at sent line (Err fault) = StopsAt at sent
+  Settles at sent line (Ok false) = TurnOf at sent [] true × ((status : ℕ) → ¬ (line ≡ line_of (answer status)))
+  Settles at sent line (Err fault) = StopsAt at sent line fault
+
+  -- Why it stopped, after a head or not, with the text before: nothing more was done, or one message
+  -- up to this moment was played.
+  pub record StopsIn (waits : Bool) (before : Option (List ℕ)) (until : Option ℕ) (is_begun : Bool) (fault : ReplayFault) (read_failed write_failed : Bool) (last : List Turn) : Type 0 where
+    pub few : (last ≡ []) ⊎ ((p : Play) × IsPlay p × AreBy until (message p.at p.sent ∷ []) × (is_begun ≡ true) × (last ≡ tried p ∷ []))
+    pub begins : BeginsWith before (entries_of last) (Explains waits (is_begun ≡ false) ⊥ (LeadsElsewhere step zone digest_of trusted stood stands last) last fault)
+    pub leads : Leads step zone digest_of trusted stood stands last
+    pub due : IsDueTo read_failed write_failed fault
 
   -- what is known of the text before, and after, and whether a read failed
   module _ (before after : Option (List ℕ)) (failed : Bool) where
-    -- the message was left out
+    -- the message was left out, and no status follows it
     abbrev pub LeavesOut : ℕ → Type 0
     LeavesOut at =
         (sent : List ℕ) × TurnOf at sent [] true × IsEntry (message at sent)
-        × Consumes before after (texts_of (message at sent ∷ [])) × (failed ≡ false)
+        × Consumes before after (texts_of (message at sent ∷ [])) × (failed ≡ false) × BeginsWith after [] HasNoStatus
 
     -- What became of a message at this moment. Where it was the last one, nothing is left.
     abbrev pub MessageIs : ℕ → Result Turned ReplayFault → Type 0
@@ -81,8 +100,12 @@ module _ (step : Step) (zone : Zone) (digest_of : DigestOf) (trusted : Type 0) (
         × Consumes before after (texts_of (message at sent ∷ e ∷ [])) × (failed ≡ false)
     MessageIs at (Ok LeftOut) = LeavesOut at
     MessageIs at (Ok Last) = LeavesOut at × IsAtEnd after
-    MessageIs at (Err fault) =
-        (sent : List ℕ) × IsEntry (message at sent) × BeginsWith before (message at sent ∷ []) (λ rest. ⊤) × StopsAt at sent
+    MessageIs at (Err fault) = (last : List Turn) × StopsIn true before (Some at) true fault failed false last
+
+-- the room has another digest than this
+abbrev pub IsElsewhere : DigestOf → Type 0 → (List Terminal → Room → Type 0) → (List Terminal → Room → Type 0) → List ℕ → Type 0
+IsElsewhere digest_of trusted stood stands digest =
+    trusted → (terminals : List Terminal) (held : Room) → stood terminals held → (¬ (digest_of terminals held ≡ digest)) × stands terminals held
 
 module _ (digest_of : DigestOf) (trusted : Type 0) (stood stands : List Terminal → Room → Type 0) (before after : Option (List ℕ)) (failed : Bool) where
   -- What stands next, up to this moment: a head, which was taken and is that of the room; a message,
@@ -95,7 +118,8 @@ module _ (digest_of : DigestOf) (trusted : Type 0) (stood stands : List Terminal
       (sent : List ℕ) × IsLayout kept layout (message at sent) × IsBy until (message at sent) × Keeps before after
       × (begun ≡ true) × (failed ≡ false) × Stays trusted stood stands
   NextIs until begun kept (Ok next.End) = Keeps before after × BeginsWith before [] (EndsAt until) × Stays trusted stood stands
-  NextIs until begun kept (Err fault) = Stays trusted stood stands
+  NextIs until begun kept (Err fault) =
+      Stays trusted stood stands × ((waits : Bool) → BeginsWith before [] (Explains waits (begun ≡ false) ⊥ (IsElsewhere digest_of trusted stood stands) [] fault)) × IsDueTo failed false fault
 
 -- the progress is that of these turns
 pub record IsProgress (progress : Progress) (ts : List Turn) : Type 0 where
@@ -114,20 +138,13 @@ module _ (step : Step) (zone : Zone) (digest_of : DigestOf) (trusted : Type 0) (
     pub kinds : All Kind ts
     pub entries : AreBy until (entries_of ts)
     pub read : Consumes before after (texts_of (entries_of ts))
+    pub unanswered : ends_unanswered ts ≡ true → BeginsWith after [] HasNoStatus
     pub leads : Leads step zone digest_of trusted stood stands ts
-
-  -- nothing more was done, or a message was played
-  pub record StopsIn (old : Progress) (last : List Turn) : Type 0 where
-    pub few : (last ≡ []) ⊎ ((p : Play) × (last ≡ tried p ∷ []))
-    pub turns : All IsTurn last
-    pub entries : AreBy until (entries_of last)
-    pub begins : BeginsWith before (entries_of last) (λ rest. ⊤)
-    pub begun : (us : List Turn) → IsProgress old us → (us ++ last ≡ []) ⊎ IsBegun (us ++ last)
-    pub leads : Leads step zone digest_of trusted stood stands last
 
   -- What one call does that takes a turn: whether it goes on, or the end was found; or why it stopped.
   abbrev pub TakesTurn : (Turn → Type 0) → Progress → Progress → Bool → Result Bool ReplayFault → Type 0
   TakesTurn Kind old new failed (Ok goes_on) =
-      (ts : List Turn) × Passes Kind ts × Progresses old new ts × (goes_on ≡ true → failed ≡ false)
+      (ts : List Turn) × Passes Kind ts × Progresses old new ts × (goes_on ≡ true → (failed ≡ false) × (length ts ≡ 1))
       × (goes_on ≡ false → BeginsWith before (entries_of ts) (EndsAt until))
-  TakesTurn Kind old new failed (Err fault) = (last : List Turn) × StopsIn old last
+  TakesTurn Kind old new failed (Err fault) =
+      (last : List Turn) × StopsIn step zone digest_of trusted stood stands true before until old.is_begun fault failed false last × (new ≡ old)

@@ -1,7 +1,8 @@
 -- Which messages of a journal are played when it is replayed.
-use Rattle.std.specs.Prelude.{◌≡◌, ℕ, ◌<◌, ◌≤◌, ◌⊎◌, ⊤, List, [], ◌∷◌, ◌++◌, take, drop, map, decimal, All, Bool, true, false, Option, Some, None}
+use Rattle.std.specs.Prelude.{◌≡◌, ℕ, ◌<◌, ◌≤◌, ◌⊎◌, ⊤, List, [], ◌∷◌, ◌++◌, map, decimal, All, Bool, true, false, Option, Some, None}
 use Rattle.std.specs.List.{flat_map}
-use Rattle.dispatch_room_journal.specs.Entries.{Entry, room, message, answer, IsEntry, texts_of}
+use Rattle.dispatch_room_journal.specs.Entries.{Entry, room, message, answer, IsEntry, texts_of, Begins}
+use Rattle.dispatch_room_journal.specs.Records.{status_in}
 use Rattle.room_http_messages.specs.Messages.{WholeMessage, HasMessage}
 use Rattle.room_http.specs.Arrivals.{message as arrived}
 use Rattle.room_http.specs.Talk.{Timed}
@@ -56,6 +57,14 @@ is_left_out (caught_up p digest) = false
 is_left_out (tried p) = false
 is_left_out (left_out at sent) = true
 
+-- the turn has a message, and no entry after it
+abbrev pub is_unanswered : Turn → Bool
+is_unanswered (head digest) = false
+is_unanswered (answered p status) = false
+is_unanswered (caught_up p digest) = false
+is_unanswered (tried p) = true
+is_unanswered (left_out at sent) = true
+
 -- the entries of turns, one after another
 abbrev pub entries_of : List Turn → List Entry
 entries_of ts = flat_map entries_in ts
@@ -79,10 +88,6 @@ answers_of ts = map (λ p. p.told) (plays_of ts)
 -- the same, one after another
 abbrev pub bytes_of : List Turn → List ℕ
 bytes_of ts = flat_map (λ p. p.told) (plays_of ts)
-
--- the three digits that follow the version in an answer's first line
-abbrev pub status_in : List ℕ → List ℕ
-status_in bytes = take 3 (drop 9 bytes)
 
 -- the bytes of what is played are one message and nothing else
 abbrev pub IsPlay : Play → Type 0
@@ -147,6 +152,16 @@ abbrev pub ends_open : List Turn → Bool
 ends_open [] = false
 ends_open (t ∷ []) = is_left_out t
 ends_open (t ∷ u ∷ ts) = ends_open (u ∷ ts)
+
+-- the last turn has a message, and no entry after it
+abbrev pub ends_unanswered : List Turn → Bool
+ends_unanswered [] = false
+ends_unanswered (t ∷ []) = is_unanswered t
+ends_unanswered (t ∷ u ∷ ts) = ends_unanswered (u ∷ ts)
+
+-- no status stands next
+abbrev pub HasNoStatus : List ℕ → Type 0
+HasNoStatus rest = (status : ℕ) (more : List ℕ) → ¬ (Begins rest (answer status) more)
 
 -- the entries are in their ranges, and no message is after this moment
 abbrev pub AreBy : Option ℕ → List Entry → Type 0

@@ -159,12 +159,12 @@ fn answer_turns<R: Source, W: Sink, M: Digested>(
     ensures trusted { M.is_trusted room.new → M.is_trusted room.old }
     ensures answers { AnswersEach M.step zone.now M.digest_of (M.is_trusted room.new)
         (M.stands room.old) (M.stands room.new) (R.left reader.old) (W.held writer.old)
-        (W.held writer.new) result }
+        (W.held writer.new) (R.has_failed reader.new) (W.has_failed writer.new) result }
     ensures kept { M.is_trusted room.new → UnlessStopped result (M.is_kept room.old
         → M.is_kept room.new) }
 {
     let mut progress = Progress::new();
-    'turns: for _ in 0..u64::MAX {
+    'turns: for _turn in 0..u64::MAX {
         match answer_turn(
             alloc,
             routes,
@@ -200,7 +200,7 @@ pub fn answer_each<R: Source, W: Sink, M: Digested>(
     ensures trusted { M.is_trusted room.new → M.is_trusted room.old }
     ensures answers { AnswersEach M.step zone.now M.digest_of (M.is_trusted room.new)
         (M.stands room.old) (M.stands room.new) (R.left reader.old) (W.held writer.old)
-        (W.held writer.new) result }
+        (W.held writer.new) (R.has_failed reader.new) (W.has_failed writer.new) result }
     ensures kept { M.is_trusted room.new → UnlessStopped result (M.is_kept room.old
         → M.is_kept room.new) }
 {

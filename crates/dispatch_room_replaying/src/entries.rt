@@ -1,6 +1,7 @@
 //! What stands next in a journal.
 ghost use Rattle.std.specs.Prelude.{◌≡◌, ◌↔◌, false, IsTrue};
 ghost use Rattle.std.specs.Io.KnownBytes.{prepend_known};
+ghost use Rattle.dispatch_room_replaying.specs.Faults.{read_fault};
 ghost use Rattle.dispatch_room_replaying.specs.Replays.{UnlessWant};
 ghost use Rattle.dispatch_room_replaying.specs.Steps.{NextIs};
 ghost use Rattle.dispatch_room_replaying.specs.Turns.{IsAfter};
@@ -28,7 +29,9 @@ pub enum Next {
 }
 
 /// The fault of a read.
-pub fn read_fault(fault: Fault) -> ReplayFault {
+pub fn read_fault(fault: Fault) -> ReplayFault
+    ensures { result ≡ read_fault fault }
+{
     match fault {
         Fault::Cut | Fault::Foreign => ReplayFault::Bad,
         Fault::Read => ReplayFault::ReadFailed,

@@ -23,6 +23,7 @@ pub enum ReplayFault {
 #[derive(Clone, Copy)]
 pub struct Stopped {
     pub fault: ReplayFault,
-    /// The number of the last message that was read, from 1: 0 before the first.
+    /// The number of the message at which it stopped, from 1: the one after those that were done
+    /// with. It stops at the greatest of its type.
     pub number: u64,
 }

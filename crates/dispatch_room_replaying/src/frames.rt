@@ -4,8 +4,8 @@ ghost use Rattle.arrayvec.specs.ArrayVec.{array_vec_len};
 ghost use Rattle.room_http_messages.specs.Streams.{WritesAll};
 ghost use Rattle.dispatch_room_replaying.specs.Frames.{frame_line, frame_of};
 
-use crate::playing::status_in;
 use arrayvec::ArrayVec;
+use dispatch_room_journal::statuses::status_in;
 use itoa::Buffer;
 use room_http_messages::sinks::{Sink, WriteFailed, write_all};
 

@@ -1,18 +1,20 @@
 //! One message of a journal, played.
-ghost use Rattle.std.specs.Prelude.{◌≡◌, ◌≤◌, ◌↔◌, ⊤, [], length, IsTrue, IfOk, List, decimal};
+ghost use Rattle.std.specs.Prelude.{◌≡◌, ◌≤◌, ◌↔◌, [], length, IsTrue, IfOk, IfErr, List, decimal};
 ghost use Rattle.std.specs.Prelude.{MatchOption};
 ghost use Rattle.room_types.specs.declared.fleet.Terminal.{Terminal};
 ghost use Rattle.room_model.specs.Room.{Room as Held};
 ghost use Rattle.room_http_messages.specs.declared.limits.TheConstants.{INBOX_ROOM};
 ghost use Rattle.room_http_messages.specs.Layouts.{Shows};
 ghost use Rattle.room_http_messages.specs.Messages.{WholeMessage, HasMessage};
-ghost use Rattle.dispatch_room_replaying.specs.Turns.{status_in};
+ghost use Rattle.dispatch_room_replaying.specs.Faults.{IsNoMessage, IsWanting};
+ghost use Rattle.dispatch_room_journal.specs.Records.{status_in};
 ghost use Rattle.dispatch_room_replaying.specs.Replays.{UnlessWant};
 ghost use Rattle.dispatch_room_replaying.specs.Steps.{Plays};
 
 use crate::digests::Digested;
 use crate::faults::ReplayFault;
 use dispatch_room_journal::lines::DIGEST_DIGITS;
+use dispatch_room_journal::statuses::status_in;
 use itoa::Buffer;
 use room_http::arrivals::Arrived;
 use room_http::replies::reply;
@@ -27,7 +29,7 @@ use std::alloc::Global;
 /// The message that the bytes are, one and nothing after it.
 fn message_in(bytes: &[u8]) -> Option<Message<'_>>
     requires { length bytes.now ≤ INBOX_ROOM }
-    ensures { MatchOption result ⊤
+    ensures { MatchOption result (IsNoMessage bytes.now)
         (λ shown. (m : WholeMessage) × HasMessage bytes.now m [] × Shows shown m
         × (1 ≤ length bytes.now)) }
 {
@@ -86,15 +88,6 @@ pub fn play<M: Room>(
     }
 }
 
-/// The three digits that follow the version in an answer's first line (RFC 9112, section 4).
-pub fn status_in(answer: &[u8]) -> &[u8]
-    ensures value { result.now ≡ status_in answer.now }
-    ensures short { length result.now ≤ 3 }
-{
-    let rest = &answer[answer.len().min(9)..];
-    &rest[..rest.len().min(3)]
-}
-
 /// Whether an answer has this status.
 pub fn has_status(answer: &[u8], status: u16) -> bool
     ensures { IsTrue result ↔ (status_in answer.now ≡ decimal status) }
@@ -118,6 +111,7 @@ pub fn is_at<M: Digested>(
         → (IsTrue is ↔ (M.digest_of terminals room_then ≡ digest.now))) }
     ensures kept { M.is_trusted room.new → UnlessWant result (M.is_kept room.old
         → M.is_kept room.new) }
+    ensures wants { IfErr result IsWanting }
 {
     match room.digest(alloc) {
         Ok(digits) => Ok(digits.as_slice() == digest.as_slice()),

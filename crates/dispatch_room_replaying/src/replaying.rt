@@ -1,5 +1,5 @@
 //! A journal, replayed.
-ghost use Rattle.std.specs.Prelude.{◌≡◌, [], false};
+ghost use Rattle.std.specs.Prelude.{◌≡◌, ◌+◌, [], false, min};
 ghost use Rattle.std.specs.Io.KnownBytes.{prepend_known};
 ghost use Rattle.room_types.specs.declared.refusals.Refusal.TheVariants.{Memory};
 ghost use Rattle.dispatch_room_replaying.specs.declared.faults.ReplayFault.TheVariants.{Want};
@@ -45,7 +45,8 @@ pub fn replay<R: Source, M: Digested>(
     ensures ready { M.is_ready room.new }
     ensures trusted { M.is_trusted room.new → M.is_trusted room.old }
     ensures replay { Replays M.step zone.now M.digest_of (M.is_trusted room.new)
-        (M.stands room.old) (M.stands room.new) (R.left reader.old) until.now result }
+        (M.stands room.old) (M.stands room.new) (R.left reader.old) until.now
+        (R.has_failed reader.new) result }
     ensures kept { M.is_trusted room.new → UnlessStopped result (M.is_kept room.old
         → M.is_kept room.new) }
 {
@@ -74,12 +75,13 @@ fn replay_turns<R: Source, M: Digested>(
     ensures ready { M.is_ready room.new }
     ensures trusted { M.is_trusted room.new → M.is_trusted room.old }
     ensures replay { Replays M.step zone.now M.digest_of (M.is_trusted room.new)
-        (M.stands room.old) (M.stands room.new) (R.left reader.old) until.now result }
+        (M.stands room.old) (M.stands room.new) (R.left reader.old) until.now
+        (R.has_failed reader.new) result }
     ensures kept { M.is_trusted room.new → UnlessStopped result (M.is_kept room.old
         → M.is_kept room.new) }
 {
     let mut progress = Progress::new();
-    'turns: for _ in 0..u64::MAX {
+    'turns: for _turn in 0..u64::MAX {
         match replay_turn(
             alloc,
             routes,
@@ -165,17 +167,20 @@ fn done(progress: &Progress) -> Replayed
 
 /// Memory was wanting before anything was read.
 pub fn memory() -> Stopped
-    ensures { result ≡ record { fault = Want Memory; number = 0 } }
+    ensures { result ≡ record { fault = Want Memory; number = 1 } }
 {
     Stopped {
         fault: ReplayFault::Want(Refusal::Memory),
-        number: 0,
+        number: 1,
     }
 }
 
-/// It stopped at the next message, or before it.
+/// It stopped at the next message.
 pub fn stopped(fault: ReplayFault, progress: &Progress) -> Stopped
-    ensures { result.fault ≡ fault }
+    ensures { result ≡ record {
+      fault = fault;
+      number = min (progress.now.records + 1) u64.MAX;
+    } }
 {
     Stopped {
         fault,

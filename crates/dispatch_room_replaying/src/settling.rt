@@ -1,7 +1,7 @@
 //! What becomes of a message, by what follows it in the journal.
 ghost use Rattle.std.specs.Prelude.{◌≤◌, ◌∷◌, [], length, false, MatchResult};
 ghost use Rattle.room_http_messages.specs.declared.limits.TheConstants.{INBOX_ROOM};
-ghost use Rattle.dispatch_room_journal.specs.declared.lines.Line.TheVariants.{Room};
+ghost use Rattle.dispatch_room_journal.specs.declared.lines.Line.TheVariants.{Answer, Room};
 ghost use Rattle.dispatch_room_journal.specs.Entries.{answer};
 ghost use Rattle.dispatch_room_replaying.specs.Replays.{UnlessWant};
 ghost use Rattle.dispatch_room_replaying.specs.Steps.{ComesTo, Settles, StopsAt, TurnOf};
@@ -32,8 +32,8 @@ fn play_answered<M: Digested>(
     ensures turn { MatchResult result
         (λ _. TurnOf M.step zone.now M.digest_of (M.is_trusted room.new) (M.stands room.old)
         (M.stands room.new) at sent.now (answer status ∷ []) false)
-        (λ _. StopsAt M.step zone.now M.digest_of (M.is_trusted room.new) (M.stands room.old)
-        (M.stands room.new) at sent.now) }
+        (λ fault. StopsAt M.step zone.now M.digest_of (M.is_trusted room.new)
+        (M.stands room.old) (M.stands room.new) at sent.now (Answer status) fault) }
     ensures kept { M.is_trusted room.new → UnlessWant result (M.is_kept room.old
         → M.is_kept room.new) }
 {
@@ -66,8 +66,8 @@ fn play_open<M: Digested>(
     ensures turn { MatchResult result
         (λ _. ComesTo M.step zone.now M.digest_of (M.is_trusted room.new) (M.stands room.old)
         (M.stands room.new) at sent.now digest.now)
-        (λ _. StopsAt M.step zone.now M.digest_of (M.is_trusted room.new) (M.stands room.old)
-        (M.stands room.new) at sent.now) }
+        (λ fault. StopsAt M.step zone.now M.digest_of (M.is_trusted room.new)
+        (M.stands room.old) (M.stands room.new) at sent.now (Room digest.now) fault) }
     ensures kept { M.is_trusted room.new → UnlessWant result (M.is_kept room.old
         → M.is_kept room.new) }
 {

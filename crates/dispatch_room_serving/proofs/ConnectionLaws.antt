@@ -19,7 +19,7 @@ use Rattle.room_http.proofs.PromiseLaws.{promises_kept}
 use Rattle.room_http.proofs.RunLemmas.{room_split, run_join}
 use Rattle.dispatch_room_endings.specs.declared.endings.Failure.{Failure}
 use Rattle.dispatch_room_serving.specs.Calls.{Grows, Opening}
-use Rattle.dispatch_room_serving.specs.Connections.{AreAttended, AreJoined, AreNext, AreServed, Conversation, EndsAs, GoOn, GoesOn, IsNext, Service, connected, done_or, fault_after, opening_of, together}
+use Rattle.dispatch_room_serving.specs.Connections.{AreAttended, AreJoined, AreNext, AreServed, Conversation, EndsAs, GoOn, GoesOn, IsNext, Service, Stage, connected, done_or, fault_after, opening_of, stage_after, together}
 
 -- ---- what is known grows
 pub grows_none : {A : Type 0} (known : Option (List A)) → Grows known known []
@@ -33,10 +33,6 @@ grows_more (Some known) (Some more) None xs ys first second = second
 grows_more (Some known) (Some more) (Some most) xs ys first second = second ∙ ap (λ t. t ++ ys) first ∙ append_assoc known xs ys
 
 -- nothing was heard or told
-pub same_service : {S : Type 0} {heard heard_too : Option (List (Option Opening))} {told told_too : Option (List (Option (List ℕ)))} (given : Option (List ℕ)) (store : Store S) → heard_too ≡ heard → told_too ≡ told
-    → ◌≡◌ {A = Service S} (record { heard = heard_too; told = told_too; given = given; store = store }) (record { heard = heard; told = told; given = given; store = store })
-same_service given store same alike i = record { heard = same i; told = alike i; given = given; store = store }
-
 -- ---- all that was exchanged
 together_more : (xss yss : List (List Exchange)) → together (xss ++ yss) ≡ together xss ++ together yss
 together_more [] yss = refl
@@ -48,102 +44,100 @@ module _ {S : Type 0} where
   connected_more (None ∷ calls) more = connected_more calls more
   connected_more (Some c ∷ calls) more = ap (λ cs. c ∷ cs) (connected_more calls more)
 
-module _ {S : Type 0} (g : Ghosts S) (zone : Zone) where
-  next_more : (cs ds : List (Conversation S)) (a b c : Store S) (given mid gives : Option (List ℕ)) → AreNext g zone cs a given b mid → AreNext g zone ds b mid c gives
-      → AreNext g zone (cs ++ ds) a given c gives
-  next_more [] ds a b c given mid gives first second = rw (← first.0, ← first.1) second
-  next_more (x ∷ cs) ds a b c given mid gives first second = (first.0, next_more cs ds x.store b c x.after.given mid gives first.1 second)
+module _ {S : Type 0} (g : Ghosts S) (zone : Zone) (terminals : List Terminal) where
+  served_more : (cs ds : List (Conversation S)) (xss yss : List (List Exchange)) (room : Room) → AreServed g zone terminals cs xss room
+      → AreServed g zone terminals ds yss (room_by (together xss) room) → AreServed g zone terminals (cs ++ ds) (xss ++ yss) room
+  served_more [] ds [] yss room first second = second
+  served_more [] ds (xs ∷ xss) yss room first second = absurd first
+  served_more (c ∷ cs) ds [] yss room first second = absurd first
+  served_more (c ∷ cs) ds (xs ∷ xss) yss room first second = (
+    first.0,
+    served_more cs ds xss yss (room_by xs room) first.1 (subst (AreServed g zone terminals ds yss) (room_split xs (together xss) room) second),
+  )
 
-  module _ (terminals : List Terminal) where
-    served_more : (cs ds : List (Conversation S)) (xss yss : List (List Exchange)) (room : Room) → AreServed g zone terminals cs xss room
-        → AreServed g zone terminals ds yss (room_by (together xss) room) → AreServed g zone terminals (cs ++ ds) (xss ++ yss) room
-    served_more [] ds [] yss room first second = second
-    served_more [] ds (xs ∷ xss) yss room first second = absurd first
-    served_more (c ∷ cs) ds [] yss room first second = absurd first
-    served_more (c ∷ cs) ds (xs ∷ xss) yss room first second = (
-      first.0,
-      served_more cs ds xss yss (room_by xs room) first.1 (subst (AreServed g zone terminals ds yss) (room_split xs (together xss) room) second),
-    )
+  joined_more : (cs ds : List (Conversation S)) (mid last : Store S) (room : Room) → AreTerminals room terminals → IsWellFormed room
+      → (first : AreJoined g zone terminals cs mid room) → AreJoined g zone terminals ds last (room_by (together first.talks) room)
+      → AreJoined g zone terminals (cs ++ ds) last room
+  joined_more cs ds mid last room fit formed first second =
+      let here = together first.talks in
+      let there = together second.talks in
+      let all : together (first.talks ++ second.talks) ≡ here ++ there = together_more first.talks second.talks in
+      let run : IsRun zone terminals (here ++ there) room = run_join zone terminals room here there fit first.run second.run in
+      record {
+        talks = first.talks ++ second.talks;
+        served = served_more cs ds first.talks second.talks room first.served second.served;
+        run = rw all run;
+        after = rw all (rw (room_split here there room) second.after);
+        promises = rw all (promises_kept zone terminals (here ++ there) room formed run);
+      }
 
-    joined_more : (cs ds : List (Conversation S)) (mid last : Store S) (room : Room) → AreTerminals room terminals → IsWellFormed room
-        → (first : AreJoined g zone terminals cs mid room) → AreJoined g zone terminals ds last (room_by (together first.talks) room)
-        → AreJoined g zone terminals (cs ++ ds) last room
-    joined_more cs ds mid last room fit formed first second =
-        let here = together first.talks in
-        let there = together second.talks in
-        let all : together (first.talks ++ second.talks) ≡ here ++ there = together_more first.talks second.talks in
-        let run : IsRun zone terminals (here ++ there) room = run_join zone terminals room here there fit first.run second.run in
-        record {
-          talks = first.talks ++ second.talks;
-          served = served_more cs ds first.talks second.talks room first.served second.served;
-          run = rw all run;
-          after = rw all (rw (room_split here there room) second.after);
-          promises = rw all (promises_kept zone terminals (here ++ there) room formed run);
-        }
+  pub joined_none : (store : Store S) (room : Room) → IsRoom g store terminals room → AreJoined g zone terminals [] store room
+  joined_none store room is =
+      let run : IsRun zone terminals [] room = record { addressed = tt; answered = tt } in
+      record { talks = []; served = tt; run = run; after = is; promises = promises_kept zone terminals [] room is.formed run }
 
-    pub joined_none : (store : Store S) (room : Room) → IsRoom g store terminals room → AreJoined g zone terminals [] store room
-    joined_none store room is =
-        let run : IsRun zone terminals [] room = record { addressed = tt; answered = tt } in
-        record { talks = []; served = tt; run = run; after = is; promises = promises_kept zone terminals [] room is.formed run }
+  pub joined_one : (c : Conversation S) (room : Room)
+      → Served zone (AreFirst c.before.left c.before.given c.after.given) c.before.held c.after.held (IsKept g c.from) (IsRoom g c.store) (LeavesOneOf g c.store) terminals room
+      → AreJoined g zone terminals (c ∷ []) c.store room
+  joined_one c room s = record {
+    talks = s.exchanges ∷ [];
+    served = (record { served = s; exchanged = refl }, tt);
+    run = rw append-nil s.run;
+    after = rw append-nil s.after;
+    promises = rw append-nil s.promises;
+  }
 
-    pub joined_one : (c : Conversation S) (room : Room)
-        → Served zone (AreFirst c.before.left c.before.given c.after.given) c.before.held c.after.held (IsKept g c.from) (IsRoom g c.store) (LeavesOneOf g c.store) terminals room
-        → AreJoined g zone terminals (c ∷ []) c.store room
-    joined_one c room s = record {
-      talks = s.exchanges ∷ [];
-      served = (record { served = s; exchanged = refl }, tt);
-      run = rw append-nil s.run;
-      after = rw append-nil s.after;
-      promises = rw append-nil s.promises;
-    }
+module _ {S : Type 0} (g : Ghosts S) (zone : Zone) (came_text : ℕ → List ℕ → List ℕ) (told_text : List ℕ → List ℕ) where
+  next_more : (cs ds : List (Conversation S)) (a b c : Stage S) → AreNext g zone came_text told_text cs a b → AreNext g zone came_text told_text ds b c → AreNext g zone came_text told_text (cs ++ ds) a c
+  next_more [] ds a b c first second = rw (← first) second
+  next_more (x ∷ cs) ds a b c first second = (first.0, next_more cs ds (stage_after x) b c first.1 second)
 
   -- ---- what was done
-  pub attended_none : (s : Service S) → AreAttended g zone [] s s
+  pub attended_none : (s : Service S) → AreAttended g zone came_text told_text [] s s
   attended_none s = record {
     heard = grows_none s.heard;
     told = grows_none s.told;
-    in_turn = (refl, refl);
+    in_turn = refl;
     trusted = λ clean. clean;
-    joined = λ clean terminals room is. joined_none terminals s.store room is;
+    joined = λ clean terminals room is. joined_none g zone terminals s.stage.store room is;
   }
 
   -- a call of which no connection came
-  pub attended_nothing : (old : Service S) (heard : Option (List (Option Opening))) (told : Option (List (Option (List ℕ)))) → Grows old.heard heard (None ∷ []) → told ≡ old.told
-      → AreAttended g zone (None ∷ []) old (record { heard = heard; told = told; given = old.given; store = old.store })
-  attended_nothing old heard told came same = record {
-    heard = came;
+  pub attended_nothing : (old new : Service S) → Grows old.heard new.heard (None ∷ []) → new.told ≡ old.told → new.stage ≡ old.stage → AreAttended g zone came_text told_text (None ∷ []) old new
+  attended_nothing old new heard same stage = record {
+    heard = heard;
     told = rw same (grows_none old.told);
-    in_turn = (refl, refl);
-    trusted = λ clean. clean;
-    joined = λ clean terminals room is. joined_none terminals old.store room is;
+    in_turn = stage;
+    trusted = λ clean. rw stage at clean;
+    joined = λ clean terminals room is. joined_none g zone terminals new.stage.store room (rw stage is);
   }
 
   -- a connection that was served
-  pub attended_one : (c : Conversation S) (old : Service S) (heard : Option (List (Option Opening))) (told : Option (List (Option (List ℕ)))) → Grows old.heard heard (Some (opening_of c) ∷ [])
-      → Grows old.told told (c.after.held ∷ []) → IsNext g zone old.store old.given c → (HasCleanDisk (state g c.store.conn) → HasCleanDisk (state g old.store.conn))
-      → KeepsPromises zone (AreFirst c.before.left c.before.given c.after.given) c.before.held c.after.held (HasCleanDisk (state g c.store.conn)) (IsKept g c.from) (IsRoom g old.store) (IsRoom g c.store) (LeavesOneOf g c.store)
-      → AreAttended g zone (Some c ∷ []) old (record { heard = heard; told = told; given = c.after.given; store = c.store })
-  attended_one c old heard told came back next trusted promised = record {
-    heard = came;
+  pub attended_one : (c : Conversation S) (old new : Service S) → Grows old.heard new.heard (Some (opening_of c) ∷ []) → Grows old.told new.told (c.after.held ∷ [])
+      → new.stage ≡ stage_after c → IsNext g zone came_text told_text old.stage c → (HasCleanDisk (state g c.store.conn) → HasCleanDisk (state g old.stage.store.conn))
+      → KeepsPromises zone (AreFirst c.before.left c.before.given c.after.given) c.before.held c.after.held (HasCleanDisk (state g c.store.conn)) (IsKept g c.from) (IsRoom g old.stage.store) (IsRoom g c.store) (LeavesOneOf g c.store)
+      → AreAttended g zone came_text told_text (Some c ∷ []) old new
+  attended_one c old new heard back stage next trusted promised = record {
+    heard = heard;
     told = back;
-    in_turn = (next, (refl, refl));
-    trusted = trusted;
-    joined = λ clean terminals room is. joined_one terminals c room (promised clean terminals room is is.formed);
+    in_turn = (next, stage);
+    trusted = λ clean. trusted (rw stage at clean);
+    joined = λ clean terminals room is. rw stage (joined_one g zone terminals c room (promised (rw stage at clean) terminals room is is.formed));
   }
 
-  pub attended_more : (calls more : List (Option (Conversation S))) (old mid new : Service S) → AreAttended g zone calls old mid → AreAttended g zone more mid new
-      → AreAttended g zone (calls ++ more) old new
+  pub attended_more : (calls more : List (Option (Conversation S))) (old mid new : Service S) → AreAttended g zone came_text told_text calls old mid → AreAttended g zone came_text told_text more mid new
+      → AreAttended g zone came_text told_text (calls ++ more) old new
   attended_more calls more old mid new first second =
       let all = connected_more calls more in
       record {
         heard = rw map-append (grows_more old.heard mid.heard new.heard _ _ first.heard second.heard);
         told = rw (all, map-append) (grows_more old.told mid.told new.told _ _ first.told second.told);
-        in_turn = rw all (next_more (connected calls) (connected more) old.store mid.store new.store old.given mid.given new.given first.in_turn second.in_turn);
+        in_turn = rw all (next_more (connected calls) (connected more) old.stage mid.stage new.stage first.in_turn second.in_turn);
         trusted = λ clean. first.trusted (second.trusted clean);
         joined = λ clean terminals room is.
             let here = first.joined (second.trusted clean) terminals room is in
             let there = second.joined clean terminals (room_by (together here.talks) room) here.after in
-            rw all (joined_more terminals (connected calls) (connected more) mid.store new.store room is.fits is.formed here there);
+            rw all (joined_more g zone terminals (connected calls) (connected more) mid.stage.store new.stage.store room is.fits is.formed here there);
       }
 
 -- ---- whether more is served

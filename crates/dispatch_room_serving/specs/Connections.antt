@@ -9,6 +9,7 @@ use Rattle.room_http_time.specs.declared.zones.Zone.{Zone}
 use Rattle.room_service.specs.Rooms.{machine}
 use Rattle.room_store.specs.Keeping.{IsKept, IsRoom, LeavesOneOf}
 use Rattle.room_store.specs.declared.store.Store.{Store}
+use Rattle.room_http.specs.Kept.{ActsOnEach, KeepsEach, Tapes}
 use Rattle.room_http.specs.Promises.{Promises}
 use Rattle.room_http.specs.Runs.{Exchange, IsRun, room_by}
 use Rattle.room_http.specs.Served.{AreFirst, Served}
@@ -23,7 +24,14 @@ use Rattle.dispatch_room_endings.specs.declared.endings.Failure.TheVariants.{Jou
 use Rattle.dispatch_room_serving.specs.declared.connections.TheConstants.{MOST_READS}
 use Rattle.dispatch_room_serving.specs.Calls.{Grows, Opening}
 
--- A connection that was served: its sides before and after, what was left unread, how serving it ended, and the store before and after it.
+-- where serving stands between two connections: what is known of the moments given and of what the witness keeps, and the store
+pub record Stage (S : Type 0) : Type 0 where
+  pub given : Option (List ℕ)
+  pub kept : Option (List ℕ)
+  pub store : Store S
+
+-- A connection that was served: its sides before and after, what was left unread, how serving it ended, and the store and what the
+-- witness keeps, before and after it.
 pub record Conversation (S : Type 0) : Type 0 where
   pub before : Sides
   pub after : Finish
@@ -31,13 +39,14 @@ pub record Conversation (S : Type 0) : Type 0 where
   pub end : ServeEnd
   pub from : Store S
   pub store : Store S
+  pub kept : Option (List ℕ)
+  pub keeps : Option (List ℕ)
 
--- what is known of all that is served, at one moment: the calls that came, what they were told, the moments given, and the store
+-- what is known of all that is served, at one moment: the calls that came, what they were told, and where serving stands
 pub record Service (S : Type 0) : Type 0 where
   pub heard : Option (List (Option Opening))
   pub told : Option (List (Option (List ℕ)))
-  pub given : Option (List ℕ)
-  pub store : Store S
+  pub stage : Stage S
 
 -- a store that is not sound any longer serves no more
 abbrev pub fault_of_store : Bool → Option Failure
@@ -59,6 +68,20 @@ module _ {S : Type 0} where
   -- what a connection began with
   abbrev pub opening_of : Conversation S → Opening
   opening_of c = record { left = c.before.left; held = c.before.held }
+
+  -- where serving stood before it, and stands after it
+  abbrev pub stage_before : Conversation S → Stage S
+  stage_before c = record { given = c.before.given; kept = c.kept; store = c.from }
+
+  abbrev pub stage_after : Conversation S → Stage S
+  stage_after c = record { given = c.after.given; kept = c.keeps; store = c.store }
+
+  -- what is known of the moments, of what the witness keeps and of what was written, before it and after it
+  abbrev pub tapes_before : Conversation S → Tapes
+  tapes_before c = record { given = c.before.given; kept = c.kept; held = c.before.held }
+
+  abbrev pub tapes_after : Conversation S → Tapes
+  tapes_after c = record { given = c.after.given; kept = c.keeps; held = c.after.held }
 
   -- why no more is served after it, if it is so
   abbrev pub fault_after : Conversation S → Option Failure
@@ -86,51 +109,53 @@ module _ {S : Type 0} where
 abbrev pub together : List (List Exchange) → List Exchange
 together talks = flat_map (λ xs. xs) talks
 
-module _ {S : Type 0} (g : Ghosts S) (zone : Zone) where
-  -- it was served as one connection is, from this store and the moments that were given before it
-  pub record IsNext (store : Store S) (given : Option (List ℕ)) (c : Conversation S) : Type 0 where
-    pub same : c.from ≡ store
-    pub moments : c.before.given ≡ given
+module _ {S : Type 0} (g : Ghosts S) (zone : Zone) (terminals : List Terminal) where
+  -- on the connection these exchanges were served, from this room
+  pub record IsServed (c : Conversation S) (xs : List Exchange) (room : Room) : Type 0 where
+    pub served : Served zone (AreFirst c.before.left c.before.given c.after.given) c.before.held c.after.held (IsKept g c.from) (IsRoom g c.store) (LeavesOneOf g c.store) terminals room
+    pub exchanged : served.exchanges ≡ xs
+
+  -- on each connection its exchanges were served, from the room that the one before left
+  abbrev pub AreServed : List (Conversation S) → List (List Exchange) → Room → Type 0
+  AreServed [] [] room = ⊤
+  AreServed [] (xs ∷ more) room = ⊥
+  AreServed (c ∷ cs) [] room = ⊥
+  AreServed (c ∷ cs) (xs ∷ more) room = IsServed c xs room × AreServed cs more (room_by xs room)
+
+  -- The connections are joined: all their exchanges, one after another, are one run from this room. It leads to the room
+  -- that the store stands for at the end, and keeps the promises.
+  pub record AreJoined (cs : List (Conversation S)) (last : Store S) (room : Room) : Type 0 where
+    pub talks : List (List Exchange)
+    pub served : AreServed cs talks room
+    pub run : IsRun zone terminals (together talks) room
+    pub after : IsRoom g last terminals (room_by (together talks) room)
+    pub promises : Promises terminals (together talks) room
+
+-- where a witness keeps so much of a message at its moment, and of an answer
+module _ {S : Type 0} (g : Ghosts S) (zone : Zone) (came_text : ℕ → List ℕ → List ℕ) (told_text : List ℕ → List ℕ) where
+  -- it was served as one connection is, from where serving stood, and witnessed
+  pub record IsNext (stage : Stage S) (c : Conversation S) : Type 0 where
+    pub begins : stage_before c ≡ stage
     pub reads : ReadsAtMost MOST_READS c.before.reads c.after.reads
-    pub talk : ServeIs machine zone c.before c.after (HasCleanDisk (state g c.store.conn)) (IsRoom g store)
-        (Stays (IsKept g store) (IsRoom g c.store) (LeavesOneOf g c.store)) (Wants machine zone (IsKept g store) (IsRoom g c.store) (LeavesOneOf g c.store)) MOST_READS c.end
+    pub talk : ServeIs machine zone c.before c.after (HasCleanDisk (state g c.store.conn)) (IsRoom g c.from)
+        (Stays (IsKept g c.from) (IsRoom g c.store) (LeavesOneOf g c.store)) (Wants machine zone (IsKept g c.from) (IsRoom g c.store) (LeavesOneOf g c.store)) MOST_READS c.end
     pub none_missed : MissesNone c.before.left c.unread c.before.given c.after.given c.end
+    pub witnessed : KeepsEach came_text told_text (ActsOnEach machine zone (HasCleanDisk (state g c.store.conn)) (IsRoom g c.from) (IsRoom g c.store)) c.before.left
+        (tapes_before c) (tapes_after c)
 
-  -- each was served from the store and the moments that the one before left; these are left at the end
-  abbrev pub AreNext : List (Conversation S) → Store S → Option (List ℕ) → Store S → Option (List ℕ) → Type 0
-  AreNext [] store given last gives = (last ≡ store) × (gives ≡ given)
-  AreNext (c ∷ cs) store given last gives = IsNext store given c × AreNext cs c.store c.after.given last gives
-
-  module _ (terminals : List Terminal) where
-    -- on the connection these exchanges were served, from this room
-    pub record IsServed (c : Conversation S) (xs : List Exchange) (room : Room) : Type 0 where
-      pub served : Served zone (AreFirst c.before.left c.before.given c.after.given) c.before.held c.after.held (IsKept g c.from) (IsRoom g c.store) (LeavesOneOf g c.store) terminals room
-      pub exchanged : served.exchanges ≡ xs
-
-    -- on each connection its exchanges were served, from the room that the one before left
-    abbrev pub AreServed : List (Conversation S) → List (List Exchange) → Room → Type 0
-    AreServed [] [] room = ⊤
-    AreServed [] (xs ∷ more) room = ⊥
-    AreServed (c ∷ cs) [] room = ⊥
-    AreServed (c ∷ cs) (xs ∷ more) room = IsServed c xs room × AreServed cs more (room_by xs room)
-
-    -- The connections are joined: all their exchanges, one after another, are one run from this room. It leads to the room
-    -- that the store stands for at the end, and keeps the promises.
-    pub record AreJoined (cs : List (Conversation S)) (last : Store S) (room : Room) : Type 0 where
-      pub talks : List (List Exchange)
-      pub served : AreServed cs talks room
-      pub run : IsRun zone terminals (together talks) room
-      pub after : IsRoom g last terminals (room_by (together talks) room)
-      pub promises : Promises terminals (together talks) room
+  -- each was served from where the one before left serving; there it stands at the end
+  abbrev pub AreNext : List (Conversation S) → Stage S → Stage S → Type 0
+  AreNext [] stage last = last ≡ stage
+  AreNext (c ∷ cs) stage last = IsNext stage c × AreNext cs (stage_after c) last
 
   -- what was done with these calls: each was heard and told, served in its turn, and joined to the others
   pub record AreAttended (calls : List (Option (Conversation S))) (old new : Service S) : Type 0 where
     pub heard : Grows old.heard new.heard (map (option_map opening_of) calls)
     pub told : Grows old.told new.told (map (λ c. c.after.held) (connected calls))
-    pub in_turn : AreNext (connected calls) old.store old.given new.store new.given
-    pub trusted : HasCleanDisk (state g new.store.conn) → HasCleanDisk (state g old.store.conn)
-    pub joined : HasCleanDisk (state g new.store.conn) → (terminals : List Terminal) (room : Room) → IsRoom g old.store terminals room
-        → AreJoined terminals (connected calls) new.store room
+    pub in_turn : AreNext (connected calls) old.stage new.stage
+    pub trusted : HasCleanDisk (state g new.stage.store.conn) → HasCleanDisk (state g old.stage.store.conn)
+    pub joined : HasCleanDisk (state g new.stage.store.conn) → (terminals : List Terminal) (room : Room) → IsRoom g old.stage.store terminals room
+        → AreJoined g zone terminals (connected calls) new.stage.store room
 
   -- so many calls were served, or those up to one after which no more is served
   pub record Serves (old new : Service S) (most : ℕ) (result : Result Done Failure) : Type 0 where
@@ -144,7 +169,7 @@ done_or None = Ok tt
 done_or (Some fault) = Err fault
 
 -- the next call was attended to, and why no more is served after it, if it is so
-pub record AttendsNext {S : Type 0} (g : Ghosts S) (zone : Zone) (old new : Service S) (result : Result (Unit {0}) Failure) : Type 0 where
+pub record AttendsNext {S : Type 0} (g : Ghosts S) (zone : Zone) (came_text : ℕ → List ℕ → List ℕ) (told_text : List ℕ → List ℕ) (old new : Service S) (result : Result (Unit {0}) Failure) : Type 0 where
   pub call : Option (Conversation S)
-  pub attended : AreAttended g zone (call ∷ []) old new
+  pub attended : AreAttended g zone came_text told_text (call ∷ []) old new
   pub ends : result ≡ done_or (option_and_then fault_after call)

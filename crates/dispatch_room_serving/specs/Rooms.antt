@@ -1,15 +1,20 @@
 -- The room of a database, opened and served.
-use Rattle.std.specs.Prelude.{◌≡◌, ◌⊎◌, ℕ, List, Result, Ok, Err}
+use Rattle.std.specs.Prelude.{◌≡◌, ◌⊎◌, ℕ, List, [], if◌then◌else◌, Bool, true, Option, Result, Ok, Err}
+use Rattle.std.specs.Io.KnownBytes.{Appends}
+use Rattle.hex.specs.Hex.{encode_lower}
+use Rattle.sha2.specs.Sha256.{sha256}
 use Rattle.jiff.specs.Placed.{IsPosixZone}
 use Rattle.sqlite.specs.Held.{Held, state}
 use Rattle.sqlite.specs.State.{HasCleanDisk}
 use Rattle.sqlite_trees.specs.declared.store.Store.{Ghosts}
 use Rattle.room_types.specs.declared.fleet.Terminal.{Terminal}
 use Rattle.room_model.specs.Room.{Room}
+use Rattle.room_http.specs.Talk.{IsFront}
 use Rattle.room_http_time.specs.Days.{zone_of}
 use Rattle.room_http_time.specs.declared.zones.Zone.{Zone}
 use Rattle.room_store.specs.Keeping.{IsKept, IsRoom}
 use Rattle.room_store.specs.declared.store.Store.{Store}
+use Rattle.room_store_digest.specs.Texts.{digest_text}
 use Rattle.dispatch_room_endings.specs.declared.endings.Done.{Done}
 use Rattle.dispatch_room_endings.specs.declared.endings.Failure.{Failure}
 use Rattle.dispatch_room_endings.specs.declared.endings.Failure.TheVariants.{Journal, Memory, Network, Storage}
@@ -31,36 +36,58 @@ module _ {S : Type 0} (g : Ghosts S) where
     pub looks : Looks old new
     pub kept : HasCleanDisk (state g new.conn) → IsKept g old → IsKept g new
 
-  -- the watcher was told where the room begins, or serving does not begin
-  abbrev pub Announces : Store S → Store S → Result (Unit {0}) Failure → Type 0
-  Announces old new (Ok told) = LooksOnly old new
-  Announces old new (Err fault) = IsUnbegun fault × Looks old new
+  -- the digest of the room that a store stood for, in digits
+  abbrev pub IsDigestOf : Store S → Store S → List ℕ → Type 0
+  IsDigestOf old new digest =
+      HasCleanDisk (state g new.conn) → (terminals : List Terminal) (room : Room) → IsRoom g old terminals room → digest ≡ encode_lower (sha256 (digest_text terminals room))
 
-  -- serving did not begin, and nothing was heard
-  pub record IsUnheard (old new : Service S) (result : Result Done Failure) : Type 0 where
-    pub fault : Failure
-    pub why : IsUnbegun fault
-    pub told : result ≡ Err fault
-    pub unheard : (new.heard ≡ old.heard) × (new.told ≡ old.told) × (new.given ≡ old.given)
-    pub looks : Looks old.store new.store
+  -- where a watcher wants the digest of the room's rows, or doesn't, and what it keeps of it
+  module _ (wants : Bool) (begun_text : List ℕ → List ℕ) where
+    -- what it keeps where serving begins: where it doesn't want the digest, nothing
+    pub record IsHead (old new : Store S) (text : List ℕ) : Type 0 where
+      pub digest : List ℕ
+      pub known : wants ≡ true → IsDigestOf old new digest
+      pub told : text ≡ if wants then begun_text digest else []
 
-  -- from the store that was looked at so many calls were served
-  pub record ServesFrom (zone : Zone) (old new : Service S) (most : ℕ) (result : Result Done Failure) : Type 0 where
-    pub store : Store S
-    pub looks : LooksOnly old.store store
-    pub serves : Serves g zone (record { heard = old.heard; told = old.told; given = old.given; store = store }) new most result
+    -- it keeps that; or, where serving doesn't begin, nothing or some first bytes of it
+    abbrev pub KeepsHead : Store S → Store S → Option (List ℕ) → Option (List ℕ) → Result (Unit {0}) Failure → Type 0
+    KeepsHead old new kept keeps (Ok told) = (text : List ℕ) × IsHead old new text × Appends kept keeps text
+    KeepsHead old new kept keeps (Err fault) = (keeps ≡ kept) ⊎ ((text front : List ℕ) × IsHead old new text × IsFront front text × Appends kept keeps front)
 
-  -- serving did not begin, or so many calls were served
-  abbrev pub Attends : Zone → Service S → Service S → ℕ → Result Done Failure → Type 0
-  Attends zone old new most result = IsUnheard old new result ⊎ ServesFrom zone old new most result
+    -- the watcher was told where the room begins, or serving does not begin
+    abbrev pub Announces : Store S → Store S → Option (List ℕ) → Option (List ℕ) → Result (Unit {0}) Failure → Type 0
+    Announces old new kept keeps (Ok told) = LooksOnly old new × KeepsHead old new kept keeps (Ok told)
+    Announces old new kept keeps (Err fault) = IsUnbegun fault × Looks old new × KeepsHead old new kept keeps (Err fault)
 
-  -- The room that the tables of a connection stood for was opened and attended to, in the zone of its plan.
-  pub record ServesRoom (conn : Held S) (old new : Store S → Service S) (most : ℕ) (worked : Result Done Failure × Held S) : Type 0 where
-    -- the store as it was opened, and as it was closed
-    pub first : Store S
-    pub last : Store S
-    pub zone : Zone
-    pub opens : HasCleanDisk (state g first.conn) → OpensRoom g conn first
-    pub in_zone : IsPosixZone first.plan.zone (zone_of zone)
-    pub attended : Attends zone (old first) (new last) most worked.0
-    pub closed : worked.1 ≡ last.conn
+    -- serving did not begin, and nothing was heard
+    pub record IsUnheard (old new : Service S) (result : Result Done Failure) : Type 0 where
+      pub fault : Failure
+      pub why : IsUnbegun fault
+      pub told : result ≡ Err fault
+      pub unheard : (new.heard ≡ old.heard) × (new.told ≡ old.told) × (new.stage.given ≡ old.stage.given)
+      pub looks : Looks old.stage.store new.stage.store
+      pub head : KeepsHead old.stage.store new.stage.store old.stage.kept new.stage.kept (Err fault)
+
+    module _ (came_text : ℕ → List ℕ → List ℕ) (told_text : List ℕ → List ℕ) where
+      -- from the store that was looked at so many calls were served
+      pub record ServesFrom (zone : Zone) (old new : Service S) (most : ℕ) (result : Result Done Failure) : Type 0 where
+        pub store : Store S
+        pub kept : Option (List ℕ)
+        pub looks : LooksOnly old.stage.store store
+        pub head : KeepsHead old.stage.store store old.stage.kept kept (Ok tt)
+        pub serves : Serves g zone came_text told_text (record { heard = old.heard; told = old.told; stage = record { given = old.stage.given; kept = kept; store = store } }) new most result
+
+      -- serving did not begin, or so many calls were served
+      abbrev pub Attends : Zone → Service S → Service S → ℕ → Result Done Failure → Type 0
+      Attends zone old new most result = IsUnheard old new result ⊎ ServesFrom zone old new most result
+
+      -- The room that the tables of a connection stood for was opened and attended to, in the zone of its plan.
+      pub record ServesRoom (conn : Held S) (old new : Store S → Service S) (most : ℕ) (worked : Result Done Failure × Held S) : Type 0 where
+        -- the store as it was opened, and as it was closed
+        pub first : Store S
+        pub last : Store S
+        pub zone : Zone
+        pub opens : HasCleanDisk (state g first.conn) → OpensRoom g conn first
+        pub in_zone : IsPosixZone first.plan.zone (zone_of zone)
+        pub attended : Attends zone (old first) (new last) most worked.0
+        pub closed : worked.1 ≡ last.conn

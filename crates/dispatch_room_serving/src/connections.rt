@@ -30,18 +30,24 @@ pub fn serve_each<S: Alter, P: Callers, C: Clock, N: Witness>(
 ) -> Result<Done, Failure>
     requires ready { IsReady S.Store room.old }
     ensures ready { IsReady S.Store room.new }
-    ensures served { Serves S.Store zone.now
+    ensures served { Serves S.Store zone.now N.came N.told
         (record {
           heard = P.heard callers.old;
           told = P.told callers.old;
-          given = C.given clock.old;
-          store = room.old;
+          stage = record {
+            given = C.given clock.old;
+            kept = N.held witness.old;
+            store = room.old;
+          };
         })
         (record {
           heard = P.heard callers.new;
           told = P.told callers.new;
-          given = C.given clock.new;
-          store = room.new;
+          stage = record {
+            given = C.given clock.new;
+            kept = N.held witness.new;
+            store = room.new;
+          };
         })
         connections result }
 {
@@ -64,18 +70,24 @@ fn serve_next<S: Alter, P: Callers, C: Clock, N: Witness>(
 ) -> Result<(), Failure>
     requires ready { IsReady S.Store room.old }
     ensures ready { IsReady S.Store room.new }
-    ensures attended { AttendsNext S.Store zone.now
+    ensures attended { AttendsNext S.Store zone.now N.came N.told
         (record {
           heard = P.heard callers.old;
           told = P.told callers.old;
-          given = C.given clock.old;
-          store = room.old;
+          stage = record {
+            given = C.given clock.old;
+            kept = N.held witness.old;
+            store = room.old;
+          };
         })
         (record {
           heard = P.heard callers.new;
           told = P.told callers.new;
-          given = C.given clock.new;
-          store = room.new;
+          stage = record {
+            given = C.given clock.new;
+            kept = N.held witness.new;
+            store = room.new;
+          };
         })
         result }
 {

@@ -1,11 +1,12 @@
 //! A journal of what is served: each message before the room acts on it, and its answer's status
 //! before the answer is written.
-ghost use Rattle.std.specs.Prelude.{◌≡◌, ◌+◌, ◌*◌, ◌-◌, ◌≤◌, not, IfSome, length};
+ghost use Rattle.std.specs.Prelude.{◌≡◌, not};
 ghost use Rattle.room_http.specs.Kept.{KeepsAll};
-ghost use Rattle.dispatch_room_journal.specs.Entries.{IsDigest, IsEntry, answer, message};
-ghost use Rattle.dispatch_room_serving.specs.Journals.{answer_text, digit_value, message_text, room_text, status_in};
+ghost use Rattle.dispatch_room_journal.specs.Entries.{IsDigest, IsEntry, message};
+ghost use Rattle.dispatch_room_journal.specs.Records.{answer_text, message_text, room_text};
 
 use dispatch_room_journal::lines::DIGEST_DIGITS;
+use dispatch_room_journal::statuses::status_of;
 use dispatch_room_journal::writing::{put_answer, put_message, put_room};
 use room_http::arrivals::Arrived;
 use room_http::witnesses::{Asked, Unkept, Witness};
@@ -95,8 +96,8 @@ fn keep_message<W: Synced>(out: &mut W, at: Moment, bytes: &[u8]) -> Result<(), 
         return Err(Unkept);
     }
     match put_message(out, at, bytes) {
-        Ok(()) => { if out.sync() { Ok(()) } else { Err(Unkept) } }
-        Err(_) => Err(Unkept),
+        Ok(()) if out.sync() => Ok(()),
+        _ => Err(Unkept),
     }
 }
 
@@ -104,7 +105,7 @@ fn keep_message<W: Synced>(out: &mut W, at: Moment, bytes: &[u8]) -> Result<(), 
 fn keep_answer<W: Synced>(out: &mut W, answer: &[u8]) -> Result<(), Unkept>
     ensures { KeepsAll (W.held out.old) (W.held out.new) (answer_text answer.now) result }
 {
-    let Some(status) = status_in(answer) else {
+    let Some(status) = status_of(answer) else {
         return Err(Unkept);
     };
     if !out.is_sound() {
@@ -113,28 +114,5 @@ fn keep_answer<W: Synced>(out: &mut W, answer: &[u8]) -> Result<(), Unkept>
     match put_answer(out, status) {
         Ok(()) => Ok(()),
         Err(_) => Err(Unkept),
-    }
-}
-
-// The status of an answer, none where its first line has none.
-fn status_in(bytes: &[u8]) -> Option<u16>
-    ensures { IfSome result (λ status. (status ≡ status_in bytes.now) × IsEntry (answer status)) }
-{
-    if bytes.len() < 12 {
-        return None;
-    }
-    let (hundreds, tens, ones) = (digit(bytes[9])?, digit(bytes[10])?, digit(bytes[11])?);
-    let status = 100 * hundreds + 10 * tens + ones;
-    if status < 100 { None } else { Some(status) }
-}
-
-// The number that a digit stands for, none where the byte is no digit.
-fn digit(byte: u8) -> Option<u16>
-    ensures { IfSome result (λ value. (value ≡ digit_value byte) × (value ≤ 9)) }
-{
-    if byte.is_ascii_digit() {
-        Some(u16::from(byte - b'0'))
-    } else {
-        None
     }
 }

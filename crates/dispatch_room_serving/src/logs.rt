@@ -1,6 +1,7 @@
 //! A log of what is served: a line for each message.
 ghost use Rattle.std.specs.Prelude.{[], None};
 
+use dispatch_room_journal::statuses::status_in;
 use jiff::Timestamp;
 use room_http::arrivals::Arrived;
 use room_http::witnesses::{Asked, Unkept, Witness};
@@ -50,7 +51,7 @@ impl<'a, E: Write, T: Clock> Log<'a, E, T> {
     fn put(&mut self, asked: &Asked<'_>, answer: &[u8]) -> bool {
         let line = Line {
             asked,
-            status: status_of(answer),
+            status: status_in(answer),
             took: self.now().saturating_sub(self.began),
         };
         match format!(in self.alloc; "{line}\n") {
@@ -100,11 +101,6 @@ impl<'a> fmt::Display for Line<'a> {
         put_visible(f, self.status)?;
         write!(f, " {} ms", self.took.as_millis())
     }
-}
-
-// The three digits that follow the version in an answer's first line (RFC 9112, section 4).
-fn status_of(answer: &[u8]) -> &[u8] {
-    answer.get(9..12).unwrap_or(b"-")
 }
 
 fn put_moment<W: fmt::Write>(f: &mut fmt::Formatter<W>, at: Moment) -> fmt::Result {

@@ -31,18 +31,25 @@ pub fn serve_in<S: Alter + Drop, P: Callers, C: Clock, N: Watcher>(
 ) -> Worked<Done, S>
     requires outside { conn.in_transaction ≡ false }
     ensures outside { IfOk result (λ worked. worked.1.in_transaction ≡ false) }
-    ensures served { IfOk result (ServesRoom S.Store conn
+    ensures served { IfOk result (ServesRoom S.Store (N.wants watcher.old) N.begun N.came
+        N.told conn
         (λ store. record {
           heard = P.heard callers.old;
           told = P.told callers.old;
-          given = C.given clock.old;
-          store = store;
+          stage = record {
+            given = C.given clock.old;
+            kept = N.held watcher.old;
+            store = store;
+          };
         })
         (λ store. record {
           heard = P.heard callers.new;
           told = P.told callers.new;
-          given = C.given clock.new;
-          store = store;
+          stage = record {
+            given = C.given clock.new;
+            kept = N.held watcher.new;
+            store = store;
+          };
         })
         connections) }
     ensures unheard { OnErr result ((callers.new ≡ callers.old) × (clock.new ≡ clock.old)) }
@@ -73,18 +80,24 @@ fn begin_and_serve<S: Alter, P: Callers, C: Clock, N: Watcher>(
 ) -> Result<Done, Failure>
     requires ready { IsReady S.Store room.old }
     ensures ready { IsReady S.Store room.new }
-    ensures attends { Attends S.Store zone.now
+    ensures attends { Attends S.Store (N.wants watcher.old) N.begun N.came N.told zone.now
         (record {
           heard = P.heard callers.old;
           told = P.told callers.old;
-          given = C.given clock.old;
-          store = room.old;
+          stage = record {
+            given = C.given clock.old;
+            kept = N.held watcher.old;
+            store = room.old;
+          };
         })
         (record {
           heard = P.heard callers.new;
           told = P.told callers.new;
-          given = C.given clock.new;
-          store = room.new;
+          stage = record {
+            given = C.given clock.new;
+            kept = N.held watcher.new;
+            store = room.new;
+          };
         })
         connections result }
 {
@@ -101,7 +114,8 @@ fn begin_and_serve<S: Alter, P: Callers, C: Clock, N: Watcher>(
 fn announce<S: Alter, N: Watcher>(room: &mut Store<S>, watcher: &mut N) -> Result<(), Failure>
     requires ready { IsReady S.Store room.old }
     ensures ready { IsReady S.Store room.new }
-    ensures announces { Announces S.Store room.old room.new result }
+    ensures announces { Announces S.Store (N.wants watcher.old) N.begun room.old room.new
+        (N.held watcher.old) (N.held watcher.new) result }
 {
     if !watcher.wants_digest() {
         return Ok(());

@@ -1,5 +1,5 @@
 //! Who watches over a room that is served.
-ghost use Rattle.std.specs.Prelude.{ℕ, List};
+ghost use Rattle.std.specs.Prelude.{◌≡◌, ℕ, List, Bool};
 ghost use Rattle.room_http.specs.Kept.{KeepsAll};
 ghost use Rattle.dispatch_room_journal.specs.Entries.{IsDigest};
 
@@ -8,11 +8,15 @@ use room_http::witnesses::{Unkept, Witness};
 
 /// Who is told of what is served, and before it at which room it begins.
 pub trait Watcher: Witness {
-    // What it keeps of the digest of the room's rows.
+    // Whether it wants to know the digest of the room's rows.
+    ghost wants: { Self → Bool };
+
+    // What it keeps of the digest.
     ghost begun: { List ℕ → List ℕ };
 
     /// Whether it wants to know the digest of the room's rows, which all have to be read for it.
-    fn wants_digest(&self) -> bool;
+    fn wants_digest(&self) -> bool
+        ensures { result ≡ wants self.now };
 
     /// The room has this digest, in digits, as serving begins.
     fn begins(&mut self, digest: &[u8; DIGEST_DIGITS]) -> Result<(), Unkept>

@@ -1,5 +1,7 @@
 //! Who watches over what is served: a log, and perhaps a journal.
-ghost use Rattle.dispatch_room_serving.specs.Journals.{answer_text, held_by, message_text, room_text};
+ghost use Rattle.std.specs.Prelude.{is_some};
+ghost use Rattle.dispatch_room_journal.specs.Records.{answer_text, message_text, room_text};
+ghost use Rattle.dispatch_room_serving.specs.Journals.{held_by};
 
 use crate::journals::{Journal, Synced};
 use crate::logs::Log;
@@ -53,6 +55,8 @@ impl<'a, E: Write, T: Clock, W: Synced> Witness for Watch<'a, E, T, W> {
 }
 
 impl<'a, E: Write, T: Clock, W: Synced> Watcher for Watch<'a, E, T, W> {
+    ghost wants = { λ watch. is_some watch.journal };
+
     ghost begun = { room_text };
 
     // A log has no use for it.

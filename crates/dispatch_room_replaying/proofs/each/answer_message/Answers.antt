@@ -1,11 +1,15 @@
-use Rattle.std.proofs.Common.{◌∙◌, sym, subst, Ok, ℕ, List, [], inr, append-nil}
+use Rattle.std.proofs.Common.{◌∙◌, sym, subst, refl, Ok, ℕ, List, [], append-nil, false}
 use Rattle.std.specs.Io.KnownBytes.{prepend_known}
 use Rattle.std.proofs.KnownBytes.{Keeps-refl}
+use Rattle.room_http_messages.proofs.StreamLemmas.{Appends-none}
 use Rattle.dispatch_room_journal.specs.Entries.{message}
 use Rattle.dispatch_room_journal.specs.Looks.{IsLayout}
+use Rattle.dispatch_room_replaying.specs.declared.faults.ReplayFault.TheVariants.{WriteFailed}
 use Rattle.dispatch_room_replaying.specs.Frames.{frame_of, FollowIs}
+use Rattle.dispatch_room_replaying.proofs.FaultLemmas.{due_with}
 use Rattle.dispatch_room_replaying.proofs.EntryLemmas.{taken, begins_front}
-use Rattle.dispatch_room_replaying.proofs.FrameLemmas.{each_stops, each_done}
+use Rattle.dispatch_room_replaying.proofs.StepLemmas.{refused_stops}
+use Rattle.dispatch_room_replaying.proofs.FrameLemmas.{each_stops, each_follows, each_done}
 use Rattle.dispatch_room_replaying.proofs.each.answer_message.Goals as goal
 
 pub play-requires-clause-fits : goal.play-requires-clause-fits
@@ -16,6 +20,21 @@ play-requires-clause-fits g c =
     subst (λ (t : List ℕ). IsLayout c.args.inbox.now.kept c.args.layout.now (message c.args.at t)) (sym same) x.1 in
     front.begins.0.2
 
+pub returns-in-Err-clause-turn : goal.returns-in-Err-clause-turn
+returns-in-Err-clause-turn g c =
+    let x = c.requires.front in
+    let same = c.message.ensures (message c.args.at x.0) x.1 in
+    let front : IsLayout c.args.inbox.now.kept c.args.layout.now (message c.args.at c.message.result.now) =
+    subst (λ (t : List ℕ). IsLayout c.args.inbox.now.kept c.args.layout.now (message c.args.at t)) (sym same) x.1 in
+    let gone = taken _ (g.R.Source.left c.args.reader.now) _ _ c.args.layout.now _ front (Keeps-refl _) refl in
+    let plays = c.in-Err.ensures.plays in (
+      [],
+      refused_stops false _ _ g.M.Digested.digest_of _ _ _ _ c.args.at c.message.result.now front.begins.0 _ _ _ gone c.in-Err.fault c.requires.reader c.requires.writer plays.0 plays.1,
+      [],
+      ([], refl),
+      Appends-none (g.W.Sink.held c.args.writer.now),
+    )
+
 pub returns-in-Err-put_frame-clause-turn : goal.returns-in-Err-put_frame-clause-turn
 returns-in-Err-put_frame-clause-turn g c =
     let x = c.requires.front in
@@ -23,8 +42,9 @@ returns-in-Err-put_frame-clause-turn g c =
     let front : IsLayout c.args.inbox.now.kept c.args.layout.now (message c.args.at c.message.result.now) =
     subst (λ (t : List ℕ). IsLayout c.args.inbox.now.kept c.args.layout.now (message c.args.at t)) (sym same) x.1 in
     let part = c.in-Err-put_frame.ensures.part in
-    inr (each_stops _ _ g.M.Digested.digest_of _ _ _ _ _ _ c.args.at c.message.result.now c.in-Ok.told.items c.as_slice.result.now c.in-Ok.ensures.plays c.as_slice.ensures.value front.begins.0
-    (begins_front _ _ c.args.layout.now _ front) part.0 part.1 part.2 part.3)
+    each_stops _ _ g.M.Digested.digest_of _ _ _ _ _ _ c.args.at c.message.result.now c.in-Ok.told.items c.as_slice.result.now c.in-Ok.ensures.plays c.as_slice.ensures.value
+    front.begins.0 WriteFailed _ _
+    (begins_front _ _ c.args.layout.now _ front) (c.requires.reader, part.4) part.0 part.1 part.2 part.3
 
 pub returns-in-Ok-follow-clause-turn : goal.returns-in-Ok-follow-clause-turn
 returns-in-Ok-follow-clause-turn g c =
@@ -47,5 +67,11 @@ returns-clause-turn g c =
     let front : IsLayout c.args.inbox.now.kept c.args.layout.now (message c.args.at c.message.result.now) =
     subst (λ (t : List ℕ). IsLayout c.args.inbox.now.kept c.args.layout.now (message c.args.at t)) (sym same) x.1 in
     let wrote = c.in-Ok-put_frame.ensures.all in
-    inr (each_stops _ _ g.M.Digested.digest_of _ _ _ _ _ _ c.args.at c.message.result.now c.in-Ok.told.items c.as_slice.result.now c.in-Ok.ensures.plays c.as_slice.ensures.value front.begins.0
-    (begins_front _ _ c.args.layout.now _ front) (frame_of c.as_slice.result.now) [] (sym (append-nil (frame_of c.as_slice.result.now))) wrote.0)
+    let gone = taken _ (g.R.Source.left c.args.reader.now) _ _ c.args.layout.now _ front (Keeps-refl _) c.remove.ensures.kept in
+    let again = sym (c.as_slice-in-Ok-put_frame.ensures.value ∙ sym c.as_slice.ensures.value) in
+    let stops = c.in-Err-follow.ensures in
+    each_stops _ _ g.M.Digested.digest_of _ _ _ _ _ _ c.args.at c.message.result.now c.in-Ok.told.items c.as_slice.result.now c.in-Ok.ensures.plays c.as_slice.ensures.value
+    front.begins.0 c.in-Err-follow.fault _ _
+    (each_follows _ _ g.M.Digested.digest_of _ _ _ _ _ c.args.at c.message.result.now c.as_slice.result.now c.in-Ok.ensures.plays.0 c.in-Err-follow.fault
+    (c.in-Ok.ensures.plays.3 ∙ sym c.as_slice.ensures.value) gone (λ p told. stops.0 p (told ∙ again)))
+    (due_with _ _ _ wrote.1 stops.1) (frame_of c.as_slice.result.now) [] (sym (append-nil (frame_of c.as_slice.result.now))) wrote.0

@@ -1,7 +1,7 @@
 use Rattle.std.proofs.Common.{◌≡◌, ◌∙◌, ap, subst, rules, ℕ, List, [], ◌∷◌, ◌++◌, codes, decimal, length}
 use Rattle.room_http_messages.specs.Streams.{WritesAll}
 use Rattle.dispatch_room_replaying.specs.Frames.{frame_line}
-use Rattle.dispatch_room_replaying.specs.Turns.{status_in}
+use Rattle.dispatch_room_journal.specs.Records.{status_in}
 use Rattle.dispatch_room_replaying.proofs.frames.put_line.Goals as goal
 
 pub returns : goal.returns

@@ -1,4 +1,4 @@
-use Rattle.std.proofs.Common.{◌≡◌, false, List}
+use Rattle.std.proofs.Common.{◌≡◌, false, List, length}
 use Rattle.std.specs.Io.KnownBytes.{prepend_known}
 use Rattle.dispatch_room_replaying.specs.Steps.{Passes, IsProgress}
 use Rattle.dispatch_room_replaying.specs.Turns.{Turn, IsReplayed}
@@ -8,7 +8,7 @@ abbrev pub invariant-turns : goal.invariant-turns
 invariant-turns g l = record {
   going : (us : List Turn) × Passes g.M.Room.step l.zone g.M.Digested.digest_of (g.M.Room.is_trusted l.room) (g.M.Room.stands l.initial.room) (g.M.Room.stands l.room)
       (g.R.Source.left l.initial.reader) (prepend_known l.inbox.kept (g.R.Source.left l.reader)) l.until IsReplayed us
-      × IsProgress l.progress us;
+      × IsProgress l.progress us × (length us ≡ l._turn);
   trusted : g.M.Room.is_trusted l.room → g.M.Room.is_trusted l.initial.room;
   kept : g.M.Room.is_trusted l.room → g.M.Room.is_kept l.initial.room → g.M.Room.is_kept l.room;
   reader : g.R.Source.has_failed l.reader ≡ false;

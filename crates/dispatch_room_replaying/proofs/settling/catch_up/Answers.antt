@@ -1,10 +1,10 @@
-use Rattle.std.proofs.Common.{refl}
+use Rattle.std.proofs.Common.{refl, inl, inr}
 use Rattle.dispatch_room_journal.specs.Entries.{room}
 use Rattle.dispatch_room_replaying.proofs.StepLemmas.{left_turn, caught_turn, stops_later}
 use Rattle.dispatch_room_replaying.proofs.settling.catch_up.Goals as goal
 
 pub returns-in-Ok-true-clause-turn : goal.returns-in-Ok-true-clause-turn
-returns-in-Ok-true-clause-turn g c = left_turn _ _ _ _ _ _ _ _ c.is_at.ensures.same
+returns-in-Ok-true-clause-turn g c = (left_turn _ _ _ _ _ _ _ _ c.is_at.ensures.same, λ status is. absurd (cc is))
 
 pub returns-in-Ok-clause-turn : goal.returns-in-Ok-clause-turn
 returns-in-Ok-clause-turn g c = (
@@ -16,4 +16,7 @@ returns-in-Ok-clause-turn g c = (
 
 pub returns-in-Err-play_open-clause-turn : goal.returns-in-Err-play_open-clause-turn
 returns-in-Err-play_open-clause-turn g c =
-    stops_later _ _ g.M.Digested.digest_of _ _ c.play_open.ensures.trusted _ _ _ _ _ c.is_at.ensures.same c.in-Err-play_open.ensures.turn
+    stops_later _ _ g.M.Digested.digest_of _ _ c.play_open.ensures.trusted _ _ _ _ _ _ _ c.is_at.ensures.same c.in-Err-play_open.ensures.turn
+
+pub returns-in-Err-clause-turn : goal.returns-in-Err-clause-turn
+returns-in-Err-clause-turn g c = inl (c.is_at.ensures.same, inr c.in-Err.ensures.wants)

@@ -1,4 +1,5 @@
-use Rattle.dispatch_room_replaying.proofs.StepLemmas.{played_later, comes_to, played_stops}
+use Rattle.std.proofs.Common.{inl}
+use Rattle.dispatch_room_replaying.proofs.StepLemmas.{played_later, comes_to, elsewhere_stops, wanting_stops}
 use Rattle.dispatch_room_replaying.proofs.settling.play_open.Goals as goal
 
 pub returns-in-Ok-true-clause-turn : goal.returns-in-Ok-true-clause-turn
@@ -7,10 +8,13 @@ returns-in-Ok-true-clause-turn g c =
 
 pub returns-in-Ok-false-clause-turn : goal.returns-in-Ok-false-clause-turn
 returns-in-Ok-false-clause-turn g c =
-    played_stops _ _ g.M.Digested.digest_of _ _ _ _ _ c.in-Ok.field-0.items
-    (played_later _ _ g.M.Digested.digest_of _ _ c.is_at.ensures.trusted _ _ _ _ _ c.in-Ok.field-0.items c.is_at.ensures.same c.in-Ok.ensures.plays)
+    elsewhere_stops _ _ _ _ _ c.is_at.ensures.trusted _ _ _ _ _ c.in-Ok.field-0.items _ c.in-Ok-false.field-0 c.is_at.ensures.same
+    c.in-Ok-false.ensures.says c.in-Ok-false.field-0-test c.in-Ok.ensures.plays
 
 pub returns-in-Ok-clause-turn : goal.returns-in-Ok-clause-turn
 returns-in-Ok-clause-turn g c =
-    played_stops _ _ g.M.Digested.digest_of _ _ _ _ _ c.in-Ok.field-0.items
-    (played_later _ _ g.M.Digested.digest_of _ _ c.is_at.ensures.trusted _ _ _ _ _ c.in-Ok.field-0.items c.is_at.ensures.same c.in-Ok.ensures.plays)
+    wanting_stops _ _ g.M.Digested.digest_of _ _ _ _ _ c.in-Ok.field-0.items _ _
+    (played_later _ _ g.M.Digested.digest_of _ _ c.is_at.ensures.trusted _ _ _ _ _ c.in-Ok.field-0.items c.is_at.ensures.same c.in-Ok.ensures.plays) c.in-Err-is_at.ensures.wants
+
+pub returns-clause-turn : goal.returns-clause-turn
+returns-clause-turn g c = inl c.in-Err.ensures.plays

@@ -3,7 +3,7 @@ use Rattle.dispatch_room_serving.proofs.ConnectionLaws.{attended_more, attended_
 use Rattle.dispatch_room_serving.proofs.connections.serve_each.Goals as goal
 
 pub loop-connection-init : goal.loop-connection-init
-loop-connection-init g c = record { ready = c.requires.ready; calls = []; count = refl; go_on = go_on_none; attended = attended_none g.S.Store c.args.zone.now _ }
+loop-connection-init g c = record { ready = c.requires.ready; calls = []; count = refl; go_on = go_on_none; attended = attended_none g.S.Store c.args.zone.now _ _ _ }
 
 pub returns-in-Err-clause-served : goal.returns-in-Err-clause-served
 returns-in-Err-clause-served g c =
@@ -12,7 +12,7 @@ returns-in-Err-clause-served g c =
     let within : length before.calls < c.args.connections = omega (arith, before.count, c.loop-connection-test.true) in
     record {
       calls = before.calls ++ next.call ∷ [];
-      attended = attended_more g.S.Store c.args.zone.now before.calls (next.call ∷ []) _ _ _ before.attended next.attended;
+      attended = attended_more g.S.Store c.args.zone.now _ _ before.calls (next.call ∷ []) _ _ _ before.attended next.attended;
       ends = ends_after before.calls next.call c.args.connections c.in-Err.fault before.go_on within (sym c.in-Err.is ∙ next.ends);
     }
 
@@ -25,5 +25,5 @@ loop-connection-preserved g c =
       calls = before.calls ++ next.call ∷ [];
       count = rw length-append (ap (λ n. n + 1) before.count);
       go_on = go_on_more before.calls next.call before.go_on (sym c.in_default.is ∙ next.ends);
-      attended = attended_more g.S.Store c.args.zone.now before.calls (next.call ∷ []) _ _ _ before.attended next.attended;
+      attended = attended_more g.S.Store c.args.zone.now _ _ before.calls (next.call ∷ []) _ _ _ before.attended next.attended;
     }

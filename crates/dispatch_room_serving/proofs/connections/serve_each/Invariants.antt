@@ -9,7 +9,7 @@ invariant-loop-connection g l = record {
   calls : List (Option (Conversation g.row.S.Denot));
   count : length calls ≡ l._connection;
   go_on : GoOn calls;
-  attended : AreAttended g.S.Store l.zone calls
-      (record { heard = g.P.Callers.heard l.initial.callers; told = g.P.Callers.told l.initial.callers; given = g.C.Clock.given l.initial.clock; store = l.initial.room })
-      (record { heard = g.P.Callers.heard l.callers; told = g.P.Callers.told l.callers; given = g.C.Clock.given l.clock; store = l.room });
+  attended : AreAttended g.S.Store l.zone g.N.Witness.came g.N.Witness.told calls
+      (record { heard = g.P.Callers.heard l.initial.callers; told = g.P.Callers.told l.initial.callers; stage = record { given = g.C.Clock.given l.initial.clock; kept = g.N.Witness.held l.initial.witness; store = l.initial.room } })
+      (record { heard = g.P.Callers.heard l.callers; told = g.P.Callers.told l.callers; stage = record { given = g.C.Clock.given l.clock; kept = g.N.Witness.held l.witness; store = l.room } });
 }

@@ -6,7 +6,7 @@ use Rattle.dispatch_room_serving.proofs.connections.serve_next.Goals as goal
 pub returns-in_default-clause-attended : goal.returns-in_default-clause-attended
 returns-in_default-clause-attended g c = record {
   call = None;
-  attended = attended_nothing g.S.Store c.args.zone.now _ _ _ c.in_default.ensures.heard c.in_default.ensures.told;
+  attended = attended_nothing g.S.Store c.args.zone.now _ _ _ _ c.in_default.ensures.heard c.in_default.ensures.told refl;
   ends = refl;
 }
 
@@ -32,11 +32,19 @@ returns-clause-attended g c =
       end = c.serve-end.result;
       from = c.args.room.now;
       store = c.serve-end.new.room;
+      kept = g.N.Witness.held c.args.witness.now;
+      keeps = g.N.Witness.held c.serve-end.new.witness;
     } in
     record {
       call = Some talk;
-      attended = attended_one g.S.Store c.args.zone.now talk _ _ _ (rw c.done.ensures.heard c.in-Some.ensures.heard) (rw c.in-Some.ensures.told at c.done.ensures.told)
-          (record { same = refl; moments = refl; reads = c.serve-end.ensures.reads; talk = c.serve-end.ensures.talk; none_missed = c.serve-end.ensures.none_missed })
+      attended = attended_one g.S.Store c.args.zone.now _ _ talk _ _ (rw c.done.ensures.heard c.in-Some.ensures.heard) (rw c.in-Some.ensures.told at c.done.ensures.told) refl
+          (record {
+            begins = refl;
+            reads = c.serve-end.ensures.reads;
+            talk = c.serve-end.ensures.talk;
+            none_missed = c.serve-end.ensures.none_missed;
+            witnessed = c.serve-end.ensures.witnessed;
+          })
           c.serve-end.ensures.trusted (c.serve-end.ensures.promised refl);
       ends = rw c.is_sound.ensures.value at c.goes_on.ensures;
     }

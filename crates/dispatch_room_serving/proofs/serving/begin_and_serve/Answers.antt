@@ -1,13 +1,19 @@
-use Rattle.std.proofs.Common.{◌≡◌, ap, inl, inr, refl, subst, Result, Ok, Err}
+use Rattle.std.proofs.Common.{◌≡◌, append-nil, inl, inr, refl, sym, ℕ, List, [], Bool, Option, Result, Ok, Err}
 use Rattle.dispatch_room_endings.specs.declared.endings.Failure.{Failure}
 use Rattle.room_store.specs.declared.store.Store.{Store}
 use Rattle.sqlite_trees.specs.declared.store.Store.{Ghosts}
-use Rattle.dispatch_room_serving.specs.Rooms.{Announces, LooksOnly}
+use Rattle.dispatch_room_serving.specs.Rooms.{Announces, KeepsHead, LooksOnly}
 use Rattle.dispatch_room_serving.proofs.serving.begin_and_serve.Goals as goal
 
-announced : {S : Type 0} (g : Ghosts S) (old new : Store S) (result : Result (Unit {0}) Failure) → ((fault : Failure) → result ≡ Err fault → ⊥) → Announces g old new result → LooksOnly g old new
-announced g old new (Ok told) well is = is
-announced g old new (Err fault) well is = absurd (well fault refl)
+module _ {S : Type 0} (g : Ghosts S) (wants : Bool) (begun : List ℕ → List ℕ) (old new : Store S) (kept keeps : Option (List ℕ)) where
+  announced : (result : Result (Unit {0}) Failure) → ((fault : Failure) → result ≡ Err fault → ⊥) → Announces g wants begun old new kept keeps result
+      → LooksOnly g old new × KeepsHead g wants begun old new kept keeps (Ok tt)
+  announced (Ok told) well is = is
+  announced (Err fault) well is = absurd (well fault refl)
+
+  -- what was announced is there where the callers don't begin
+  unheard : (fault : Failure) → KeepsHead g wants begun old new kept keeps (Ok tt) → KeepsHead g wants begun old new kept keeps (Err fault)
+  unheard fault head = inr (head.0, head.0, head.1, ([], sym (append-nil head.0)), head.2)
 
 pub returns-in-Err-clause-attends : goal.returns-in-Err-clause-attends
 returns-in-Err-clause-attends g c = inl (record {
@@ -16,11 +22,16 @@ returns-in-Err-clause-attends g c = inl (record {
   told = refl;
   unheard = (refl, refl, refl);
   looks = c.in-Err.ensures.announces.1;
+  head = c.in-Err.ensures.announces.2;
 })
 
 pub returns-in-Ok-clause-attends : goal.returns-in-Ok-clause-attends
-returns-in-Ok-clause-attends g c = inr (record {
-  store = c.announce.new.room;
-  looks = announced g.S.Store c.args.room.now c.announce.new.room c.announce.result c.in_default.not-Err c.announce.ensures.announces;
-  serves = rw (c.begin.ensures.heard, c.begin.ensures.told) at c.serve_each.ensures.served;
-})
+returns-in-Ok-clause-attends g c =
+    let told = announced g.S.Store _ _ c.args.room.now c.announce.new.room _ _ c.announce.result c.in_default.not-Err c.announce.ensures.announces in
+    inr (record {
+      store = c.announce.new.room;
+      kept = g.N.Witness.held c.announce.new.watcher;
+      looks = told.0;
+      head = told.1;
+      serves = rw (c.begin.ensures.heard, c.begin.ensures.told) at c.serve_each.ensures.served;
+    })

@@ -1,0 +1,68 @@
+-- Why a replay stops: what follows the turns that were done with, and what has failed.
+use Rattle.std.specs.Prelude.{◌≡◌, ◌⊎◌, ⊤, ℕ, ◌<◌, List, [], ◌∷◌, length, decimal, Bool, true, false}
+use Rattle.room_types.specs.declared.refusals.Refusal.{Refusal}
+use Rattle.room_http_messages.specs.Messages.{WholeMessage, HasMessage}
+use Rattle.room_service.specs.Rooms.{IsWant}
+use Rattle.dispatch_room_journal.specs.declared.reading.Fault.{Fault}
+use Rattle.dispatch_room_journal.specs.declared.reading.Fault.TheVariants.{Cut, Foreign, Read}
+use Rattle.dispatch_room_journal.specs.Entries.{room, message, answer, Begins, IsPart, IsForeign}
+use Rattle.dispatch_room_replaying.specs.declared.faults.ReplayFault.{ReplayFault}
+use Rattle.dispatch_room_replaying.specs.declared.faults.ReplayFault.TheVariants.{Bad, Differs, Another, ReadFailed, WriteFailed, Want}
+use Rattle.dispatch_room_journal.specs.Records.{status_in}
+use Rattle.dispatch_room_replaying.specs.Turns.{Play, Turn, tried}
+
+-- the fault of a read of the journal
+abbrev pub read_fault : Fault → ReplayFault
+read_fault Cut = Bad
+read_fault Foreign = Bad
+read_fault Read = ReadFailed
+
+-- the text is cut within an entry, or begins with none
+abbrev pub IsBroken : List ℕ → Type 0
+IsBroken text = ((0 < length text) × IsPart text) ⊎ IsForeign text
+
+-- the bytes are not one whole message
+abbrev pub IsNoMessage : List ℕ → Type 0
+IsNoMessage sent = (m : WholeMessage) → ¬ (HasMessage sent m [])
+
+-- memory or storage is wanting
+abbrev pub IsWanting : ReplayFault → Type 0
+IsWanting fault = (r : Refusal) × (fault ≡ Want r) × IsWant r
+
+-- Why what stands after the turns is bad. It is no journal; or it is a status that no message stands
+-- before; or a message that no head stands before, where nothing came before it (`none`); or a
+-- message that is none. Or no more turns are taken (`full`). Where a message waits for what stands
+-- after it (`waits`), it is not played where that is no journal.
+pub data IsBad (waits : Bool) (none full : Type 0) (last : List Turn) (rest : List ℕ) : Type 0 where
+  broken : (waits ≡ true → last ≡ []) → IsBroken rest → IsBad waits none full last rest
+  broken_after : (at : ℕ) (sent more : List ℕ) → waits ≡ true → last ≡ [] → Begins rest (message at sent) more → IsBroken more → IsBad waits none full last rest
+  unasked : (status : ℕ) (more : List ℕ) → last ≡ [] → Begins rest (answer status) more → IsBad waits none full last rest
+  headless : (at : ℕ) (sent more : List ℕ) → last ≡ [] → Begins rest (message at sent) more → none → IsBad waits none full last rest
+  no_message : (at : ℕ) (sent more : List ℕ) → last ≡ [] → Begins rest (message at sent) more → IsNoMessage sent → IsBad waits none full last rest
+  too_many : full → IsBad waits none full last rest
+
+-- What stands after the turns, by the fault that is told: a status that is not that of the message
+-- that was played last, or a head of another room than the turns lead to (`Elsewhere`).
+module _ (waits : Bool) (none full : Type 0) (Elsewhere : List ℕ → Type 0) (last : List Turn) where
+  abbrev pub Explains : ReplayFault → List ℕ → Type 0
+  Explains Bad rest = IsBad waits none full last rest
+  Explains Differs rest =
+      (p : Play) × (status : ℕ) × (more : List ℕ) × (last ≡ tried p ∷ []) × Begins rest (answer status) more × (¬ (status_in p.told ≡ decimal status))
+  Explains Another rest = (digest : List ℕ) × (more : List ℕ) × Begins rest (room digest) more × Elsewhere digest
+  Explains ReadFailed rest = ⊤
+  Explains WriteFailed rest = ⊤
+  Explains (Want r) rest = ⊤
+
+-- What has failed, by the fault that is told: just what it says.
+module _ (read_failed write_failed : Bool) where
+  abbrev pub IsDueTo : ReplayFault → Type 0
+  IsDueTo Bad = (read_failed ≡ false) × (write_failed ≡ false)
+  IsDueTo Differs = (read_failed ≡ false) × (write_failed ≡ false)
+  IsDueTo Another = (read_failed ≡ false) × (write_failed ≡ false)
+  IsDueTo ReadFailed = (read_failed ≡ true) × (write_failed ≡ false)
+  IsDueTo WriteFailed = (read_failed ≡ false) × (write_failed ≡ true)
+  IsDueTo (Want r) = (read_failed ≡ false) × (write_failed ≡ false) × IsWant r
+
+-- why a message is not played: its bytes are none, or memory or storage is wanting
+abbrev pub Refuses : List ℕ → ReplayFault → Type 0
+Refuses sent fault = ((fault ≡ Bad) × IsNoMessage sent) ⊎ IsWanting fault
