@@ -1,6 +1,6 @@
 //! Where the whole entries of a journal end.
-ghost use Rattle.std.specs.Prelude.{◌≡◌, ℕ, List, [], false, Option, Some, IfOk};
-ghost use Rattle.dispatch_room_journal.specs.Ends.{EndsWhole};
+ghost use Rattle.std.specs.Prelude.{◌≡◌, ℕ, List, [], false, Option, Some, MatchResult};
+ghost use Rattle.dispatch_room_journal.specs.Ends.{EndsWhole, FailsIn};
 
 use crate::inbox::JournalInbox;
 use crate::reading::{Fault, read_entry};
@@ -13,14 +13,16 @@ pub fn whole_bytes<R: Source>(inbox: &mut JournalInbox, reader: &mut R) -> Resul
     requires sound { R.has_failed reader.old ≡ false }
     requires kept { inbox.old.kept ≡ [] }
     requires taken { inbox.old.taken ≡ 0 }
-    ensures { (text : List ℕ) → R.left reader.old ≡ Some text → IfOk result (EndsWhole text) }
+    ensures { (text : List ℕ) → R.left reader.old ≡ Some text
+        → MatchResult result (EndsWhole text) (FailsIn (R.has_failed reader.new) text) }
 {
     'entries: for _entry in 0..u64::MAX {
         match read_entry(inbox, reader) {
             Ok(Some(layout)) => inbox.remove(&layout),
             Ok(None) => return Ok(inbox.taken()),
             Err(Fault::Cut) => return Ok(inbox.taken()),
-            Err(fault) => return Err(fault),
+            Err(Fault::Foreign) => return Err(Fault::Foreign),
+            Err(Fault::Read) => return Err(Fault::Read),
         }
     }
     Err(Fault::Read)

@@ -1,5 +1,5 @@
 //! Who watches over what is served: a log, and perhaps a journal.
-ghost use Rattle.std.specs.Prelude.{is_some};
+ghost use Rattle.std.specs.Prelude.{◌≡◌, is_some};
 ghost use Rattle.dispatch_room_journal.specs.Records.{answer_text, message_text, room_text};
 ghost use Rattle.dispatch_room_serving.specs.Journals.{held_by};
 
@@ -22,7 +22,9 @@ pub struct Watch<'a, E, T, W> {
 
 impl<'a, E: Write, T: Clock, W: Synced> Watch<'a, E, T, W> {
     /// A log, and a journal or none.
-    pub fn new(log: Log<'a, E, T>, journal: Option<Journal<W>>) -> Watch<'a, E, T, W> {
+    pub fn new(log: Log<'a, E, T>, journal: Option<Journal<W>>) -> Watch<'a, E, T, W>
+        ensures { result.journal ≡ journal }
+    {
         Watch { log, journal }
     }
 }

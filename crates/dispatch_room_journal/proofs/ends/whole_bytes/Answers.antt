@@ -1,11 +1,11 @@
-use Rattle.std.proofs.Common.{◌≡◌, ◌∙◌, ap, ◌+◌, ◌++◌, ◌∷◌, [], min, inl, inr, rules}
+use Rattle.std.proofs.Common.{◌≡◌, ◌∙◌, ap, arith, refl, ◌+◌, ◌++◌, ◌∷◌, [], length-append, min, inl, inr, rules}
 use Rattle.dispatch_room_journal.specs.Ends.{EndsWhole, most_bytes}
 use Rattle.dispatch_room_journal.proofs.EndLemmas.{nothing_taken, taken_kept, taken_more}
 use Rattle.dispatch_room_journal.proofs.ends.whole_bytes.Goals as goal
 
 pub entries-init : goal.entries-init
 entries-init g c = record {
-  taken = ([], rw (c.requires.kept, c.requires.taken) (nothing_taken _));
+  taken = ([], rw (c.requires.kept, c.requires.taken) (nothing_taken _), refl);
   sound = c.requires.sound;
 }
 
@@ -20,6 +20,7 @@ entries-preserved g c =
       taken = (
         taken.0 ++ found.0 ∷ [],
         rw c.remove.ensures.kept (taken_more _ _ _ _ _ taken.0 _ found.0 kept found.1 (c.remove.ensures.taken ∙ ap (λ n. min (n + c.in-Ok-Some.layout.end) most_bytes) c.in-Ok-Some.ensures.taken)),
+        omega (arith, length-append taken.0 (found.0 ∷ []), taken.2),
       );
       sound = says.1;
     }
@@ -51,3 +52,20 @@ returns-in-Err-Cut g c = λ text known.
       count = c.taken-in-Err-Cut.ensures ∙ c.in-Err-Cut.ensures.taken ∙ taken.1.count;
       end = inr first.1;
     }
+
+-- why no number is told
+pub returns-in-Err-Foreign : goal.returns-in-Err-Foreign
+returns-in-Err-Foreign g c = λ text known.
+    let taken = c.entries.invariant.taken in
+    let follows = taken.1.follows text known in
+    let first = (rw c.in-Err-Foreign.field-0-is at (c.in-Err-Foreign.ensures.read.first follows.0 follows.1)) in
+    (taken.0, follows.0, (taken.1.are_entries, follows.2), first)
+
+pub returns-in-Err-Read : goal.returns-in-Err-Read
+returns-in-Err-Read g c = λ text known. inl (rw c.in-Err-Read.field-0-is at c.in-Err-Read.ensures.read.says)
+
+pub returns : goal.returns
+returns g c = λ text known.
+    let taken = c.entries.invariant.taken in
+    let follows = taken.1.follows text known in
+    inr (taken.0, follows.0, (taken.1.are_entries, follows.2), omega (arith, taken.2))
