@@ -4,8 +4,8 @@ ghost use Rattle.dispatch_room_work.specs.Checked.{IsTold};
 
 use crate::files::{RoomFile, Work, in_file};
 use dispatch_room_endings::endings::{Done, Failure};
+use dispatch_room_endings::rooms::Worked;
 use dispatch_room_work::checking::check_in;
-use dispatch_room_work::rooms::Worked;
 use sqlite::{Alter, Connection};
 use std::alloc::Global;
 use std::io::Write;

@@ -4,7 +4,7 @@ ghost use Rattle.dispatch_room_endings.specs.declared.endings.Failure.TheVariant
 ghost use Rattle.dispatch_room_commands.specs.Ends.{IsFileFault, fault_of};
 
 use dispatch_room_endings::endings::Failure;
-use dispatch_room_work::rooms::Worked;
+use dispatch_room_endings::rooms::Worked;
 use sqlite::{Alter, Connection, Error, ErrorCode, File, FileStore};
 use std::alloc::Global;
 use std::fs::{self, OpenOptions};

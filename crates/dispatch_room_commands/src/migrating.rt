@@ -5,8 +5,8 @@ ghost use Rattle.dispatch_room_endings.specs.declared.endings.Done.TheVariants.{
 
 use crate::files::{RoomFile, Work, in_file};
 use dispatch_room_endings::endings::{Done, Failure};
+use dispatch_room_endings::rooms::Worked;
 use dispatch_room_work::migrating::migrate_in;
-use dispatch_room_work::rooms::Worked;
 use sqlite::{Alter, Connection};
 use std::alloc::Global;
 use std::io::Write;

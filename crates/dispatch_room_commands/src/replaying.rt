@@ -4,12 +4,12 @@ ghost use Rattle.dispatch_room_commands.specs.Ends.{failure_of};
 
 use crate::files::{RoomFile, Work, in_file};
 use dispatch_room_endings::endings::{Done, Failure, refused};
+use dispatch_room_endings::rooms::{Worked, open_room};
 use dispatch_room_replaying::digests::Digested;
 use dispatch_room_replaying::each::answer_each;
 use dispatch_room_replaying::faults::{ReplayFault, Stopped};
 use dispatch_room_replaying::replaying::{self, Replayed};
 use dispatch_room_words::tasks::Replay;
-use dispatch_room_work::rooms::{Worked, open_room};
 use room_http_messages::sources::Source;
 use room_http_messages::wires::Wire;
 use room_http_time::zones::Zone;

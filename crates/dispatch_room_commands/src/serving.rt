@@ -5,6 +5,7 @@ ghost use Rattle.dispatch_room_endings.specs.declared.endings.Failure.TheVariant
 use crate::files::{RoomFile, Work, in_file};
 use crate::journals::{JournalFile, open_journal};
 use dispatch_room_endings::endings::{Done, Failure};
+use dispatch_room_endings::rooms::Worked;
 use dispatch_room_serving::callers::Callers;
 use dispatch_room_serving::journals::Journal;
 use dispatch_room_serving::logs::Log;
@@ -16,7 +17,6 @@ use dispatch_room_sockets::sides::sides;
 use dispatch_room_sockets::waits::Waits;
 use dispatch_room_sockets::writers::SocketWriter;
 use dispatch_room_words::tasks::Service;
-use dispatch_room_work::rooms::Worked;
 use room_http_time::clocks::MachineClock;
 use sqlite::{Alter, Connection};
 use std::alloc::Global;

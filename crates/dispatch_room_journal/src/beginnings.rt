@@ -1,8 +1,10 @@
 //! Whether bytes without a line end are the first part of a line.
 ghost use Rattle.std.specs.Prelude.{◌↔◌, codes, IsTrue};
-ghost use Rattle.dispatch_room_journal.specs.declared.lines.TheConstants.{LEAST_STATUS, GREATEST_STATUS};
+ghost use Rattle.dispatch_room_journal.specs.declared.lines.TheConstants.{LEAST_STATUS};
+ghost use Rattle.dispatch_room_journal.specs.declared.lines.TheConstants.{GREATEST_STATUS};
 ghost use Rattle.dispatch_room_journal.specs.Entries.{IsDigest};
-ghost use Rattle.dispatch_room_journal.specs.Parts.{After, AreNumbers, BeginsOne, IsLineText, IsNumber};
+ghost use Rattle.dispatch_room_journal.specs.Parts.{After, AreNumbers, BeginsOne, IsLineText};
+ghost use Rattle.dispatch_room_journal.specs.Parts.{IsNumber};
 
 use crate::digests::are_digest_digits;
 use crate::lines::{DIGEST_DIGITS, GREATEST_STATUS, LAST_MOMENT, LONGEST, cut};

@@ -10,8 +10,8 @@
 //! answer 200                   its answer's status
 //! ```
 //!
-//! `put_room`, `put_message` and `put_answer` write entries, and `read_entry` reads them again in the
-//! memory of one message.
+//! `put_room`, `put_message` and `put_answer` write entries, and `read_entry` reads them again in
+//! the memory of one message.
 #![tactic(auto)]
 
 pub mod beginnings;

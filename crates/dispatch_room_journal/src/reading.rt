@@ -29,8 +29,8 @@ fn end_of(bytes: &[u8]) -> Result<Option<Layout>, Fault>
 }
 
 /// Reads until the entry at the front of the journal is whole, and says where it is in the inbox;
-/// none at the end of the journal. It stays at the front of the inbox, where `JournalInbox::message`
-/// shows a message's bytes, until `JournalInbox::remove` lets it go.
+/// none at the end of the journal. It stays at the front of the inbox, where
+/// `JournalInbox::message` shows a message's bytes, until `JournalInbox::remove` lets it go.
 ///
 /// The bytes are looked at after each read, so what is no journal is refused at its first bytes.
 pub fn read_entry<R: Source>(

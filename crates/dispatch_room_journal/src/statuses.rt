@@ -7,8 +7,8 @@ ghost use Rattle.dispatch_room_journal.specs.Records.{status_in};
 use crate::lines::{GREATEST_STATUS, LEAST_STATUS};
 use crate::numbers::number;
 
-/// The three digits that follow the version in an answer's first line (RFC 9112, section 4), or what
-/// there is of them.
+/// The three digits that follow the version in an answer's first line (RFC 9112, section 4), or
+/// what there is of them.
 pub fn status_in(bytes: &[u8]) -> &[u8]
     ensures value { result.now ≡ status_in bytes.now }
     ensures short { length result.now ≤ 3 }

@@ -1,5 +1,6 @@
 -- A journal has one replay to each room, which keeps the room's promises.
-use Rattle.std.proofs.Common.{◌≡◌, ◌∙◌, sym, ap, subst, refl, ℕ, List, [], ◌∷◌, drop}
+use Rattle.std.proofs.Common.{◌≡◌, ◌∙◌, sym, ap, subst, refl, ℕ, List, [], ◌∷◌, drop, Bool, true, false}
+use Rattle.std.proofs.lemmas.Bool.{false≢true}
 use Rattle.std.specs.Prelude.{All}
 use Rattle.std.proofs.lemmas.List.Elements.{All-head, All-tail}
 use Rattle.room_types.specs.declared.fleet.Terminal.{Terminal}
@@ -16,9 +17,29 @@ use Rattle.room_http.proofs.RunLemmas.{talk_run}
 use Rattle.room_http.proofs.PromiseLaws.{promises_kept}
 use Rattle.dispatch_room_journal.specs.Entries.{Entry, room, answer}
 use Rattle.dispatch_room_replaying.specs.Turns.{Play, Turn, head, answered, caught_up, tried, left_out, timed, entries_of, arrivals_of, bytes_of, IsPlay, IsTurn, IsReplayed, IsPlayed}
-use Rattle.dispatch_room_replaying.specs.Replays.{DigestOf, Answers, IsReplay}
+use Rattle.dispatch_room_replaying.specs.Replays.{DigestOf, Answers, Does, IsReplay}
 use Rattle.dispatch_room_replaying.specs.Laws.{IsOneReplay, IsOneAnswering, IsKept}
 use Rattle.dispatch_room_replaying.proofs.TurnLemmas.{talk_of}
+
+-- its message is played without a look at what follows it
+abbrev is_tried : Turn → Bool
+is_tried (head digest) = false
+is_tried (answered p s) = false
+is_tried (caught_up p digest) = false
+is_tried (tried p) = true
+is_tried (left_out at sent) = false
+
+-- what follows its message decides what is done with it, and is no status
+abbrev waits : Turn → Bool
+waits (head digest) = false
+waits (answered p s) = false
+waits (caught_up p digest) = true
+waits (tried p) = false
+waits (left_out at sent) = true
+
+-- they are not of two ways to replay
+abbrev AreAlike : Turn → Turn → Type 0
+AreAlike t u = (¬ ((is_tried t ≡ true) × (waits u ≡ true))) × (¬ ((waits t ≡ true) × (is_tried u ≡ true)))
 
 module _ (step : Step) (zone : Zone) (digest_of : DigestOf) (terminals : List Terminal) where
   -- equal bytes at equal moments, in equal rooms, are answered equally
@@ -51,127 +72,100 @@ module _ (step : Step) (zone : Zone) (digest_of : DigestOf) (terminals : List Te
   first_head held after (tried p ∷ ts) digest more is x = absurd (cc)
   first_head held after (left_out at sent ∷ ts) digest more is x = absurd (cc)
 
-  abbrev Same : List Turn → List Turn → Room → Room → Type 0
-  Same ts us after other = (ts ≡ us) × (after ≡ other)
+  -- no turn is without an entry
+  some_entry : (t : Turn) (ts : List Turn) → [] ≡ entries_of (t ∷ ts) → ⊥
+  some_entry (head digest) ts is = cc
+  some_entry (answered p s) ts is = cc
+  some_entry (caught_up p digest) ts is = cc
+  some_entry (tried p) ts is = cc
+  some_entry (left_out at sent) ts is = cc
 
-  joined : (t u : Turn) (ts us : List Turn) (after other : Room) → t ≡ u → Same ts us after other → Same (t ∷ ts) (u ∷ us) after other
-  joined t u ts us after other first rest = (λ i. first i ∷ rest.0 i, rest.1)
+  -- what equal entries decide of turns in equal rooms: the turns, the rooms after them, and the entries that are left
+  abbrev Decides : Turn → Turn → List Turn → List Turn → Room → Room → Type 0
+  Decides t u ts us next then = (t ≡ u) × (next ≡ then) × (entries_of ts ≡ entries_of us)
 
-  module _ (after other : Room) where
-    one_replay_of : (held then : Room) (ts us : List Turn) → held ≡ then → All IsTurn ts → All IsTurn us → All IsReplayed ts → All IsReplayed us → entries_of ts ≡ entries_of us
-        → IsReplay step zone digest_of terminals held ts after → IsReplay step zone digest_of terminals then us other → Same ts us after other
-    one_replay_of held then [] [] start a b c d is x y = (refl, x ∙ start ∙ sym y)
-    one_replay_of held then [] (head digest ∷ us) start a b c d is x y = absurd (cc)
-    one_replay_of held then [] (answered p s ∷ us) start a b c d is x y = absurd (cc)
-    one_replay_of held then [] (caught_up p digest ∷ us) start a b c d is x y = absurd (cc)
-    one_replay_of held then [] (tried p ∷ us) start a b c d is x y = absurd (cc)
-    one_replay_of held then [] (left_out at sent ∷ us) start a b c d is x y = absurd (cc)
-    one_replay_of held then (head g ∷ ts) [] start a b c d is x y = absurd (cc)
-    one_replay_of held then (head g ∷ ts) (head h ∷ us) start a b c d is x y =
-        let same : g ≡ h = cc in
-        joined (head g) (head h) ts us after other (ap head same)
-        (one_replay_of x.0 y.0 ts us (x.1.0 ∙ start ∙ sym y.1.0) (All-tail IsTurn (head g) ts a) (All-tail IsTurn (head h) us b) (All-tail IsReplayed (head g) ts c) (All-tail IsReplayed (head h) us d) (ap (drop 1) is) x.2 y.2)
-    one_replay_of held then (head g ∷ ts) (answered q r ∷ us) start a b c d is x y = absurd (cc)
-    one_replay_of held then (head g ∷ ts) (caught_up q h ∷ us) start a b c d is x y = absurd (cc)
-    one_replay_of held then (head g ∷ ts) (tried q ∷ us) start a b c d is x y = absurd (All-head IsReplayed (tried q) us d)
-    one_replay_of held then (head g ∷ ts) (left_out n k ∷ us) start a b c d is x y = absurd (cc)
-    one_replay_of held then (answered p s ∷ ts) [] start a b c d is x y = absurd (cc)
-    one_replay_of held then (answered p s ∷ ts) (head h ∷ us) start a b c d is x y = absurd (cc)
-    one_replay_of held then (answered p s ∷ ts) (answered q r ∷ us) start a b c d is x y =
+  module _ (held next then after other : Room) (ts us : List Turn) (x : IsReplay step zone digest_of terminals next ts after) (y : IsReplay step zone digest_of terminals then us other) where
+    one_turn : (t u : Turn) → IsTurn t → IsTurn u → AreAlike t u → entries_of (t ∷ ts) ≡ entries_of (u ∷ us) → Does step zone digest_of terminals held t next
+        → Does step zone digest_of terminals held u then → Decides t u ts us next then
+    one_turn (head g) (head h) a b alike is d e = let same : g ≡ h = cc in (ap head same, d.0 ∙ sym e.0, ap (drop 1) is)
+    one_turn (head g) (answered q r) a b alike is d e = absurd (cc)
+    one_turn (head g) (caught_up q h) a b alike is d e = absurd (cc)
+    one_turn (head g) (tried q) a b alike is d e = absurd (cc)
+    one_turn (head g) (left_out n k) a b alike is d e = absurd (cc)
+    one_turn (answered p s) (head h) a b alike is d e = absurd (cc)
+    one_turn (answered p s) (answered q r) a b alike is d e =
         let status : s ≡ r = cc in
-        let played = same_play held x.0 y.0 p q (All-head IsTurn (answered p s) ts a).0 (All-head IsTurn (answered q r) us b).0 (cc) (cc) x.1
-        (subst (λ (o : Room). Answers step zone digest_of terminals o q y.0) (sym start) y.1) in
-        joined (answered p s) (answered q r) ts us after other (λ i. answered (played.0 i) (status i))
-        (one_replay_of x.0 y.0 ts us played.1 (All-tail IsTurn (answered p s) ts a) (All-tail IsTurn (answered q r) us b) (All-tail IsReplayed (answered p s) ts c) (All-tail IsReplayed (answered q r) us d) (ap (drop 2) is) x.2 y.2)
-    one_replay_of held then (answered p s ∷ ts) (caught_up q h ∷ us) start a b c d is x y = absurd (cc)
-    one_replay_of held then (answered p s ∷ ts) (tried q ∷ us) start a b c d is x y = absurd (All-head IsReplayed (tried q) us d)
-    one_replay_of held then (answered p s ∷ ts) (left_out n k ∷ us) start a b c d is x y = absurd (no_status_first us s (entries_of ts) (sym (ap (drop 1) is)))
-    one_replay_of held then (caught_up p g ∷ ts) [] start a b c d is x y = absurd (cc)
-    one_replay_of held then (caught_up p g ∷ ts) (head h ∷ us) start a b c d is x y = absurd (cc)
-    one_replay_of held then (caught_up p g ∷ ts) (answered q r ∷ us) start a b c d is x y = absurd (cc)
-    one_replay_of held then (caught_up p g ∷ ts) (caught_up q h ∷ us) start a b c d is x y =
+        let played = same_play held next then p q a.0 b.0 (cc) (cc) d e in
+        (λ i. answered (played.0 i) (status i), played.1, ap (drop 2) is)
+    one_turn (answered p s) (caught_up q h) a b alike is d e = absurd (cc)
+    one_turn (answered p s) (tried q) a b alike is d e = absurd (no_status_first us s (entries_of ts) (sym (ap (drop 1) is)))
+    one_turn (answered p s) (left_out n k) a b alike is d e = absurd (no_status_first us s (entries_of ts) (sym (ap (drop 1) is)))
+    one_turn (caught_up p g) (head h) a b alike is d e = absurd (cc)
+    one_turn (caught_up p g) (answered q r) a b alike is d e = absurd (cc)
+    one_turn (caught_up p g) (caught_up q h) a b alike is d e =
         let digest : g ≡ h = cc in
-        let played = same_play held x.0 y.0 p q (All-head IsTurn (caught_up p g) ts a) (All-head IsTurn (caught_up q h) us b) (cc) (cc) x.1.1
-        (subst (λ (o : Room). Answers step zone digest_of terminals o q y.0) (sym start) y.1.1) in
-        joined (caught_up p g) (caught_up q h) ts us after other (λ i. caught_up (played.0 i) (digest i))
-        (one_replay_of x.0 y.0 ts us played.1 (All-tail IsTurn (caught_up p g) ts a) (All-tail IsTurn (caught_up q h) us b) (All-tail IsReplayed (caught_up p g) ts c) (All-tail IsReplayed (caught_up q h) us d) (ap (drop 2) is) x.2 y.2)
-    one_replay_of held then (caught_up p g ∷ ts) (tried q ∷ us) start a b c d is x y = absurd (All-head IsReplayed (tried q) us d)
-    one_replay_of held then (caught_up p g ∷ ts) (left_out n k ∷ us) start a b c d is x y =
-        absurd (x.1.0 (ap (λ o. digest_of terminals o) (start ∙ sym y.1) ∙ first_head y.0 other us g (entries_of ts) (sym (ap (drop 1) is)) y.2))
-    one_replay_of held then (tried p ∷ ts) [] start a b c d is x y = absurd (cc)
-    one_replay_of held then (tried p ∷ ts) (head h ∷ us) start a b c d is x y = absurd (All-head IsReplayed (tried p) ts c)
-    one_replay_of held then (tried p ∷ ts) (answered q r ∷ us) start a b c d is x y = absurd (All-head IsReplayed (tried p) ts c)
-    one_replay_of held then (tried p ∷ ts) (caught_up q h ∷ us) start a b c d is x y = absurd (All-head IsReplayed (tried p) ts c)
-    one_replay_of held then (tried p ∷ ts) (tried q ∷ us) start a b c d is x y = absurd (All-head IsReplayed (tried p) ts c)
-    one_replay_of held then (tried p ∷ ts) (left_out n k ∷ us) start a b c d is x y = absurd (All-head IsReplayed (tried p) ts c)
-    one_replay_of held then (left_out m l ∷ ts) [] start a b c d is x y = absurd (cc)
-    one_replay_of held then (left_out m l ∷ ts) (head h ∷ us) start a b c d is x y = absurd (cc)
-    one_replay_of held then (left_out m l ∷ ts) (answered q r ∷ us) start a b c d is x y = absurd (no_status_first ts r (entries_of us) (ap (drop 1) is))
-    one_replay_of held then (left_out m l ∷ ts) (caught_up q h ∷ us) start a b c d is x y =
-        absurd (y.1.0 (ap (λ o. digest_of terminals o) (sym start ∙ sym x.1) ∙ first_head x.0 after ts h (entries_of us) (ap (drop 1) is) x.2))
-    one_replay_of held then (left_out m l ∷ ts) (tried q ∷ us) start a b c d is x y = absurd (All-head IsReplayed (tried q) us d)
-    one_replay_of held then (left_out m l ∷ ts) (left_out n k ∷ us) start a b c d is x y =
+        let played = same_play held next then p q a b (cc) (cc) d.1 e.1 in
+        (λ i. caught_up (played.0 i) (digest i), played.1, ap (drop 2) is)
+    one_turn (caught_up p g) (tried q) a b alike is d e = absurd (alike.1 (refl, refl))
+    one_turn (caught_up p g) (left_out n k) a b alike is d e =
+        absurd (d.0 (ap (λ o. digest_of terminals o) (sym e) ∙ first_head then other us g (entries_of ts) (sym (ap (drop 1) is)) y))
+    one_turn (tried p) (head h) a b alike is d e = absurd (cc)
+    one_turn (tried p) (answered q r) a b alike is d e = absurd (no_status_first ts r (entries_of us) (ap (drop 1) is))
+    one_turn (tried p) (caught_up q h) a b alike is d e = absurd (alike.0 (refl, refl))
+    one_turn (tried p) (tried q) a b alike is d e =
+        let played = same_play held next then p q a b (cc) (cc) d e in (λ i. tried (played.0 i), played.1, ap (drop 1) is)
+    one_turn (tried p) (left_out n k) a b alike is d e = absurd (alike.0 (refl, refl))
+    one_turn (left_out m l) (head h) a b alike is d e = absurd (cc)
+    one_turn (left_out m l) (answered q r) a b alike is d e = absurd (no_status_first ts r (entries_of us) (ap (drop 1) is))
+    one_turn (left_out m l) (caught_up q h) a b alike is d e =
+        absurd (e.0 (ap (λ o. digest_of terminals o) (sym d) ∙ first_head next after ts h (entries_of us) (ap (drop 1) is) x))
+    one_turn (left_out m l) (tried q) a b alike is d e = absurd (alike.1 (refl, refl))
+    one_turn (left_out m l) (left_out n k) a b alike is d e =
         let at : m ≡ n = cc in
         let sent : l ≡ k = cc in
-        joined (left_out m l) (left_out n k) ts us after other (λ i. left_out (at i) (sent i))
-        (one_replay_of x.0 y.0 ts us (x.1 ∙ start ∙ sym y.1) (All-tail IsTurn (left_out m l) ts a) (All-tail IsTurn (left_out n k) us b) (All-tail IsReplayed (left_out m l) ts c) (All-tail IsReplayed (left_out n k) us d) (ap (drop 1) is) x.2 y.2)
+        (λ i. left_out (at i) (sent i), d ∙ sym e, ap (drop 1) is)
 
-    one_answering_of : (held then : Room) (ts us : List Turn) → held ≡ then → All IsTurn ts → All IsTurn us → All IsPlayed ts → All IsPlayed us → entries_of ts ≡ entries_of us
-        → IsReplay step zone digest_of terminals held ts after → IsReplay step zone digest_of terminals then us other → Same ts us after other
-    one_answering_of held then [] [] start a b c d is x y = (refl, x ∙ start ∙ sym y)
-    one_answering_of held then [] (head h ∷ us) start a b c d is x y = absurd (cc)
-    one_answering_of held then [] (answered q r ∷ us) start a b c d is x y = absurd (cc)
-    one_answering_of held then [] (caught_up q h ∷ us) start a b c d is x y = absurd (cc)
-    one_answering_of held then [] (tried q ∷ us) start a b c d is x y = absurd (cc)
-    one_answering_of held then [] (left_out n k ∷ us) start a b c d is x y = absurd (cc)
-    one_answering_of held then (head g ∷ ts) [] start a b c d is x y = absurd (cc)
-    one_answering_of held then (head g ∷ ts) (head h ∷ us) start a b c d is x y =
-        let same : g ≡ h = cc in
-        joined (head g) (head h) ts us after other (ap head same)
-        (one_answering_of x.0 y.0 ts us (x.1.0 ∙ start ∙ sym y.1.0) (All-tail IsTurn (head g) ts a) (All-tail IsTurn (head h) us b) (All-tail IsPlayed (head g) ts c) (All-tail IsPlayed (head h) us d) (ap (drop 1) is) x.2 y.2)
-    one_answering_of held then (head g ∷ ts) (answered q r ∷ us) start a b c d is x y = absurd (cc)
-    one_answering_of held then (head g ∷ ts) (caught_up q h ∷ us) start a b c d is x y = absurd (All-head IsPlayed (caught_up q h) us d)
-    one_answering_of held then (head g ∷ ts) (tried q ∷ us) start a b c d is x y = absurd (cc)
-    one_answering_of held then (head g ∷ ts) (left_out n k ∷ us) start a b c d is x y = absurd (All-head IsPlayed (left_out n k) us d)
-    one_answering_of held then (answered p s ∷ ts) [] start a b c d is x y = absurd (cc)
-    one_answering_of held then (answered p s ∷ ts) (head h ∷ us) start a b c d is x y = absurd (cc)
-    one_answering_of held then (answered p s ∷ ts) (answered q r ∷ us) start a b c d is x y =
-        let status : s ≡ r = cc in
-        let played = same_play held x.0 y.0 p q (All-head IsTurn (answered p s) ts a).0 (All-head IsTurn (answered q r) us b).0 (cc) (cc) x.1
-        (subst (λ (o : Room). Answers step zone digest_of terminals o q y.0) (sym start) y.1) in
-        joined (answered p s) (answered q r) ts us after other (λ i. answered (played.0 i) (status i))
-        (one_answering_of x.0 y.0 ts us played.1 (All-tail IsTurn (answered p s) ts a) (All-tail IsTurn (answered q r) us b) (All-tail IsPlayed (answered p s) ts c) (All-tail IsPlayed (answered q r) us d) (ap (drop 2) is) x.2 y.2)
-    one_answering_of held then (answered p s ∷ ts) (caught_up q h ∷ us) start a b c d is x y = absurd (All-head IsPlayed (caught_up q h) us d)
-    one_answering_of held then (answered p s ∷ ts) (tried q ∷ us) start a b c d is x y = absurd (no_status_first us s (entries_of ts) (sym (ap (drop 1) is)))
-    one_answering_of held then (answered p s ∷ ts) (left_out n k ∷ us) start a b c d is x y = absurd (All-head IsPlayed (left_out n k) us d)
-    one_answering_of held then (caught_up p g ∷ ts) [] start a b c d is x y = absurd (cc)
-    one_answering_of held then (caught_up p g ∷ ts) (head h ∷ us) start a b c d is x y = absurd (All-head IsPlayed (caught_up p g) ts c)
-    one_answering_of held then (caught_up p g ∷ ts) (answered q r ∷ us) start a b c d is x y = absurd (All-head IsPlayed (caught_up p g) ts c)
-    one_answering_of held then (caught_up p g ∷ ts) (caught_up q h ∷ us) start a b c d is x y = absurd (All-head IsPlayed (caught_up p g) ts c)
-    one_answering_of held then (caught_up p g ∷ ts) (tried q ∷ us) start a b c d is x y = absurd (All-head IsPlayed (caught_up p g) ts c)
-    one_answering_of held then (caught_up p g ∷ ts) (left_out n k ∷ us) start a b c d is x y = absurd (All-head IsPlayed (caught_up p g) ts c)
-    one_answering_of held then (tried p ∷ ts) [] start a b c d is x y = absurd (cc)
-    one_answering_of held then (tried p ∷ ts) (head h ∷ us) start a b c d is x y = absurd (cc)
-    one_answering_of held then (tried p ∷ ts) (answered q r ∷ us) start a b c d is x y = absurd (no_status_first ts r (entries_of us) (ap (drop 1) is))
-    one_answering_of held then (tried p ∷ ts) (caught_up q h ∷ us) start a b c d is x y = absurd (All-head IsPlayed (caught_up q h) us d)
-    one_answering_of held then (tried p ∷ ts) (tried q ∷ us) start a b c d is x y =
-        let played = same_play held x.0 y.0 p q (All-head IsTurn (tried p) ts a) (All-head IsTurn (tried q) us b) (cc) (cc) x.1
-        (subst (λ (o : Room). Answers step zone digest_of terminals o q y.0) (sym start) y.1) in
-        joined (tried p) (tried q) ts us after other (λ i. tried (played.0 i))
-        (one_answering_of x.0 y.0 ts us played.1 (All-tail IsTurn (tried p) ts a) (All-tail IsTurn (tried q) us b) (All-tail IsPlayed (tried p) ts c) (All-tail IsPlayed (tried q) us d) (ap (drop 1) is) x.2 y.2)
-    one_answering_of held then (tried p ∷ ts) (left_out n k ∷ us) start a b c d is x y = absurd (All-head IsPlayed (left_out n k) us d)
-    one_answering_of held then (left_out m l ∷ ts) [] start a b c d is x y = absurd (cc)
-    one_answering_of held then (left_out m l ∷ ts) (head h ∷ us) start a b c d is x y = absurd (All-head IsPlayed (left_out m l) ts c)
-    one_answering_of held then (left_out m l ∷ ts) (answered q r ∷ us) start a b c d is x y = absurd (All-head IsPlayed (left_out m l) ts c)
-    one_answering_of held then (left_out m l ∷ ts) (caught_up q h ∷ us) start a b c d is x y = absurd (All-head IsPlayed (left_out m l) ts c)
-    one_answering_of held then (left_out m l ∷ ts) (tried q ∷ us) start a b c d is x y = absurd (All-head IsPlayed (left_out m l) ts c)
-    one_answering_of held then (left_out m l ∷ ts) (left_out n k ∷ us) start a b c d is x y = absurd (All-head IsPlayed (left_out m l) ts c)
+  -- a list of entries has one replay of a kind
+  module _ (Kind : Turn → Type 0) (alike : (t u : Turn) → Kind t → Kind u → AreAlike t u) (after other : Room) where
+    one_of : (held : Room) (ts us : List Turn) → All IsTurn ts → All IsTurn us → All Kind ts → All Kind us → entries_of ts ≡ entries_of us
+        → IsReplay step zone digest_of terminals held ts after → IsReplay step zone digest_of terminals held us other → (ts ≡ us) × (after ≡ other)
+    one_of held [] [] a b c d is x y = (refl, x ∙ sym y)
+    one_of held [] (u ∷ us) a b c d is x y = absurd (some_entry u us is)
+    one_of held (t ∷ ts) [] a b c d is x y = absurd (some_entry t ts (sym is))
+    one_of held (t ∷ ts) (u ∷ us) a b c d is x y =
+        let one = one_turn held x.0 y.0 after other ts us x.2 y.2 t u (All-head IsTurn t ts a) (All-head IsTurn u us b) (alike t u (All-head Kind t ts c) (All-head Kind u us d)) is x.1 y.1 in
+        let rest = one_of x.0 ts us (All-tail IsTurn t ts a) (All-tail IsTurn u us b) (All-tail Kind t ts c) (All-tail Kind u us d) one.2 x.2
+        (subst (λ (o : Room). IsReplay step zone digest_of terminals o us other) (sym one.1) y.2) in
+        (λ i. one.0 i ∷ rest.0 i, rest.1)
+
+-- where messages wait, none is tried, and where they are tried, none waits
+replayed_alike : (t u : Turn) → IsReplayed t → IsReplayed u → AreAlike t u
+replayed_alike t u a b = (λ both. no_tried t a both.0, λ both. no_tried u b both.1)
+  where
+    no_tried : (t : Turn) → IsReplayed t → ¬ (is_tried t ≡ true)
+    no_tried (head digest) is same = false≢true same
+    no_tried (answered p s) is same = false≢true same
+    no_tried (caught_up p digest) is same = false≢true same
+    no_tried (tried p) is same = is
+    no_tried (left_out at sent) is same = false≢true same
+
+played_alike : (t u : Turn) → IsPlayed t → IsPlayed u → AreAlike t u
+played_alike t u a b = (λ both. no_wait u b both.1, λ both. no_wait t a both.0)
+  where
+    no_wait : (t : Turn) → IsPlayed t → ¬ (waits t ≡ true)
+    no_wait (head digest) is same = false≢true same
+    no_wait (answered p s) is same = false≢true same
+    no_wait (caught_up p digest) is same = is
+    no_wait (tried p) is same = false≢true same
+    no_wait (left_out at sent) is same = is
 
 pub one_replay_law : IsOneReplay
-one_replay_law step zone digest_of terminals held after other ts us a b c d is x y = one_replay_of step zone digest_of terminals after other held held ts us refl a b c d is x y
+one_replay_law step zone digest_of terminals held after other ts us a b c d is x y =
+    one_of step zone digest_of terminals IsReplayed replayed_alike after other held ts us a b c d is x y
 
 pub one_answering_law : IsOneAnswering
-one_answering_law step zone digest_of terminals held after other ts us a b c d is x y = one_answering_of step zone digest_of terminals after other held held ts us refl a b c d is x y
+one_answering_law step zone digest_of terminals held after other ts us a b c d is x y =
+    one_of step zone digest_of terminals IsPlayed played_alike after other held ts us a b c d is x y
 
 pub kept_law : IsKept
 kept_law zone digest_of terminals held after ts fit formed x =

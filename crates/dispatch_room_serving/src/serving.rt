@@ -1,15 +1,15 @@
 //! The room of a database, opened and served to those who call.
 ghost use Rattle.std.specs.Prelude.{◌≡◌, false, IfErr, IfOk, OnErr};
 ghost use Rattle.room_store.specs.Keeping.{IsReady};
-ghost use Rattle.dispatch_room_work.specs.Opened.{IsUnopened};
+ghost use Rattle.dispatch_room_endings.specs.Opened.{IsUnopened};
 ghost use Rattle.dispatch_room_serving.specs.Rooms.{Announces, Attends, ServesRoom};
 
 use crate::callers::Callers;
 use crate::connections::serve_each;
 use crate::watchers::Watcher;
 use dispatch_room_endings::endings::{Done, Failure, refused};
+use dispatch_room_endings::rooms::{Worked, open_room};
 use dispatch_room_journal::digests::digest_of;
-use dispatch_room_work::rooms::{Worked, open_room};
 use room_http_time::clocks::Clock;
 use room_http_time::zones::Zone;
 use room_store::digests::digest_of_room;
@@ -18,8 +18,8 @@ use sqlite::{Alter, Connection};
 use std::alloc::Global;
 
 /// Serves the room of a database to so many calls: it is opened, the watcher is told where it
-/// begins, the callers begin, and each is served from the room that the one before left, in the zone
-/// of the room's plan. Where no room is opened, none of them is heard. It is the same whoever
+/// begins, the callers begin, and each is served from the room that the one before left, in the
+/// zone of the room's plan. Where no room is opened, none of them is heard. It is the same whoever
 /// watches.
 pub fn serve_in<S: Alter + Drop, P: Callers, C: Clock, N: Watcher>(
     alloc: Global,

@@ -4,8 +4,6 @@ pub mod Created
 pub mod Migrated
 -- what is told of the rows of a fleet
 pub mod Fates
--- the room that is opened in a database
-pub mod Opened
 -- what came of the lines of a fleet in a room
 pub mod Imported
 -- the report of a division's day

@@ -3,8 +3,8 @@ ghost use Rattle.std.specs.Prelude.{◌≡◌, false, IfErr, IfOk};
 ghost use Rattle.sqlite.specs.Held.{state};
 ghost use Rattle.dispatch_room_work.specs.Created.{ExplainsNone, IsCreated, IsTold, division_count};
 
-use crate::rooms::Worked;
 use dispatch_room_endings::endings::{Done, Failure};
+use dispatch_room_endings::rooms::Worked;
 use dispatch_room_files::plans::PlanFile;
 use room_place::plans::{DivisionNumber, Plan};
 use room_store::store::Store;

@@ -9,11 +9,11 @@ ghost use Rattle.room_store.specs.Keeping.{IsReady, IsRoom};
 ghost use Rattle.dispatch_room_endings.specs.declared.endings.Failure.TheVariants.{Memory};
 ghost use Rattle.dispatch_room_work.specs.Fates.{good_rows};
 ghost use Rattle.dispatch_room_work.specs.Imported.{HasImported, HasImportedIn, IsTold};
-ghost use Rattle.dispatch_room_work.specs.Opened.{IsUnopened};
+ghost use Rattle.dispatch_room_endings.specs.Opened.{IsUnopened};
 
 use crate::fates::{good_rows, tell};
-use crate::rooms::{Worked, open_room};
 use dispatch_room_endings::endings::{Done, Failure, refused};
+use dispatch_room_endings::rooms::{Worked, open_room};
 use dispatch_room_files::fleets::FleetLine;
 use room_store::store::Store;
 use room_types::fleet::FleetRow;

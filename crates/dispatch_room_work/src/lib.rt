@@ -6,5 +6,4 @@ pub mod creating;
 mod fates;
 pub mod importing;
 pub mod migrating;
-pub mod rooms;
 pub mod timing;

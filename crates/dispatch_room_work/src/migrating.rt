@@ -2,8 +2,8 @@
 ghost use Rattle.std.specs.Prelude.{◌≡◌, false, IfErr, IfOk};
 ghost use Rattle.dispatch_room_work.specs.Migrated.{IsMigrated, IsUnmoved};
 
-use crate::rooms::Worked;
 use dispatch_room_endings::endings::Failure;
+use dispatch_room_endings::rooms::Worked;
 use room_store::store::Store;
 use sqlite::{Alter, Connection};
 use std::alloc::Global;

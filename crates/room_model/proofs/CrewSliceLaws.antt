@@ -7,7 +7,7 @@ use Rattle.room_types.proofs.EachRow.{row_key}
 use Rattle.room_types.proofs.KeyedLaws.{row_filter}
 use Rattle.room_types.specs.Crews.{IsCrew}
 use Rattle.room_types.specs.Keyed.{IsKeyed, keep, row_at}
-use Rattle.room_types.specs.Keys.{assignment_key, callsign_cmp, loan_key, numbered_cmp, offer_key, report_key, same_callsign, turn_key, vehicle_key}
+use Rattle.room_types.specs.Keys.{assignment_key, callsign_cmp, loan_key, numbered_cmp, report_key, same_callsign, turn_key, vehicle_key}
 use Rattle.room_types.specs.Orders.{callsigns_total, exact_callsigns, exact_numbered, numbered_total}
 use Rattle.room_types.specs.Sent.{SentAgrees}
 use Rattle.room_types.specs.Texts.{Callsign}
@@ -47,7 +47,6 @@ module _ (c : Callsign) (n : ℕ) (r : Room) (in_order : IsInOrder r) where
       assignment = sym (mine_row assignment_key r.assignments c in_order.assignments) ∙ h.assignment;
       turn = sym (mine_turn x.vehicle.last_order) ∙ h.turn;
       loan = sym (mine_row loan_key r.loans c in_order.loans) ∙ h.loan;
-      offer = sym (mine_row offer_key r.offers c in_order.offers) ∙ h.offer;
       report = sym mine_report ∙ h.report;
     },
     λ h. record {
@@ -55,7 +54,6 @@ module _ (c : Callsign) (n : ℕ) (r : Room) (in_order : IsInOrder r) where
       assignment = mine_row assignment_key r.assignments c in_order.assignments ∙ h.assignment;
       turn = mine_turn x.vehicle.last_order ∙ h.turn;
       loan = mine_row loan_key r.loans c in_order.loans ∙ h.loan;
-      offer = mine_row offer_key r.offers c in_order.offers ∙ h.offer;
       report = mine_report ∙ h.report;
     },
   )
@@ -97,7 +95,6 @@ module _ (c : Callsign) (n : ℕ) (r : Room) (x : CrewRows) (formed : IsWellForm
     assignment = of_vehicle assignment_key r.assignments x.assignment mine.assignment;
     turn = turn_open;
     loan = of_vehicle loan_key r.loans x.loan mine.loan;
-    offer = of_vehicle offer_key r.offers x.offer mine.offer;
     report = report_named;
     sent = sent;
   }

@@ -2,7 +2,7 @@
 use Rattle.std.specs.Prelude.{List, Some, is_none, ℕ, ◌≡◌}
 use Rattle.room_place.specs.declared.plans.Area.{Area}
 use Rattle.room_types.specs.Keyed.{keep, row_at}
-use Rattle.room_types.specs.Keys.{assignment_key, callsign_cmp, loan_key, numbered_cmp, offer_key, report_key, turn_key, vehicle_key}
+use Rattle.room_types.specs.Keys.{assignment_key, callsign_cmp, loan_key, numbered_cmp, report_key, turn_key, vehicle_key}
 use Rattle.room_types.specs.Texts.{Callsign}
 use Rattle.room_types.specs.declared.crews.CrewRows.{CrewRows}
 use Rattle.room_types.specs.declared.slices.DivisionRows.{DivisionRows}
@@ -33,5 +33,4 @@ pub record AreCrewRows (c : Callsign) (n : ℕ) (r : Room) (x : CrewRows) : Type
       keep (λ t. is_none t.ended) (row_at numbered_cmp turn_key r.turns (c, x.vehicle.last_order))
       ≡ x.turn
   pub loan : row_at callsign_cmp loan_key r.loans c ≡ x.loan
-  pub offer : row_at callsign_cmp offer_key r.offers c ≡ x.offer
   pub report : row_at numbered_cmp report_key r.reports (c, n) ≡ x.report

@@ -47,8 +47,8 @@ const WHOLE_TABLES: [&str; 12] = [
     ALL_OFFERS,
 ];
 
-/// The SHA-256 of all rows of a room, table by table, but that of its version and its zone, on which
-/// no other row depends. Two tables are never in memory at once.
+/// The SHA-256 of all rows of a room, table by table, but that of its version and its zone, on
+/// which no other row depends. Two tables are never in memory at once.
 pub fn digest_in<S: Alter>(conn: &mut Connection<S>) -> Result<[u8; 32], Fault>
     requires room { HasRoomSchema S.Store conn.old }
     ensures digest { HasCleanDisk (state S.Store conn.new)

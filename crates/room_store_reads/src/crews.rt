@@ -1,18 +1,20 @@
 //! The rows of a vehicle that its crew's request may read, loaded by key.
-ghost use Rattle.std.specs.Prelude.{◌≡◌, is_none};
+ghost use Rattle.std.specs.Prelude.{◌≡◌, IsTrue, is_none};
+ghost use Rattle.sqlite.specs.Held.{state};
+ghost use Rattle.sqlite.specs.State.{HasCleanDisk};
 ghost use Rattle.room_tables.specs.Finding.{Finds};
 ghost use Rattle.room_tables_schema.specs.Connections.{HasRoomSchema};
 ghost use Rattle.room_tables_sql.specs.Outcomes.{ReadsOnly};
 ghost use Rattle.room_types.specs.Keyed.{keep};
 ghost use Rattle.room_model.specs.WellFormed.{IsWellFormed};
-ghost use Rattle.room_store_reads.specs.CrewParts.{IsSent, IsLent, IsCrewOf};
+ghost use Rattle.room_store_reads.specs.CrewParts.{IsLoanOf, IsSent, IsCrewOf};
 
 use room_tables::loading::row_at;
 use room_tables_schema::faults::Fault;
 use room_types::callsign::Callsign;
 use room_types::crews::CrewRows;
 use room_types::numbers::Number;
-use room_types::tables::{Assignment, Loan, Offer, Report, Turn, Vehicle};
+use room_types::tables::{Assignment, Loan, Report, Turn, Vehicle};
 use sqlite::{Alter, Connection};
 
 /// The rows of a vehicle, and of its reports that of one number; none where there is no such
@@ -31,14 +33,13 @@ pub fn load_crew<S: Alter>(
     match found {
         Some(vehicle) => {
             let sent = load_sent(conn, &vehicle)?;
-            let lent = load_lent(conn, callsign)?;
+            let loan = load_loan(conn, &vehicle)?;
             let report = row_at::<Report, S>(conn, &(*callsign, number))?;
             Ok(Some(CrewRows {
                 vehicle,
                 assignment: sent.assignment,
                 turn: sent.turn,
-                loan: lent.loan,
-                offer: lent.offer,
+                loan,
                 report,
             }))
         }
@@ -84,20 +85,17 @@ fn not_ended(turn: Option<Turn>) -> Option<Turn>
     }
 }
 
-// Where the vehicle is lent, or offered, to.
-#[derive(Drop)]
-struct Lent {
-    loan: Option<Loan>,
-    offer: Option<Offer>,
-}
-
-fn load_lent<S: Alter>(conn: &mut Connection<S>, callsign: &Callsign) -> Result<Lent, Fault>
+// The vehicle's loan, where another than its home holds it: else it has none.
+fn load_loan<S: Alter>(conn: &mut Connection<S>, vehicle: &Vehicle) -> Result<Option<Loan>, Fault>
     requires room { HasRoomSchema S.Store conn.old }
-    ensures rows { Finds S.Store conn.old conn.new result (λ room x. IsWellFormed room
-        → IsLent callsign.now room x) }
+    requires open { HasCleanDisk (state S.Store conn.old)
+        → IsTrue (state S.Store conn.old).is_open }
+    ensures row { Finds S.Store conn.old conn.new result (λ room x. IsWellFormed room
+        → IsLoanOf vehicle.now room x) }
     ensures reads { ReadsOnly S.Store conn.old conn.new result }
 {
-    let loan = row_at::<Loan, S>(conn, callsign)?;
-    let offer = row_at::<Offer, S>(conn, callsign)?;
-    Ok(Lent { loan, offer })
+    if vehicle.holder == vehicle.home {
+        return Ok(None);
+    }
+    row_at::<Loan, S>(conn, &vehicle.callsign)
 }

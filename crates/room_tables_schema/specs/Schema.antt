@@ -76,13 +76,21 @@ room_tables = tables_in TABLES
 
 -- those of the first version, which had no offers
 abbrev pub first_tables : List Table
-first_tables = tables_in (take FIRST_TABLES TABLES)
+first_tables = take FIRST_TABLES room_tables
 
 -- ---- indexes
 
+-- all of them, in the order in which they are made
+abbrev pub room_indexes : List Index
+room_indexes = indexes_in INDEXES
+
 -- those that keep the tables' keys; SQL names them
 abbrev pub key_indexes : List Index
-key_indexes = indexes_in (take KEY_INDEXES INDEXES)
+key_indexes = take KEY_INDEXES room_indexes
+
+-- those of the first version
+abbrev pub indexes_of_first : List Index
+indexes_of_first = indexes_in FIRST_INDEXES
 
 -- The indexes by which working rows are found, made after all tables. No meaning of the room depends on them.
 abbrev pub incidents_by_state : Index
@@ -112,12 +120,12 @@ tables_schema = record { tables = room_tables; indexes = key_indexes; views = []
 
 -- of a room
 abbrev pub room_schema : Schema
-room_schema = record { tables = room_tables; indexes = indexes_in INDEXES; views = [] }
+room_schema = record { tables = room_tables; indexes = room_indexes; views = [] }
 
 -- of the first version's tables alone
 abbrev pub first_tables_schema : Schema
-first_tables_schema = record { tables = first_tables; indexes = indexes_in (take FIRST_KEY_INDEXES FIRST_INDEXES); views = [] }
+first_tables_schema = record { tables = first_tables; indexes = take FIRST_KEY_INDEXES indexes_of_first; views = [] }
 
 -- of a room of the first version
 abbrev pub first_schema : Schema
-first_schema = record { tables = first_tables; indexes = indexes_in FIRST_INDEXES; views = [] }
+first_schema = record { tables = first_tables; indexes = indexes_of_first; views = [] }

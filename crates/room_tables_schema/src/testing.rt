@@ -1,14 +1,19 @@
 //! The test of a file's schema.
 
-ghost use Rattle.std.specs.Prelude.{◌≡◌, IsTrue, ◌↔◌, [], ◌∷◌, map};
+ghost use Rattle.std.specs.Prelude.{◌≡◌, IsTrue, ◌↔◌, ◌≤◌, [], ◌∷◌, length, map, take};
+ghost use Rattle.room_tables_schema.specs.declared.tables.TheConstants.{FIRST_INDEXES, INDEXES};
 ghost use Rattle.sqlite_value.specs.Keys.{plain};
-ghost use Rattle.room_tables_schema.specs.Schema.{first_schema, first_tables_schema, no_schema, room_schema, tables_schema};
+ghost use Rattle.room_tables_schema.specs.Schema.{first_schema, first_tables, first_tables_schema};
+ghost use Rattle.room_tables_schema.specs.Schema.{indexes_of_first, no_schema, room_indexes};
+ghost use Rattle.room_tables_schema.specs.Schema.{room_schema, room_tables, tables_schema};
 ghost use Rattle.room_tables_schema.specs.Versions.{BeginsAsRoom};
 ghost use Rattle.room_tables_schema.specs.Forms.{column_as, table_as, tables_as, index_as, indexes_as};
 ghost use Rattle.room_tables_schema.specs.Bare.{IsBare, HasKey};
 
 use crate::forms::{ColumnForm, IndexForm, TableForm};
-use crate::tables::{FIRST_INDEXES, FIRST_KEY_INDEXES, FIRST_TABLES, INDEXES, KEY_INDEXES, TABLES};
+use crate::tables::{
+    FIRST_INDEXES, FIRST_KEY_INDEXES, FIRST_TABLES, INDEXES, KEY_INDEXES, META, TABLES,
+};
 use sqlite_items::Items;
 use sqlite_schema::code::Terms;
 use sqlite_schema::schema::{Column, Index, Schema, Stamps, Table};
@@ -26,32 +31,28 @@ pub fn is_empty(schema: &Schema) -> bool
 pub fn is_room(schema: &Schema) -> bool
     ensures { IsTrue result ↔ (schema.now ≡ room_schema) }
 {
-    has_objects(schema, &TABLES, &INDEXES)
+    has_room_objects(schema, INDEXES.len())
 }
 
 /// Whether a schema is that of a room's tables, with no index but those of their keys.
 pub fn has_tables_alone(schema: &Schema) -> bool
     ensures { IsTrue result ↔ (schema.now ≡ tables_schema) }
 {
-    has_objects(schema, &TABLES, &INDEXES[..KEY_INDEXES])
+    has_room_objects(schema, KEY_INDEXES)
 }
 
 /// Whether a schema is that of a room of the first version, with its indexes.
 pub fn is_first(schema: &Schema) -> bool
     ensures { IsTrue result ↔ (schema.now ≡ first_schema) }
 {
-    has_objects(schema, &TABLES[..FIRST_TABLES], &FIRST_INDEXES)
+    has_first_objects(schema, FIRST_INDEXES.len())
 }
 
 /// Whether a schema is that of the first version's tables, with no index but those of their keys.
 pub fn has_first_tables_alone(schema: &Schema) -> bool
     ensures { IsTrue result ↔ (schema.now ≡ first_tables_schema) }
 {
-    has_objects(
-        schema,
-        &TABLES[..FIRST_TABLES],
-        &FIRST_INDEXES[..FIRST_KEY_INDEXES],
-    )
+    has_first_objects(schema, FIRST_KEY_INDEXES)
 }
 
 /// Whether a schema begins as that of a room does, of this version or another: with the table
@@ -60,9 +61,35 @@ pub fn begins_as_room(schema: &Schema) -> bool
     ensures { IsTrue result ↔ BeginsAsRoom schema.now }
 {
     match schema.tables.as_slice() {
-        [meta, ..] => TABLES[0].fits(meta) && schema.views.is_empty(),
+        [meta, ..] => META.fits(meta) && schema.views.is_empty(),
         [] => false,
     }
+}
+
+// Whether a schema has a room's tables, and so many of its indexes.
+fn has_room_objects(schema: &Schema, indexes: usize) -> bool
+    requires few { indexes ≤ length INDEXES }
+    ensures { IsTrue result
+        ↔ (schema.now ≡ record {
+          tables = room_tables;
+          indexes = take indexes room_indexes;
+          views = [];
+        }) }
+{
+    has_objects(schema, &TABLES, &INDEXES[..indexes])
+}
+
+// The same of the first version.
+fn has_first_objects(schema: &Schema, indexes: usize) -> bool
+    requires few { indexes ≤ length FIRST_INDEXES }
+    ensures { IsTrue result
+        ↔ (schema.now ≡ record {
+          tables = first_tables;
+          indexes = take indexes indexes_of_first;
+          views = [];
+        }) }
+{
+    has_objects(schema, &TABLES[..FIRST_TABLES], &FIRST_INDEXES[..indexes])
 }
 
 fn has_objects(schema: &Schema, tables: &[TableForm], indexes: &[IndexForm]) -> bool

@@ -27,10 +27,10 @@ none_decides (Some at) = (λ h. cc, λ h. cc)
 pub crew_decides : (r : CrewRows) → Decides (is_crew r) (IsCrew r)
 unfolding is_crew
 crew_decides r = Decides-like _
-    (λ h. record { assignment = h.0.0; turn = h.0.1; loan = h.1.0.0; offer = h.1.0.1; report = h.1.1.0; sent = h.1.1.1 })
-    (λ h. ((h.assignment, h.turn), ((h.loan, h.offer), (h.report, h.sent))))
+    (λ h. record { assignment = h.0.0; turn = h.0.1; loan = h.1.0; report = h.1.1.0; sent = h.1.1.1 })
+    (λ h. ((h.assignment, h.turn), (h.loan, (h.report, h.sent))))
     (Decides-and _ _
     (Decides-and _ _ (passes_decides _ _ (λ a. callsigns_decide a.callsign _) r.assignment) (passes_decides _ _ (λ t. Decides-and _ _ (callsigns_decide t.callsign _) (none_decides t.ended)) r.turn))
     (Decides-and _ _
-    (Decides-and _ _ (passes_decides _ _ (λ l. callsigns_decide l.callsign _) r.loan) (passes_decides _ _ (λ o. callsigns_decide o.callsign _) r.offer))
+    (passes_decides _ _ (λ l. callsigns_decide l.callsign _) r.loan)
     (Decides-and _ _ (passes_decides _ _ (λ x. callsigns_decide x.callsign _) r.report) (sent_decides _ _ _))))

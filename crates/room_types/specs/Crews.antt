@@ -9,7 +9,6 @@ pub record IsCrew (r : CrewRows) : Type 0 where
   pub assignment : IfSome r.assignment (λ a. a.callsign ≡ r.vehicle.callsign)
   pub turn : IfSome r.turn (λ t. (t.callsign ≡ r.vehicle.callsign) × (t.ended ≡ None))
   pub loan : IfSome r.loan (λ l. l.callsign ≡ r.vehicle.callsign)
-  pub offer : IfSome r.offer (λ o. o.callsign ≡ r.vehicle.callsign)
   pub report : IfSome r.report (λ x. x.callsign ≡ r.vehicle.callsign)
   -- it has an assignment and an open turn exactly where it is busy
   pub sent : SentAgrees r.vehicle r.assignment r.turn
@@ -24,14 +23,9 @@ are_sent_rows r =
     passes (λ a. same_callsign a.callsign r.vehicle.callsign) r.assignment
     && passes (λ t. same_callsign t.callsign r.vehicle.callsign && is_none t.ended) r.turn
 
-abbrev pub are_lent_rows : CrewRows → Bool
-are_lent_rows r =
-    passes (λ l. same_callsign l.callsign r.vehicle.callsign) r.loan
-    && passes (λ o. same_callsign o.callsign r.vehicle.callsign) r.offer
-
 unfoldable pub is_crew : CrewRows → Bool
 is_crew r =
     are_sent_rows r
-    && (are_lent_rows r
+    && (passes (λ l. same_callsign l.callsign r.vehicle.callsign) r.loan
     && (passes (λ x. same_callsign x.callsign r.vehicle.callsign) r.report
     && sent_agrees r.vehicle r.assignment r.turn))

@@ -1,20 +1,19 @@
 //! The rows of one vehicle that its crew's requests are decided on.
 ghost use Rattle.std.specs.Prelude.{◌≡◌, true};
-ghost use Rattle.room_types.specs.Crews.{is_crew, are_sent_rows, are_lent_rows, passes};
+ghost use Rattle.room_types.specs.Crews.{is_crew, are_sent_rows, passes};
 ghost use Rattle.room_types.specs.Keys.{same_callsign};
 
 use crate::sent::sent_agrees;
-use crate::tables::{Assignment, Loan, Offer, Report, Turn, Vehicle};
+use crate::tables::{Assignment, Loan, Report, Turn, Vehicle};
 
-/// A vehicle with its assignment, open turn, loan and offer, and of its reports that of the number
-/// in hand.
+/// A vehicle with its assignment, open turn and loan, and of its reports that of the number in
+/// hand. Whether it is offered its status tells.
 #[derive(Clone, Copy)]
 pub struct CrewRows {
     pub vehicle: Vehicle,
     pub assignment: Option<Assignment>,
     pub turn: Option<Turn>,
     pub loan: Option<Loan>,
-    pub offer: Option<Offer>,
     pub report: Option<Report>,
 }
 
@@ -54,7 +53,7 @@ impl CrewRows {
         ensures crew { IsTrue result ↔ IsCrew self.now }
     {
         self.are_sent_rows()
-            && self.are_lent_rows()
+            && self.is_lent()
             && self.is_reported()
             && sent_agrees(&self.vehicle, self.assignment.as_ref(), self.turn.as_ref())
     }
@@ -74,19 +73,14 @@ impl CrewRows {
         is_assigned && is_ordered
     }
 
-    fn are_lent_rows(&self) -> bool
-        ensures { result ≡ are_lent_rows self.now }
+    fn is_lent(&self) -> bool
+        ensures { result ≡ passes (λ l.
+            same_callsign l.callsign self.now.vehicle.callsign) self.now.loan }
     {
-        let callsign = self.vehicle.callsign;
-        let is_lent = match self.loan {
-            Some(loan) => loan.callsign == callsign,
+        match self.loan {
+            Some(loan) => loan.callsign == self.vehicle.callsign,
             None => true,
-        };
-        let is_offered = match self.offer {
-            Some(offer) => offer.callsign == callsign,
-            None => true,
-        };
-        is_lent && is_offered
+        }
     }
 
     fn is_reported(&self) -> bool

@@ -21,7 +21,7 @@ pub returns-in-Head-clause-turn : goal.returns-in-Head-clause-turn
 returns-in-Head-clause-turn g c =
     let next = rw c.in-Head.is at c.in-Ok.ensures.next in (
       head next.0 ∷ [],
-      passes_one _ _ _ _ _ _ _ _ _ IsPlayed (head next.0) (room next.0 ∷ []) tt tt refl (head_by None next.0 next.1) next.2
+      passes_one _ _ _ _ _ _ _ _ _ IsPlayed (head next.0) (room next.0 ∷ []) tt tt (refl {a = room next.0 ∷ []}) (head_by None next.0 next.1) next.2
           (λ trust terminals held stood. let y = next.4 trust terminals held stood in (held, (held, (refl, y.0), refl), y.1)) (λ never. absurd (cc)),
       head_progress next.0 _ _ c.note_head.ensures,
       λ _. (next.3, c.requires.writer, refl),

@@ -1,5 +1,5 @@
 use Rattle.std.proofs.Common.{refl, None, Some}
-use Rattle.dispatch_room_serving.specs.Connections.{Conversation}
+use Rattle.dispatch_room_serving.specs.Connections.{Conversation, stage_after}
 use Rattle.dispatch_room_serving.proofs.ConnectionLaws.{attended_nothing, attended_one}
 use Rattle.dispatch_room_serving.proofs.connections.serve_next.Goals as goal
 
@@ -37,7 +37,7 @@ returns-clause-attended g c =
     } in
     record {
       call = Some talk;
-      attended = attended_one g.S.Store c.args.zone.now _ _ talk _ _ (rw c.done.ensures.heard c.in-Some.ensures.heard) (rw c.in-Some.ensures.told at c.done.ensures.told) refl
+      attended = attended_one g.S.Store c.args.zone.now _ _ talk _ _ (rw c.done.ensures.heard c.in-Some.ensures.heard) (rw c.in-Some.ensures.told at c.done.ensures.told) (refl {a = stage_after talk})
           (record {
             begins = refl;
             reads = c.serve-end.ensures.reads;

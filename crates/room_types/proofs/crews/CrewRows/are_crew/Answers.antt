@@ -13,5 +13,5 @@ returns-then-is_reported-clause-crew c =
 pub returns-else-is_reported-clause-crew : goal.returns-else-is_reported-clause-crew
 unfolding is_crew
 returns-else-is_reported-clause-crew c =
-    let test : c.if-are_lent_rows.value ≡ is_crew c.args.self.now = search rules in
+    let test : c.if-is_lent.value ≡ is_crew c.args.self.now = search rules in
     Decides-at _ _ test (crew_decides c.args.self.now)

@@ -5,9 +5,9 @@ ghost use Rattle.sqlite.specs.Held.{state};
 ghost use Rattle.sqlite.specs.State.{HasCleanDisk};
 ghost use Rattle.room_http_time.specs.Days.{zone_of};
 ghost use Rattle.room_store.specs.Keeping.{IsReady};
-ghost use Rattle.dispatch_room_work.specs.Opened.{IsUnopened, OpensRoom};
+ghost use Rattle.dispatch_room_endings.specs.Opened.{IsUnopened, OpensRoom};
 
-use dispatch_room_endings::endings::Failure;
+use crate::endings::Failure;
 use room_http_time::zones::Zone;
 use room_store::store::Store;
 use sqlite::{Alter, Connection};

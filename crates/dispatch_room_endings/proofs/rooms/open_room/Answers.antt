@@ -11,10 +11,10 @@ use Rattle.room_store_writes.specs.Houses.{house_of}
 use Rattle.room_store_opening.proofs.FileLaws.{stands_before}
 use Rattle.room_store_opening.specs.Opening.{KeepsFile}
 use Rattle.room_tables_schema.specs.Schema.{room_schema}
-use Rattle.dispatch_room_work.specs.Opened.{OpensRoom}
+use Rattle.dispatch_room_endings.specs.Opened.{OpensRoom}
 use Rattle.room_store.specs.Keeping.{IsKept, IsRoom}
 use Rattle.room_store.specs.declared.store.Store.{Store}
-use Rattle.dispatch_room_work.proofs.rooms.open_room.Goals as goal
+use Rattle.dispatch_room_endings.proofs.rooms.open_room.Goals as goal
 
 -- whatever room the tables of a store stand for is the one that the store is known to stand for
 module _ {S : Type 0} (g : Ghosts S) (store : Store S) (is_open : IsTrue (state g store.conn).is_open) (terminals : List Terminal) (room : Room) (is : IsRoom g store terminals room)
