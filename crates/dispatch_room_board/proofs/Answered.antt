@@ -1,6 +1,7 @@
 -- Lemmas on answers: what stands at the front of what was heard, and what an answer gives.
-use Rattle.std.proofs.Common.{◌≡◌, ◌<◌, ◌≤◌, ◌∙◌, sym, ap, ℕ, List, [], ◌++◌, length, map, take, drop, take-append-drop, Option, None, Some, arith, inl, inr, length-append, length-drop, length-take, ◌-◌}
-use Rattle.std.specs.Prelude.{◌≢◌, codes, Result, MatchResult, ok_or, unwrap_or}
+use Rattle.std.proofs.Common.{◌≡◌, ◌<◌, ◌≤◌, ◌∙◌, refl, sym, ap, ℕ, List, [], ◌++◌, length, map, take, drop, take-append-drop, Option, None, Some, arith, inl, inr, length-append, length-drop, length-take, ◌-◌}
+use Rattle.std.specs.Prelude.{◌≢◌, codes, Err, Ok, Result, MatchResult, ok_or, unwrap_or}
+use Rattle.std.specs.Option.{option_zip}
 use Rattle.std.specs.List.{IsSplitAt}
 use Rattle.std.proofs.lemmas.List.{append-nil, length-map, take_all}
 use Rattle.std.proofs.lemmas.Option.{none-some, same_Some}
@@ -15,8 +16,8 @@ use Rattle.room_http_messages.specs.declared.limits.TheConstants.{FIELD_LIMIT}
 use Rattle.dispatch_room_board.specs.declared.messages.Message.{Message}
 use Rattle.dispatch_room_board.specs.declared.troubles.Trouble.{Trouble}
 use Rattle.dispatch_room_board.specs.declared.troubles.Trouble.TheVariants.{Unheard, Foreign, Refused}
-use Rattle.dispatch_room_board.specs.Boards.{IsDatedAnswer, IsHeardAt}
-use Rattle.dispatch_room_board.specs.Listed.{IsAnswered, IsJson, IsList, IsNoAnswer}
+use Rattle.dispatch_room_board.specs.Boards.{Befalls, IsDatedAnswer, IsHeardAt, IsListed}
+use Rattle.dispatch_room_board.specs.Listed.{IsJson, IsList, IsNoAnswer}
 use Rattle.dispatch_room_board.specs.Members.{HasMember, IsRead}
 use Rattle.dispatch_room_board.specs.Messages.{Announces, HasNoMessage, IsDated, IsMessage, IsNoMessage, fields_in}
 use Rattle.dispatch_room_board.specs.Troubles.{IsTold}
@@ -90,42 +91,33 @@ heard_at bytes rest m (Some moment) same is = record { is = (m, rest, is, sym sa
 same_json : (bytes : List ℕ) (d e : Data) → IsJson bytes d → IsJson bytes e → d ≡ e
 same_json bytes d e x y = same_Some d e (sym x.1 ∙ y.1)
 
-pub not_json : {T : Type 0} (says : Data → T → Type 0) (name : List ℕ) (m : Message) → IsRead (IsJson m.content.now) None
-    → IsNoAnswer (IsAnswered says m name) m Foreign
-not_json says name m none = (record { is = λ rows h. none.is h.0 h.2 }, record { is = λ t h. none.is h.0 h.2 })
-
--- an answer that is no refusal lists what is found in it
-pub listed_or_not : {T : Type 0} (says : Data → T → Type 0) (name : List ℕ) (m : Message) (d : Data) (r : Result (List T) Trouble) (o : Option (List T))
-    → r ≡ ok_or o Foreign → m.code ≡ 200 → IsJson m.content.now d → IsRead (HasMember (IsList says) name d) o
-    → MatchResult r (IsAnswered says m name) (IsNoAnswer (IsAnswered says m name) m)
-listed_or_not {T} says name m d r o is ok json found = rw is (either o found)
+-- an answer that is no refusal lists what is found in it, if it has a date
+pub listed_or_not : {T : Type 0} (says : Data → T → Type 0) (name : List ℕ) (m : Message) (d : Data) (r : Result (List T × ℕ) Trouble) (o : Option (List T))
+    → r ≡ ok_or (option_zip o m.moment) Foreign → m.code ≡ 200 → IsJson m.content.now d → IsRead (HasMember (IsList says) name d) o
+    → MatchResult r (IsDatedAnswer says name m) (IsNoAnswer (IsDatedAnswer says name m) m)
+listed_or_not {T} says name m d r o is ok json found = rw is (either o m.moment refl found)
   where
-    either : (o : Option (List T)) → IsRead (HasMember (IsList says) name d) o
-        → MatchResult (ok_or o Foreign) (IsAnswered says m name) (IsNoAnswer (IsAnswered says m name) m)
-    either None found =
-        (record { is = λ rows h. found.is rows (rw (same_json _ d h.0 json h.2) h.3) }, record { is = λ t h. h.1 ok })
-    either (Some rows) found = (d, ok, json, found.is)
+    either : (o : Option (List T)) (moment : Option ℕ) → moment ≡ m.moment → IsRead (HasMember (IsList says) name d) o
+        → MatchResult (ok_or (option_zip o moment) Foreign) (IsDatedAnswer says name m) (IsNoAnswer (IsDatedAnswer says name m) m)
+    either None moment same found =
+        (record { is = λ x h. found.is x.0 (rw (same_json _ d h.0.0 json h.0.2) h.0.3) }, record { is = λ t h. h.1 ok })
+    either (Some rows) None same found = (record { is = λ x h. none-some x.1 (same ∙ h.1) }, record { is = λ t h. h.1 ok })
+    either (Some rows) (Some moment) same found = ((d, ok, json, found.is), sym same)
 
 -- any other refuses as is told in it
 pub refused_or_not : {T : Type 0} (says : Data → T → Type 0) (name : List ℕ) (m : Message) (d : Data) (t : Trouble) (o : Option Trouble)
-    → t ≡ unwrap_or o Foreign → m.code ≢ 200 → IsJson m.content.now d → IsRead (IsTold d) o → IsNoAnswer (IsAnswered says m name) m t
+    → t ≡ unwrap_or o Foreign → m.code ≢ 200 → IsJson m.content.now d → IsRead (IsTold d) o → IsNoAnswer (IsDatedAnswer says name m) m t
 refused_or_not says name m d t o is bad json found = rw is (either o found)
   where
-    either : (o : Option Trouble) → IsRead (IsTold d) o → IsNoAnswer (IsAnswered says m name) m (unwrap_or o Foreign)
+    either : (o : Option Trouble) → IsRead (IsTold d) o → IsNoAnswer (IsDatedAnswer says name m) m (unwrap_or o Foreign)
     either None found =
-        (record { is = λ rows h. bad h.1 }, record { is = λ t h. found.is t (rw (same_json _ d h.0 json h.2) h.3) })
+        (record { is = λ x h. bad h.0.1 }, record { is = λ t h. found.is t (rw (same_json _ d h.0 json h.2) h.3) })
     either (Some Unheard) found = absurd found.is
     either (Some Foreign) found = absurd found.is
     either (Some (Refused number error)) found = (d, bad, json, found.is)
 
--- the rows of an answer without a date
-pub undated : {T : Type 0} (says : Data → T → Type 0) (name : List ℕ) (m : Message) (rows : List T) → m.moment ≡ None → IsAnswered says m name rows
-    → IsNoAnswer (IsDatedAnswer says name m) m Foreign
-undated says name m rows none listed = (record { is = λ found h. none-some found.1 (sym none ∙ h.1) }, record { is = λ t h. h.1 listed.1 })
-
--- what is none is none with a date
-pub none_with_date : {T : Type 0} (says : Data → T → Type 0) (name : List ℕ) (m : Message) (t : Trouble) → IsNoAnswer (IsAnswered says m name) m t
-    → IsNoAnswer (IsDatedAnswer says name m) m t
-none_with_date says name m Unheard none = none
-none_with_date says name m Foreign none = (record { is = λ found h. none.0.is found.0 h.0 }, none.1)
-none_with_date says name m (Refused number error) none = none
+-- what the next answer gives
+pub next_listed : {T : Type 0} (says : Data → T → Type 0) (name heard rest : List ℕ) (m : Message) (found : Result (List T × ℕ) Trouble) → IsMessage heard m rest
+    → MatchResult found (IsDatedAnswer says name m) (IsNoAnswer (IsDatedAnswer says name m) m) → MatchResult found (IsListed says name heard rest) (Befalls says name heard rest)
+next_listed says name heard rest m (Ok rows) is h = (m, is, h)
+next_listed says name heard rest m (Err t) is h = inr (m, is, h)

@@ -14,7 +14,7 @@ use Rattle.dispatch_room_board.specs.declared.troubles.Trouble.TheVariants.{Unhe
 use Rattle.dispatch_room_board.specs.Listed.{IsAnswered, IsNoAnswer}
 use Rattle.dispatch_room_board.specs.Members.{IsRead}
 use Rattle.dispatch_room_board.specs.Messages.{IsMessage, IsNoMessage}
-use Rattle.dispatch_room_board.specs.Pages.{Adds, text_line}
+use Rattle.dispatch_room_board.specs.Pages.{Adds, spaced_line, text_line}
 use Rattle.dispatch_room_board.specs.Rows.{IsEntry, IsIncidentLine, IsLoan, IsOffer, IsPointLine, IsProposal, IsVehicleLine}
 use Rattle.dispatch_room_board.specs.Tables.{Table, entry_table, incident_table, loan_table, offer_table, point_table, proposal_table, table_lines, vehicle_table}
 use Rattle.dispatch_room_board.specs.Troubles.{told}
@@ -49,7 +49,7 @@ Befalls says name heard rest trouble =
 
 -- what stands in place of a table
 abbrev pub trouble_lines : Bool → List ℕ → Trouble → List ℕ
-trouble_lines colour title trouble = text_line colour Plain [] ++ text_line colour Alarm (told title trouble)
+trouble_lines colour title trouble = spaced_line colour Alarm (told title trouble)
 
 -- the rows of the next answer are shown as they were at its moment
 pub record ShowsRows {T : Type 0} (says : Data → T → Type 0) (table : Table T) (old new : Sheet) : Type 0 where

@@ -27,6 +27,10 @@ line_of colour paint text = opening_of colour paint ++ text ++ closing_of colour
 abbrev pub text_line : Bool → Paint → List ℕ → List ℕ
 text_line colour paint text = line_of colour paint (take WIDEST text)
 
+-- an empty line, and a line of a text
+abbrev pub spaced_line : Bool → Paint → List ℕ → List ℕ
+spaced_line colour paint text = text_line colour Plain [] ++ text_line colour paint text
+
 -- a page has these bytes more
 abbrev pub Adds : Page → Page → List ℕ → Type 0
 Adds old new bytes = (new.text.items ≡ old.text.items ++ bytes) × (new.colour ≡ old.colour)

@@ -23,10 +23,9 @@ abbrev pub proposals_of : Option ℕ → List ℕ → List ℕ
 proposals_of None fields = []
 proposals_of (Some n) fields = get (proposals_path n) fields
 
--- all requests of a desk, one after another
-unfoldable pub requests : List ℕ → Option ℕ → List ℕ
-requests token incident =
-    let fields = fields_of token in
+-- all requests of a desk, one after another, with these fields
+unfoldable pub requests_with : List ℕ → Option ℕ → List ℕ
+requests_with fields incident =
     get (codes "/queue") fields
     ++ get (codes "/incidents") fields
     ++ proposals_of incident fields
@@ -34,6 +33,9 @@ requests token incident =
     ++ get (codes "/points") fields
     ++ get (codes "/offers") fields
     ++ last_get (codes "/loans") fields
+
+unfoldable pub requests : List ℕ → Option ℕ → List ℕ
+requests token incident = requests_with (fields_of token) incident
 
 -- all bytes were written, or the first of them before a write failed
 abbrev pub Tells : {W : Type 0} → (W → Option (List ℕ)) → (W → Bool) → W → W → List ℕ → Bool → Type 0

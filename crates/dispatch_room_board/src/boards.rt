@@ -1,6 +1,6 @@
 //! The board: the tables of what was heard, and how much of it could be reached.
-ghost use Rattle.std.specs.Prelude.{◌≡◌, IfOk};
-ghost use Rattle.dispatch_room_board.specs.Boards.{IsBoard, reached_with};
+ghost use Rattle.std.specs.Prelude.{◌≡◌, ℕ, Bool, IfOk, List, OnOk};
+ghost use Rattle.dispatch_room_board.specs.Boards.{IsBoard, IsEmpty, reached_with};
 
 use crate::pages::Page;
 use crate::sheets::Sheet;
@@ -50,6 +50,16 @@ pub fn board_of(
     ensures { IfOk result (IsBoard heard.now proposes colour) }
 {
     let mut sheet = Sheet::new(alloc, heard, colour);
+    put_all(&mut sheet, proposes)?;
+    Ok(sheet.board())
+}
+
+// Adds all of a board to an empty sheet.
+fn put_all(sheet: &mut Sheet<'_>, proposes: bool) -> Result<(), AllocError>
+    ensures { OnOk result ((heard : List ℕ) (colour : Bool) → IsEmpty heard colour sheet.old
+        → IsBoard heard proposes colour
+        (record { page = sheet.new.page; reached = sheet.new.reached })) }
+{
     sheet.put_moment()?;
     sheet.put_table::<Entry>()?;
     sheet.put_table::<IncidentLine>()?;
@@ -57,6 +67,5 @@ pub fn board_of(
     sheet.put_table::<VehicleLine>()?;
     sheet.put_table::<PointLine>()?;
     sheet.put_table::<Offer>()?;
-    sheet.put_table::<Loan>()?;
-    Ok(sheet.board())
+    sheet.put_table::<Loan>()
 }

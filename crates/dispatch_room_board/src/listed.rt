@@ -1,41 +1,37 @@
 //! The rows of one answer.
-ghost use Rattle.std.specs.Prelude.{IfOk, MatchResult, option_map};
+ghost use Rattle.std.specs.Prelude.{IfOk, MatchResult};
 ghost use Rattle.serde_json.specs.View.{items_view, view};
 ghost use Rattle.dispatch_room_board.specs.Members.{HasMember, IsRead};
-ghost use Rattle.dispatch_room_board.specs.Listed.{AreRows, IsAnswered, IsJson, IsList, IsNoAnswer};
+ghost use Rattle.dispatch_room_board.specs.Boards.{IsDatedAnswer};
+ghost use Rattle.dispatch_room_board.specs.Listed.{AreRows, IsJson, IsList, IsNoAnswer};
 
 use crate::members::FromJson;
 use crate::messages::Message;
 use crate::troubles::{Trouble, refusal_in};
 use room_types::answers::Listed;
+use room_types::numbers::Moment;
 use serde_json::Value;
 use serde_json::error::Category;
 use std::alloc::{AllocError, Global};
 
-// What an answer's content says; none where it is no JSON.
-fn read(alloc: Global, content: &[u8]) -> Result<Option<Value>, AllocError>
-    ensures { IfOk result (λ value. IsRead (IsJson content.now) (option_map view value)) }
-{
-    match Value::from_slice(alloc, content) {
-        Ok(value) => Ok(Some(value)),
-        Err(error) if error.classify() == Category::Memory => Err(AllocError),
-        Err(_) => Ok(None),
-    }
-}
+/// Rows with the moment of their answer, or why there are none.
+pub type Found<T> = Result<(Listed<T>, Moment), Trouble>;
 
-/// The rows that an answer lists under a name, or why there are none: it is a refusal, or no answer
-/// of a room.
+/// The rows that an answer lists under a name, with its moment, or why there are none: it is a
+/// refusal, or no answer of a room. An answer without a date is none.
 pub fn rows_of<T: FromJson>(
     alloc: Global,
     message: &Message<'_>,
     name: &str,
-) -> Result<Result<Listed<T>, Trouble>, AllocError>
-    ensures { IfOk result (λ rows. MatchResult rows (IsAnswered T.says message.now name.now)
-        (IsNoAnswer (IsAnswered T.says message.now name.now) message.now)) }
+) -> Result<Found<T>, AllocError>
+    ensures { IfOk result (λ found. MatchResult found
+        (IsDatedAnswer T.says name.now message.now)
+        (IsNoAnswer (IsDatedAnswer T.says name.now message.now) message.now)) }
 {
-    match read(alloc, message.content)? {
-        Some(value) => rows_said(alloc, message, &value, name),
-        None => Ok(Err(Trouble::Foreign)),
+    match Value::from_slice(alloc, message.content) {
+        Ok(value) => rows_said(alloc, message, &value, name),
+        Err(error) if error.classify() == Category::Memory => Err(AllocError),
+        Err(_) => Ok(Err(Trouble::Foreign)),
     }
 }
 
@@ -45,15 +41,17 @@ fn rows_said<T: FromJson>(
     message: &Message<'_>,
     value: &Value,
     name: &str,
-) -> Result<Result<Listed<T>, Trouble>, AllocError>
+) -> Result<Found<T>, AllocError>
     requires { IsJson message.now.content.now (view value.now) }
-    ensures { IfOk result (λ rows. MatchResult rows (IsAnswered T.says message.now name.now)
-        (IsNoAnswer (IsAnswered T.says message.now name.now) message.now)) }
+    ensures { IfOk result (λ found. MatchResult found
+        (IsDatedAnswer T.says name.now message.now)
+        (IsNoAnswer (IsDatedAnswer T.says name.now message.now) message.now)) }
 {
-    if message.code == 200 {
-        return Ok(rows_in(alloc, value, name)?.ok_or(Trouble::Foreign));
+    if message.code != 200 {
+        return Ok(Err(refusal_in(value).unwrap_or(Trouble::Foreign)));
     }
-    Ok(Err(refusal_in(value).unwrap_or(Trouble::Foreign)))
+    let rows = rows_in(alloc, value, name)?;
+    Ok(rows.zip(message.moment).ok_or(Trouble::Foreign))
 }
 
 // The rows in the list of a name; none where there is no such list.

@@ -30,7 +30,7 @@ impl Page {
     ghost use Rattle.std.specs.Prelude.{◌≡◌, ◌≤◌, [], length, map, OnOk};
     ghost use Rattle.dispatch_room_board.specs.Cells.{text_of};
     ghost use Rattle.dispatch_room_board.specs.Columns.{row_of, width_of};
-    ghost use Rattle.dispatch_room_board.specs.Pages.{Adds, closing_of, line_of, opening_of, text_line};
+    ghost use Rattle.dispatch_room_board.specs.Pages.{Adds, closing_of, line_of, opening_of, spaced_line, text_line};
 
     /// A page without lines.
     pub fn new(alloc: Global, colour: bool) -> Page
@@ -58,6 +58,15 @@ impl Page {
         self.begin(paint)?;
         self.text.extend_from_slice(cut(text.as_bytes(), WIDEST))?;
         self.end(paint)
+    }
+
+    /// Adds an empty line, and a line of a text.
+    pub fn put_spaced(&mut self, paint: Paint, text: &str) -> Result<(), AllocError>
+        ensures { OnOk result (Adds self.old self.new
+            (spaced_line self.old.colour paint text.now)) }
+    {
+        self.put_line(Paint::Plain, "")?;
+        self.put_line(paint, text)
     }
 
     /// Adds a row, each cell in its column.

@@ -1,6 +1,6 @@
 //! What a board asks a room for: GETs alone.
 ghost use Rattle.std.specs.Prelude.{◌≡◌, ◌++◌, IfOk, OnOk, string_bytes};
-ghost use Rattle.dispatch_room_board.specs.Requests.{fields_of, get, proposals_of, proposals_path, requests};
+ghost use Rattle.dispatch_room_board.specs.Requests.{get, proposals_of, requests, requests_with};
 
 use room_types::numbers::Number;
 use room_types::token::Token;
@@ -15,31 +15,29 @@ pub struct Asker {
 
 /// The bytes of all requests, one after another, of which the last asks that the connection is
 /// closed. A token has letters and digits alone, so it can't end a field.
-#[tactic(auto, unfolding(crate::specs::Requests::requests, crate::specs::Requests::last_get))]
 pub fn requests(alloc: Global, asker: &Asker) -> Result<String, AllocError>
     ensures { IfOk result (λ text. string_bytes text ≡
         requests asker.now.token asker.now.incident) }
 {
-    let fields = fields_of(alloc, asker.token)?;
-    let fields = fields.as_str();
+    let token = asker.token.as_str();
+    let fields = format!(in alloc; " HTTP/1.1\r\nHost: room\r\nX-Terminal: {token}\r\n")?;
     let mut text = String::new(alloc);
-    put_get(&mut text, "/queue", fields)?;
-    put_get(&mut text, "/incidents", fields)?;
-    put_proposals(alloc, &mut text, asker.incident, fields)?;
-    put_get(&mut text, "/vehicles", fields)?;
-    put_get(&mut text, "/points", fields)?;
-    put_get(&mut text, "/offers", fields)?;
-    write!(text, "GET /loans{fields}Connection: close\r\n\r\n")?;
+    put_requests(&mut text, asker.incident, fields.as_str())?;
     Ok(text)
 }
 
-// What follows the path in each request, up to the fields that only some have.
-#[tactic(auto, unfolding(crate::specs::Requests::fields_of))]
-fn fields_of(alloc: Global, token: Token) -> Result<String, AllocError>
-    ensures { IfOk result (λ text. string_bytes text ≡ fields_of token) }
+// Adds all requests. The fields are what follows the path in each, up to those that only some have.
+fn put_requests(text: &mut String, incident: Option<Number>, fields: &str) -> Result<(), AllocError>
+    ensures { OnOk result (string_bytes text.new ≡ string_bytes text.old ++
+        requests_with fields.now incident) }
 {
-    let token = token.as_str();
-    format!(in alloc; " HTTP/1.1\r\nHost: room\r\nX-Terminal: {token}\r\n")
+    put_get(text, "/queue", fields)?;
+    put_get(text, "/incidents", fields)?;
+    put_proposals(text, incident, fields)?;
+    put_get(text, "/vehicles", fields)?;
+    put_get(text, "/points", fields)?;
+    put_get(text, "/offers", fields)?;
+    write!(text, "GET /loans{fields}Connection: close\r\n\r\n")
 }
 
 // Adds the GET of a path.
@@ -53,7 +51,6 @@ fn put_get(text: &mut String, path: &str, fields: &str) -> Result<(), AllocError
 
 // Adds the request for the proposals, where they are wanted.
 fn put_proposals(
-    alloc: Global,
     text: &mut String,
     incident: Option<Number>,
     fields: &str,
@@ -63,17 +60,9 @@ fn put_proposals(
 {
     match incident {
         Some(number) => {
-            let path = proposals_path(alloc, number)?;
-            put_get(text, path.as_str(), fields)
+            let number = number.get();
+            write!(text, "GET /incidents/{number}/propose{fields}\r\n")
         }
         None => Ok(()),
     }
-}
-
-// The path of an incident's proposals.
-fn proposals_path(alloc: Global, incident: Number) -> Result<String, AllocError>
-    ensures { IfOk result (λ path. string_bytes path ≡ proposals_path incident) }
-{
-    let number = incident.get();
-    format!(in alloc; "/incidents/{number}/propose")
 }

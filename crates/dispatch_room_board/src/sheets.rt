@@ -1,19 +1,17 @@
 //! A board that is being made.
-ghost use Rattle.std.specs.Prelude.{◌≡◌, IfOk, MatchResult, string_bytes};
-ghost use Rattle.httpdate.specs.Date.{date_text, unix_secs};
-ghost use Rattle.httpdate.specs.declared.date.HttpDate.{HttpDate as Date};
-ghost use Rattle.dispatch_room_board.specs.Boards.{IsDatedAnswer, IsHeardAt};
-ghost use Rattle.dispatch_room_board.specs.Listed.{IsNoAnswer};
+ghost use Rattle.std.specs.Prelude.{◌≡◌};
+ghost use Rattle.httpdate.specs.Date.{unix_secs};
+ghost use Rattle.dispatch_room_board.specs.Boards.{IsHeardAt};
 ghost use Rattle.dispatch_room_board.specs.Members.{IsRead};
 
 use crate::boards::{Board, Reached};
-use crate::listed::rows_of;
-use crate::messages::{Message, first_message};
+use crate::listed::{Found, rows_of};
+use crate::messages::first_message;
 use crate::pages::{Page, Paint};
-use crate::tables::Tabled;
+use crate::tables::{Tabled, put_rows};
 use crate::troubles::{Trouble, told};
-use httpdate::{HttpDate, fmt_http_date};
-use room_types::answers::{Listed, Proposal};
+use httpdate::HttpDate;
+use room_types::answers::Proposal;
 use room_types::numbers::Moment;
 use std::alloc::{AllocError, Global};
 
@@ -26,15 +24,10 @@ pub struct Sheet<'a> {
     reached: Reached,
 }
 
-/// Rows with the moment of their answer, or why there are none.
-type Found<T> = Result<(Listed<T>, Moment), Trouble>;
-
 impl<'a> Sheet<'a> {
     ghost use Rattle.std.specs.Prelude.{◌≡◌, [], IfOk, MatchResult, OnOk};
-    ghost use Rattle.dispatch_room_board.specs.Boards.{Befalls, IsHead, IsListed, IsShown, Puts, ShowsProposals, reached_with, trouble_lines};
-    ghost use Rattle.dispatch_room_board.specs.Messages.{IsMessage, IsNoMessage};
+    ghost use Rattle.dispatch_room_board.specs.Boards.{Befalls, IsHead, IsListed, IsShown, ShowsProposals, reached_with, trouble_lines};
     ghost use Rattle.dispatch_room_board.specs.Pages.{Adds};
-    ghost use Rattle.dispatch_room_board.specs.Tables.{row_lines, table_lines, titles_line};
     ghost use Rattle.dispatch_room_board.specs.declared.boards.Reached.TheVariants.{All};
 
     /// A sheet without lines.
@@ -70,8 +63,7 @@ impl<'a> Sheet<'a> {
                 .page
                 .put_line(Paint::Alarm, "Room at no moment: nothing was heard");
         };
-        let date = date_of(self.alloc, moment)?;
-        let date = date.as_str();
+        let date = date_of(moment);
         let line = format!(in self.alloc; "Room at {date}")?;
         self.page.put_line(Paint::Plain, line.as_str())
     }
@@ -91,41 +83,9 @@ impl<'a> Sheet<'a> {
         ensures { OnOk result (IsShown T.says T.table self.old self.new) }
     {
         match self.next_rows::<T>()? {
-            Ok((rows, now)) => self.put_rows(&rows, now),
+            Ok((rows, now)) => put_rows(self.alloc, &mut self.page, &rows, now),
             Err(trouble) => self.put_trouble(T::layout().title, trouble),
         }
-    }
-
-    fn put_rows<T: Tabled>(&mut self, rows: &Listed<T>, now: Moment) -> Result<(), AllocError>
-        ensures { OnOk result (Puts self.old self.new
-            (table_lines T.table self.old.page.colour now rows.now)) }
-    {
-        let (title, count) = (T::layout().title, rows.len());
-        let line = format!(in self.alloc; "{title}: {count}")?;
-        self.page.put_line(Paint::Plain, "")?;
-        self.page.put_line(Paint::Title, line.as_str())?;
-        self.put_titles(rows)?;
-        self.put_lines(rows, now)
-    }
-
-    fn put_titles<T: Tabled>(&mut self, rows: &Listed<T>) -> Result<(), AllocError>
-        ensures { OnOk result (Puts self.old self.new
-            (titles_line T.table self.old.page.colour rows.now)) }
-    {
-        if rows.is_empty() {
-            return Ok(());
-        }
-        self.page.put_line(Paint::Plain, T::layout().titles)
-    }
-
-    fn put_lines<T: Tabled>(&mut self, rows: &Listed<T>, now: Moment) -> Result<(), AllocError>
-        ensures { OnOk result (Puts self.old self.new
-            (row_lines T.table self.old.page.colour now rows.now)) }
-    {
-        for row in rows.as_slice() {
-            row.put(self.alloc, now, &mut self.page)?;
-        }
-        Ok(())
     }
 
     fn put_trouble(&mut self, title: &str, trouble: Trouble) -> Result<(), AllocError>
@@ -136,51 +96,24 @@ impl<'a> Sheet<'a> {
     {
         self.reached = self.reached.with(&trouble);
         let line = told(self.alloc, title, &trouble)?;
-        self.page.put_line(Paint::Plain, "")?;
-        self.page.put_line(Paint::Alarm, line.as_str())
+        self.page.put_spaced(Paint::Alarm, line.as_str())
     }
 
-    // The rows of the next answer.
+    // The rows of the next answer. Where none can be read, nothing is taken, so none can be read
+    // after it.
     fn next_rows<T: Tabled>(&mut self) -> Result<Found<T>, AllocError>
         ensures found { IfOk result (λ found. MatchResult found
             (IsListed T.says T.table.name self.old.rest.now self.new.rest.now)
             (Befalls T.says T.table.name self.old.rest.now self.new.rest.now)) }
         ensures page { (self.new.page ≡ self.old.page) × (self.new.reached ≡ self.old.reached) }
     {
-        match self.next_message() {
-            Ok(message) => dated_rows::<T>(self.alloc, &message),
-            Err(trouble) => Ok(Err(trouble)),
-        }
-    }
-
-    // The next answer. Where none can be read, nothing is taken, so none can be read after it.
-    fn next_message(&mut self) -> Result<Message<'a>, Trouble>
-        ensures message { MatchResult result
-            (λ message. IsMessage self.old.rest.now message self.new.rest.now)
-            (λ trouble. (self.new.rest ≡ self.old.rest)
-            × IsNoMessage self.old.rest.now trouble) }
-        ensures page { (self.new.page ≡ self.old.page) × (self.new.reached ≡ self.old.reached) }
-    {
         match first_message(self.rest) {
             Ok((message, rest)) => {
                 self.rest = rest;
-                Ok(message)
+                rows_of(self.alloc, &message, T::layout().name)
             }
-            Err(trouble) => Err(trouble),
+            Err(trouble) => Ok(Err(trouble)),
         }
-    }
-}
-
-// The rows of an answer with its moment. An answer without a date is none of a room.
-fn dated_rows<T: Tabled>(alloc: Global, message: &Message<'_>) -> Result<Found<T>, AllocError>
-    ensures { IfOk result (λ found. MatchResult found
-        (IsDatedAnswer T.says T.table.name message.now)
-        (IsNoAnswer (IsDatedAnswer T.says T.table.name message.now) message.now)) }
-{
-    match (rows_of(alloc, message, T::layout().name)?, message.moment) {
-        (Ok(rows), Some(moment)) => Ok(Ok((rows, moment))),
-        (Ok(_), None) => Ok(Err(Trouble::Foreign)),
-        (Err(trouble), _) => Ok(Err(trouble)),
     }
 }
 
@@ -194,11 +127,9 @@ fn moment_of(heard: &[u8]) -> Option<Moment>
     }
 }
 
-// A moment as HTTP writes it.
-fn date_of(alloc: Global, moment: Moment) -> Result<String, AllocError>
-    ensures { IfOk result (λ text. (date : Date) × (unix_secs date ≡ moment)
-        × (string_bytes text ≡ date_text date)) }
+// The date of a moment.
+fn date_of(moment: Moment) -> HttpDate
+    ensures { unix_secs result ≡ moment }
 {
-    let date = HttpDate::from_unix_secs(u64::from(moment.get())).unwrap();
-    fmt_http_date(alloc, date)
+    HttpDate::from_unix_secs(u64::from(moment.get())).unwrap()
 }

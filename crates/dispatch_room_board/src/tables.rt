@@ -1,11 +1,13 @@
 //! A table of the board.
-ghost use Rattle.std.specs.Prelude.{◌≡◌, OnOk};
-ghost use Rattle.dispatch_room_board.specs.Pages.{Adds};
-ghost use Rattle.dispatch_room_board.specs.Tables.{IsLayout, Table, alarm_of, row_line};
+ghost use Rattle.std.specs.Prelude.{◌≡◌, ◌++◌, OnOk, codes, decimal};
+ghost use Rattle.dispatch_room_board.specs.Pages.{Adds, spaced_line};
+ghost use Rattle.dispatch_room_board.specs.Tables.{IsLayout, Table, alarm_of, row_line, table_lines};
+ghost use Rattle.dispatch_room_board.specs.declared.pages.Paint.TheVariants.{Title};
 
 use crate::columns::Column;
 use crate::members::FromJson;
 use crate::pages::{Page, Paint};
+use room_types::answers::Listed;
 use room_types::numbers::Moment;
 use std::alloc::{AllocError, Global};
 
@@ -40,4 +42,34 @@ pub fn alarm(wrong: bool) -> Paint
     ensures { result ≡ alarm_of wrong }
 {
     if wrong { Paint::Alarm } else { Paint::Plain }
+}
+
+/// Adds a table: how many rows it has, and the rows as they are at a moment.
+pub fn put_rows<T: Tabled>(
+    alloc: Global,
+    page: &mut Page,
+    rows: &Listed<T>,
+    now: Moment,
+) -> Result<(), AllocError>
+    ensures { OnOk result (Adds page.old page.new
+        (table_lines T.table page.old.colour now rows.now)) }
+{
+    let layout = T::layout();
+    put_count(alloc, page, layout.title, rows.len())?;
+    if rows.is_empty() {
+        return Ok(());
+    }
+    page.put_line(Paint::Plain, layout.titles)?;
+    for row in rows.as_slice() {
+        row.put(alloc, now, page)?;
+    }
+    Ok(())
+}
+
+fn put_count(alloc: Global, page: &mut Page, title: &str, count: usize) -> Result<(), AllocError>
+    ensures { OnOk result (Adds page.old page.new
+        (spaced_line page.old.colour Title (title.now ++ codes ": " ++ decimal count))) }
+{
+    let line = format!(in alloc; "{title}: {count}")?;
+    page.put_spaced(Paint::Title, line.as_str())
 }

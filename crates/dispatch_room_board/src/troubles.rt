@@ -76,7 +76,6 @@ pub fn refusal_in(value: &Value) -> Option<Trouble>
 }
 
 /// What is said in place of the table of a title.
-#[tactic(auto, unfolding(crate::specs::Troubles::told))]
 pub fn told(alloc: Global, title: &str, trouble: &Trouble) -> Result<String, AllocError>
     ensures { IfOk result (λ text. string_bytes text ≡ told title.now trouble.now) }
 {

@@ -5,5 +5,5 @@
 pub mod dry_run;
 pub mod example;
 pub mod laws;
-pub mod rooms;
+mod rooms;
 pub mod talks;

@@ -15,7 +15,9 @@ use Rattle.dispatch_room_journal.specs.Entries.{Entry, message, IsEntry, text_of
 use Rattle.dispatch_room_journal.specs.Readings.{SaysOf, FirstIs}
 use Rattle.dispatch_room_replaying.specs.declared.faults.ReplayFault.{ReplayFault}
 use Rattle.dispatch_room_replaying.specs.declared.faults.ReplayFault.TheVariants.{Bad, Differs, Another, ReadFailed, WriteFailed, Want}
+use Rattle.dispatch_room_replaying.specs.declared.faults.Stopped.{Stopped}
 use Rattle.dispatch_room_replaying.specs.Turns.{Turn, BeginsWith}
+use Rattle.dispatch_room_replaying.specs.Replays.{Unless}
 use Rattle.dispatch_room_replaying.specs.Faults.{read_fault, IsBroken, IsNoMessage, IsWanting, IsBad, broken, unasked, headless, no_message, broken_after, too_many, Explains, IsDueTo, Refuses}
 
 pub not_both : (b : Bool) → b ≡ false → b ≡ true → ⊥
@@ -109,3 +111,25 @@ refuses_due read_failed write_failed sent fault read write (inr x) = wanting_due
 -- what a failed write says is said of the writer alone
 pub due_with : (read_failed write_failed : Bool) (fault : ReplayFault) → write_failed ≡ false → IsDueTo read_failed false fault → IsDueTo read_failed write_failed fault
 due_with read_failed write_failed fault is x = subst (λ (b : Bool). IsDueTo read_failed b fault) (sym is) x
+
+-- what was kept before, and then unless memory or storage was wanting
+pub unless_after : (fault : ReplayFault) (A B C : Type 0) → (A → B) → Unless fault (B → C) → Unless fault (A → C)
+unless_after Bad A B C first then = λ a. then (first a)
+unless_after Differs A B C first then = λ a. then (first a)
+unless_after Another A B C first then = λ a. then (first a)
+unless_after ReadFailed A B C first then = λ a. then (first a)
+unless_after WriteFailed A B C first then = λ a. then (first a)
+unless_after (Want r) A B C first then = tt
+
+-- what holds whatever the fault is
+pub unless_known : (fault : ReplayFault) (P : Type 0) → P → Unless fault P
+unless_known Bad P x = x
+unless_known Differs P x = x
+unless_known Another P x = x
+unless_known ReadFailed P x = x
+unless_known WriteFailed P x = x
+unless_known (Want r) P x = tt
+
+-- where the replay stopped by this fault
+pub stopped_kept : (s : Stopped) (fault : ReplayFault) (number : ℕ) (P : Type 0) → s ≡ record { fault = fault; number = number } → Unless fault P → Unless s.fault P
+stopped_kept s fault number P is x = subst (λ (t : Stopped). Unless t.fault P) (sym is) x

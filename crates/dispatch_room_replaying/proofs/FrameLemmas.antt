@@ -1,7 +1,7 @@
 -- Lemmas on answers that are written as their messages are played.
-use Rattle.std.proofs.Common.{◌≡◌, ◌∙◌, sym, ap, subst, refl, ℕ, List, [], ◌∷◌, ◌++◌, append-nil, Bool, true, false, Option, Some, None, Ok}
+use Rattle.std.proofs.Common.{◌≡◌, ◌∙◌, sym, ap, subst, refl, ℕ, ◌+◌, ◌-◌, ◌^◌, min, List, [], ◌∷◌, ◌++◌, append-nil, Bool, true, false, Option, Some, None, Ok}
 use Rattle.std.specs.List.{flat_map}
-use Rattle.std.specs.Io.KnownBytes.{Appends, Consumes, Keeps}
+use Rattle.std.specs.Io.KnownBytes.{Appends, Consumes}
 use Rattle.std.proofs.KnownBytes.{Consumes-kept}
 use Rattle.std.proofs.lemmas.Grind.{flat_map-append}
 use Rattle.room_types.specs.declared.fleet.Terminal.{Terminal}
@@ -10,18 +10,22 @@ use Rattle.room_http_messages.proofs.StreamLemmas.{Appends-more}
 use Rattle.room_http_time.specs.declared.zones.Zone.{Zone}
 use Rattle.room_http.specs.Talk.{IsFront}
 use Rattle.room_service.specs.Rooms.{Step}
+use Rattle.dispatch_room_journal.specs.declared.looks.Layout.{Layout}
 use Rattle.dispatch_room_journal.specs.Entries.{message, answer, IsEntry, texts_of}
+use Rattle.dispatch_room_replaying.specs.declared.entries.Next.{Next}
+use Rattle.dispatch_room_replaying.specs.declared.entries.Next.TheVariants.{Message}
 use Rattle.dispatch_room_replaying.specs.declared.faults.ReplayFault.{ReplayFault}
+use Rattle.dispatch_room_replaying.specs.declared.progress.Progress.{Progress}
 use Rattle.dispatch_room_journal.specs.Records.{status_in}
 use Rattle.dispatch_room_replaying.specs.Turns.{Play, Turn, answered, tried, plays_in, plays_of, has_message, is_left_out, IsPlayed, BeginsWith}
 use Rattle.dispatch_room_replaying.specs.Faults.{Explains, IsDueTo}
 use Rattle.dispatch_room_replaying.specs.Replays.{DigestOf, Leads, LeadsElsewhere}
-use Rattle.dispatch_room_replaying.specs.Steps.{Stays, Passes, StopsIn}
-use Rattle.dispatch_room_replaying.specs.Frames.{frame_of, frames_of, FollowIs}
+use Rattle.dispatch_room_replaying.specs.Steps.{NextIs, Passes, StopsIn}
+use Rattle.dispatch_room_replaying.specs.Frames.{frame_of, frames_of, FollowIs, EachIs, AnswersTurn}
 use Rattle.dispatch_room_replaying.proofs.FaultLemmas.{begins_explain}
 use Rattle.dispatch_room_replaying.proofs.StepLemmas.{WasPlayed, Shows, played_stops}
 use Rattle.dispatch_room_replaying.proofs.EntryLemmas.{taken_two}
-use Rattle.dispatch_room_replaying.proofs.TurnLemmas.{one_by, two_by, consumes_begins, keeps_consumes, Leads-after, passes_one}
+use Rattle.dispatch_room_replaying.proofs.TurnLemmas.{one_by, two_by, consumes_begins, keeps_consumes, message_progress, Leads-after, passes_one}
 
 -- frames, one after another
 pub frames_append : (us ts : List Turn) → frames_of us ++ frames_of ts ≡ frames_of (us ++ ts)
@@ -95,14 +99,29 @@ each_follows step zone digest_of trusted stood stands before mid at sent slice p
     (begins_explain mid [] false ⊥ ⊥ (true ≡ false) ⊥ (λ digest. ⊥) (LeadsElsewhere step zone digest_of trusted stood stands (tried p ∷ [])) (tried p ∷ []) fault
     (λ never. absurd never) (λ never. never) (λ digest never. absurd never) (follows p same))
 
-module _ (step : Step) (zone : Zone) (digest_of : DigestOf) (early late : Type 0) (earlier : late → early) (stood middle stands : List Terminal → Room → Type 0) (before mid after : Option (List ℕ))
-    (stays : Stays early stood middle) (same : Keeps before mid) where
-  pub passes_after : (Kind : Turn → Type 0) (ts : List Turn) → Passes step zone digest_of late middle stands mid after None Kind ts → Passes step zone digest_of late stood stands before after None Kind ts
-  passes_after Kind ts x = record {
-    turns = x.turns;
-    kinds = x.kinds;
-    entries = x.entries;
-    read = keeps_consumes before mid after _ same x.read;
-    unanswered = x.unanswered;
-    leads = Leads-after step zone digest_of early late stood middle stands ts earlier stays x.leads;
-  }
+-- a message is next: it was played, and its answer was written
+module _ (step : Step) (zone : Zone) (digest_of : DigestOf) (early late : Type 0) (earlier : late → early) (stood middle stands : List Terminal → Room → Type 0)
+    (before mid after held holds : Option (List ℕ)) (kept : List ℕ) (looked read_failed write_failed : Bool) (at : ℕ) (layout : Layout) (next : Next) (is : next ≡ Message at layout) (old new : Progress)
+    (noted : new ≡ record old { records = min (old.records + 1) (2 ^ 64 - 1); is_open = false }) where
+  pub each_turn : NextIs digest_of early stood middle before mid looked None old.is_begun kept (Ok next)
+      → EachIs step zone digest_of late middle stands mid after held holds at read_failed write_failed (Ok tt)
+      → AnswersTurn step zone digest_of late stood stands before after held holds old new read_failed write_failed (Ok true)
+  each_turn found x = go (subst (λ (n : Next). NextIs digest_of early stood middle before mid looked None old.is_begun kept (Ok n)) is found)
+    where
+      go : NextIs digest_of early stood middle before mid looked None old.is_begun kept (Ok (Message at layout))
+          → AnswersTurn step zone digest_of late stood stands before after held holds old new read_failed write_failed (Ok true)
+      go y = (
+        x.0 ∷ [],
+        record {
+          turns = x.1.turns;
+          kinds = x.1.kinds;
+          entries = x.1.entries;
+          read = keeps_consumes before mid after _ y.3 x.1.read;
+          unanswered = x.1.unanswered;
+          leads = Leads-after step zone digest_of early late stood middle stands (x.0 ∷ []) earlier y.6 x.1.leads;
+        },
+        message_progress x.0 false old new x.2 x.3 y.4 noted,
+        λ _. (x.4, x.5, refl),
+        λ never. absurd (cc),
+        x.6,
+      )

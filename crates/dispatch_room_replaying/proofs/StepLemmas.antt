@@ -1,6 +1,7 @@
 -- Lemmas on the steps of a replay.
-use Rattle.std.proofs.Common.{◌≡◌, ◌∙◌, sym, ap, subst, refl, arith, ℕ, List, [], ◌∷◌, drop, decimal, Bool, true, false, ◌↔◌, IsTrue, Option, Some, Ok, Err, inl, inr}
-use Rattle.std.specs.Io.KnownBytes.{Consumes}
+use Rattle.std.proofs.Common.{◌≡◌, ◌∙◌, sym, ap, subst, refl, arith, ℕ, List, [], ◌∷◌, drop, decimal, Bool, true, false, ◌↔◌, IsTrue, Option, Some, Result, Ok, Err, inl, inr}
+use Rattle.std.specs.Io.KnownBytes.{Consumes, prepend_known}
+use Rattle.std.proofs.KnownBytes.{Consumes-kept, Keeps-refl}
 use Rattle.room_types.specs.declared.fleet.Terminal.{Terminal}
 use Rattle.room_model.specs.Room.{Room}
 use Rattle.room_http_time.specs.declared.zones.Zone.{Zone}
@@ -11,16 +12,17 @@ use Rattle.dispatch_room_journal.specs.declared.looks.Layout.{Layout}
 use Rattle.dispatch_room_journal.specs.declared.reading.Fault.{Fault}
 use Rattle.dispatch_room_journal.specs.Entries.{Entry, room, message, answer, IsEntry, line_of, texts_of}
 use Rattle.dispatch_room_journal.specs.Looks.{IsLayout}
-use Rattle.dispatch_room_journal.specs.Readings.{FirstIs}
+use Rattle.dispatch_room_journal.specs.Readings.{FirstIs, ReadsEntry}
 use Rattle.dispatch_room_replaying.specs.declared.faults.ReplayFault.{ReplayFault}
 use Rattle.dispatch_room_replaying.specs.declared.faults.ReplayFault.TheVariants.{Differs, Another}
+use Rattle.dispatch_room_replaying.specs.declared.messages.Turned.TheVariants.{Played, LeftOut}
 use Rattle.dispatch_room_journal.specs.Records.{status_in}
 use Rattle.dispatch_room_replaying.specs.Turns.{Play, Turn, answered, caught_up, tried, left_out, timed, IsPlay, AreBy, BeginsWith}
 use Rattle.dispatch_room_replaying.specs.Faults.{read_fault, IsWanting, broken_after, Explains, IsDueTo, Refuses}
 use Rattle.dispatch_room_replaying.specs.Replays.{DigestOf, Leads, LeadsElsewhere}
-use Rattle.dispatch_room_replaying.specs.Steps.{Stays, TurnOf, Deviates, StopsAt, StopsIn, ComesTo}
+use Rattle.dispatch_room_replaying.specs.Steps.{Stays, TurnOf, Deviates, StopsAt, StopsIn, ComesTo, Settles, MessageIs}
 use Rattle.dispatch_room_replaying.proofs.FaultLemmas.{not_both, known_after, begins_one, read_explains, wanting_explains, wanting_due, refuses_explains, refuses_due}
-use Rattle.dispatch_room_replaying.proofs.EntryLemmas.{layout_of_mark}
+use Rattle.dispatch_room_replaying.proofs.EntryLemmas.{layout_of_mark, taken, taken_two, no_status_front}
 use Rattle.dispatch_room_replaying.proofs.TurnLemmas.{one_by}
 
 -- the message was played, with this answer
@@ -63,9 +65,9 @@ module _ (step : Step) (zone : Zone) (digest_of : DigestOf) (trusted : Type 0) (
   wanting_stops told line fault x want = inr (x.0, x.1, x.2, x.4, leads_tried told x, inr (inr want))
 
   -- a line is that of its entry
-  pub stops_line : (line other : Line) (fault : ReplayFault) → line ≡ other → StopsAt step zone digest_of trusted stood stands at sent other fault
-      → StopsAt step zone digest_of trusted stood stands at sent line fault
-  stops_line line other fault is x = subst (λ (l : Line). StopsAt step zone digest_of trusted stood stands at sent l fault) (sym is) x
+  pub settles_line : (line other : Line) (result : Result Bool ReplayFault) → line ≡ other → Settles step zone digest_of trusted stood stands at sent other result
+      → Settles step zone digest_of trusted stood stands at sent line result
+  settles_line line other result is x = subst (λ (l : Line). Settles step zone digest_of trusted stood stands at sent l result) (sym is) x
 
   pub left_turn : Stays trusted stood stands → TurnOf step zone digest_of trusted stood stands at sent [] true
   left_turn stays = record {
@@ -217,7 +219,7 @@ module _ (waits : Bool) (step : Step) (zone : Zone) (digest_of : DigestOf) (trus
     deviates_due p line fault read write (inr (inl x)) = subst (λ (f : ReplayFault). IsDueTo read_failed write_failed f) (sym x.0) (read, write)
     deviates_due p line fault read write (inr (inr x)) = wanting_due read_failed write_failed fault read write x
 
-    pub settled_stops : (layout : Layout) (fault : ReplayFault) → ((text : List ℕ) → mid ≡ Some text → FirstIs text (Ok (Some layout))) → read_failed ≡ false → write_failed ≡ false
+    settled_stops : (layout : Layout) (fault : ReplayFault) → ((text : List ℕ) → mid ≡ Some text → FirstIs text (Ok (Some layout))) → read_failed ≡ false → write_failed ≡ false
         → StopsAt step zone digest_of trusted stood stands at sent layout.line fault → (last : List Turn) × Stops fault last
     settled_stops layout fault first read write (inl x) = ([], refused_stops fault read write x.0 x.1)
     settled_stops layout fault first read write (inr x) = (
@@ -229,3 +231,45 @@ module _ (waits : Bool) (step : Step) (zone : Zone) (digest_of : DigestOf) (trus
           (y.0, y.2, deviates_explains x.0 layout found.0 fault y.0 found.1 x.5))
           (deviates_due x.0 layout.line fault read write x.5),
     )
+
+-- a message was copied
+pub copied : (kept : List ℕ) (layout : Layout) (at : ℕ) (sent copy : List ℕ) → IsLayout kept layout (message at sent) → copy ≡ sent → IsLayout kept layout (message at copy)
+copied kept layout at sent copy x same = subst (λ (t : List ℕ). IsLayout kept layout (message at t)) (sym same) x
+
+-- a message was copied and taken, and then the next entry was read
+module _ {R : Type 0} (left : R → Option (List ℕ)) (has_failed has_ended : R → Bool) (old new : R) (step : Step) (zone : Zone) (digest_of : DigestOf) (trusted : Type 0)
+    (stood stands : List Terminal → Room → Type 0) (kept mid ahead : List ℕ) (at : ℕ) (layout next : Layout) (sent copy : List ℕ) (is : IsLayout kept layout (message at sent)) (same : copy ≡ sent)
+    (gone : mid ≡ drop layout.end kept) (found : Option Layout) (some : found ≡ Some next) (came : ReadsEntry left has_failed has_ended old new mid ahead (Ok found)) where
+  front : IsLayout kept layout (message at copy)
+  front = copied kept layout at sent copy is same
+
+  took : Consumes (prepend_known kept (left old)) (prepend_known mid (left old)) (texts_of (message at copy ∷ []))
+  took = taken (prepend_known kept (left old)) (left old) kept mid layout (message at copy) front (Keeps-refl (prepend_known kept (left old))) gone
+
+  read : ReadsEntry left has_failed has_ended old new mid ahead (Ok (Some next))
+  read = subst (λ (o : Option Layout). ReadsEntry left has_failed has_ended old new mid ahead (Ok o)) some came
+
+  took_one : Consumes (prepend_known kept (left old)) (prepend_known ahead (left new)) (texts_of (message at copy ∷ []))
+  took_one = Consumes-kept (prepend_known kept (left old)) (prepend_known mid (left old)) (prepend_known ahead (left new)) (texts_of (message at copy ∷ [])) took read.same
+
+  abbrev Settled : Bool → Type 0
+  Settled takes = Settles step zone digest_of trusted stood stands at copy next.line (Ok takes)
+
+  pub settled_played : (rest : List ℕ) (takes : Bool) → takes ≡ true → Settled takes → rest ≡ drop next.end ahead
+      → MessageIs step zone digest_of trusted stood stands (prepend_known kept (left old)) (prepend_known rest (left new)) (has_failed new) at (Ok Played)
+  settled_played rest takes true_is x out =
+      let y = subst Settled true_is x in
+      let mark = layout_of_mark ahead next read.says.0.0 y.0 read.says.0.1 y.1 y.2 in
+      let second = taken (prepend_known ahead (left new)) (left new) ahead rest next y.0 mark (Keeps-refl (prepend_known ahead (left new))) out in
+      (copy, y.0, y.1, y.3, front.begins.0, mark.begins.0, taken_two _ _ _ (message at copy) y.0 took_one second, read.says.1)
+
+  pub settled_left : (takes : Bool) → takes ≡ false → Settled takes
+      → MessageIs step zone digest_of trusted stood stands (prepend_known kept (left old)) (prepend_known ahead (left new)) (has_failed new) at (Ok LeftOut)
+  settled_left takes false_is x =
+      let y = subst Settled false_is x in (copy, y.0, front.begins.0, took_one, read.says.1, no_status_front (left new) ahead next read.says.0.0 read.says.0.1 y.1)
+
+  pub settled_fault : (fault : ReplayFault) → StopsAt step zone digest_of trusted stood stands at copy next.line fault
+      → MessageIs step zone digest_of trusted stood stands (prepend_known kept (left old)) (prepend_known ahead (left new)) (has_failed new) at (Err fault)
+  settled_fault fault x =
+      settled_stops true step zone digest_of trusted stood stands (prepend_known kept (left old)) at copy front.begins.0 (has_failed new) false (prepend_known mid (left old)) took next fault read.first
+      read.says.1 refl x

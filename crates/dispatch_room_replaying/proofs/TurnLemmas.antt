@@ -1,5 +1,5 @@
 -- Lemmas on the turns of a replay, one after another.
-use Rattle.std.proofs.Common.{◌≡◌, ◌∙◌, sym, ap, subst, refl, arith, ℕ, ◌+◌, ◌-◌, ◌^◌, ◌≤◌, min, List, [], ◌∷◌, ◌++◌, append-nil, append_assoc, length, Bool, true, false, cond, Option, Some, None}
+use Rattle.std.proofs.Common.{◌≡◌, ◌∙◌, sym, ap, subst, refl, arith, ℕ, ◌+◌, ◌-◌, ◌^◌, ◌≤◌, min, List, [], ◌∷◌, ◌++◌, append-nil, append_assoc, length, Bool, true, false, cond, Option, Some, None, Ok}
 use Rattle.std.proofs.Common.{◌⊎◌, inl, inr}
 use Rattle.std.specs.Prelude.{All, count_by}
 use Rattle.std.specs.Io.KnownBytes.{Consumes, Keeps, IsAtEnd}
@@ -13,16 +13,21 @@ use Rattle.room_model.specs.Room.{Room}
 use Rattle.room_http_time.specs.declared.zones.Zone.{Zone}
 use Rattle.room_service.specs.Rooms.{Step}
 use Rattle.room_http.specs.Talk.{IsTalk}
+use Rattle.dispatch_room_journal.specs.declared.looks.Layout.{Layout}
 use Rattle.dispatch_room_journal.specs.Entries.{Entry, room, message, answer, IsEntry, text_of, texts_of}
+use Rattle.dispatch_room_replaying.specs.declared.entries.Next.{Next}
+use Rattle.dispatch_room_replaying.specs.declared.entries.Next.TheVariants.{Head, Message}
 use Rattle.dispatch_room_replaying.specs.declared.faults.ReplayFault.{ReplayFault}
 use Rattle.dispatch_room_replaying.specs.declared.faults.ReplayFault.TheVariants.{Bad, Want}
 use Rattle.dispatch_room_replaying.specs.declared.faults.Stopped.{Stopped}
+use Rattle.dispatch_room_replaying.specs.declared.messages.Turned.{Turned}
+use Rattle.dispatch_room_replaying.specs.declared.messages.Turned.TheVariants.{Played, LeftOut, Last}
 use Rattle.dispatch_room_replaying.specs.declared.progress.Progress.{Progress}
 use Rattle.dispatch_room_replaying.specs.Turns.{Play, Turn, head, answered, caught_up, tried, left_out, entries_in, entries_of, arrivals_of, bytes_of, has_message, is_left_out, is_unanswered}
 use Rattle.dispatch_room_replaying.specs.Turns.{ends_open, ends_unanswered, IsPlay, IsTurn, IsReplayed, IsBy, AreBy, IsBegun, StartsBy, HasNoStatus, BeginsWith, EndsAt, AreTurns}
 use Rattle.dispatch_room_replaying.specs.Faults.{too_many, Explains, IsDueTo}
 use Rattle.dispatch_room_replaying.specs.Replays.{DigestOf, IsReplay, Leads, LeadsElsewhere, LeadsTalking, StopsAfter}
-use Rattle.dispatch_room_replaying.specs.Steps.{Stays, IsMark, IsElsewhere, IsProgress, Progresses, Passes, StopsIn}
+use Rattle.dispatch_room_replaying.specs.Steps.{Stays, IsMark, TurnOf, MessageIs, IsElsewhere, NextIs, IsProgress, Progresses, Passes, StopsIn, TakesTurn}
 use Rattle.dispatch_room_replaying.proofs.FaultLemmas.{begins_explain}
 
 -- the last turn
@@ -38,7 +43,7 @@ ends_unanswered-append (u ∷ []) (t ∷ ts) one = refl
 ends_unanswered-append (u ∷ v ∷ us) ts one = ends_unanswered-append (v ∷ us) ts one
 
 -- a turn of a replay that has a message, and no entry after it, leaves it out
-pub replayed_answered : (t : Turn) → IsReplayed t → is_left_out t ≡ false → is_unanswered t ≡ true → ⊥
+replayed_answered : (t : Turn) → IsReplayed t → is_left_out t ≡ false → is_unanswered t ≡ true → ⊥
 replayed_answered (head digest) replayed left is = cc
 replayed_answered (answered p status) replayed left is = cc
 replayed_answered (caught_up p digest) replayed left is = cc
@@ -75,7 +80,7 @@ new_progress p is = record {
   begun = subst (λ b. StartsBy b []) (sym (ap (λ q. q.is_begun) is)) refl;
 }
 
-pub head_progress : (digest : List ℕ) (old new : Progress) → new ≡ record old { is_open = false; is_begun = true } → Progresses old new (head digest ∷ [])
+head_progress : (digest : List ℕ) (old new : Progress) → new ≡ record old { is_open = false; is_begun = true } → Progresses old new (head digest ∷ [])
 head_progress digest old new is us x = record {
   records = ap (λ p. p.records) is ∙ x.records ∙ ap (λ n. min n (2 ^ 64 - 1)) (sym (counted us));
   opens = ap (λ p. p.is_open) is ∙ sym (ends_open-snoc us (head digest));
@@ -130,7 +135,7 @@ consumes_begins (Some x) (Some y) entries more follows took begins text is =
     (next.0, sym same ∙ took ∙ ap (λ t. texts_of entries ++ t) next.1 ∙ sym (append_assoc (texts_of entries) (texts_of more) next.0) ∙ ap (λ t. t ++ next.0) (sym (flat_map-append text_of entries more)), next.2)
 
 -- what was taken was the rest
-pub consumes_all : (a b : Option (List ℕ)) (entries : List Entry) (until : Option ℕ) → Consumes a b (texts_of entries) → IsAtEnd b → BeginsWith a entries (EndsAt until)
+consumes_all : (a b : Option (List ℕ)) (entries : List Entry) (until : Option ℕ) → Consumes a b (texts_of entries) → IsAtEnd b → BeginsWith a entries (EndsAt until)
 consumes_all None b entries until took end text is = absurd (cc)
 consumes_all (Some x) None entries until took end text is = absurd took
 consumes_all (Some x) (Some y) entries until took end text is =
@@ -165,7 +170,7 @@ pub two_by : (until : Option ℕ) (at : ℕ) (sent other : List ℕ) (e : Entry)
 two_by until at sent other e by is mark e_is =
     All-cons (IsIn until) (message at other) (e ∷ []) (is, message_by until at sent other by) (all_one (IsIn until) e (e_is, mark_by until e mark))
 
-pub head_by : (until : Option ℕ) (digest : List ℕ) → IsEntry (room digest) → AreBy until (room digest ∷ [])
+head_by : (until : Option ℕ) (digest : List ℕ) → IsEntry (room digest) → AreBy until (room digest ∷ [])
 head_by until digest is = all_one (IsIn until) (room digest) (is, mark_by until (room digest) tt)
 
 module _ (step : Step) (zone : Zone) (digest_of : DigestOf) where
@@ -198,6 +203,23 @@ module _ (step : Step) (zone : Zone) (digest_of : DigestOf) where
           leads = leads;
         }
 
+-- a head is next
+module _ (step : Step) (zone : Zone) (digest_of : DigestOf) (trusted : Type 0) (stood stands : List Terminal → Room → Type 0) (before after : Option (List ℕ)) (until : Option ℕ) (Kind : Turn → Type 0)
+    (kind : (digest : List ℕ) → Kind (head digest)) (failed : Bool) (kept : List ℕ) (old new : Progress) (noted : new ≡ record old { is_open = false; is_begun = true }) (next : Next) (is : next ≡ Head) where
+  pub head_turn : NextIs digest_of trusted stood stands before after failed until old.is_begun kept (Ok next)
+      → (digest : List ℕ) × Passes step zone digest_of trusted stood stands before after until Kind (head digest ∷ []) × Progresses old new (head digest ∷ []) × (failed ≡ false)
+  head_turn found = go (subst (λ (n : Next). NextIs digest_of trusted stood stands before after failed until old.is_begun kept (Ok n)) is found)
+    where
+      go : NextIs digest_of trusted stood stands before after failed until old.is_begun kept (Ok Head)
+          → (digest : List ℕ) × Passes step zone digest_of trusted stood stands before after until Kind (head digest ∷ []) × Progresses old new (head digest ∷ []) × (failed ≡ false)
+      go x = (
+        x.0,
+        passes_one step zone digest_of trusted stood stands before after until Kind (head x.0) (room x.0 ∷ []) tt (kind x.0) refl (head_by until x.0 x.1) x.2
+            (λ trust terminals held stood_for. let y = x.4 trust terminals held stood_for in (held, (held, (refl, y.0), refl), y.1)) (λ never. absurd (cc)),
+        head_progress x.0 old new noted,
+        x.3,
+      )
+
 -- what stood next stopped it
 module _ (waits : Bool) (step : Step) (zone : Zone) (digest_of : DigestOf) (trusted : Type 0) (stood stands : List Terminal → Room → Type 0) (before : Option (List ℕ)) (until : Option ℕ) where
   pub next_stops : (is_begun : Bool) (fault : ReplayFault) (read_failed write_failed : Bool) → Stays trusted stood stands
@@ -222,7 +244,7 @@ module _ (waits : Bool) (step : Step) (zone : Zone) (digest_of : DigestOf) (earl
       let is = All-head (IsIn (Some at)) (message x.0.at x.0.sent) [] x.2 in
       inr (x.0, x.1, all_one (IsIn until) (message x.0.at x.0.sent) (is.0, earlier_by until at x.0.at sent x.0.sent by is.1), begun, x.4)
 
-  pub turn_stops : (is_begun : Bool) (fault : ReplayFault) (read_failed write_failed : Bool) (last : List Turn) → is_begun ≡ true
+  turn_stops : (is_begun : Bool) (fault : ReplayFault) (read_failed write_failed : Bool) (last : List Turn) → is_begun ≡ true
       → StopsIn step zone digest_of late mid stands waits b (Some at) true fault read_failed write_failed last
       → StopsIn step zone digest_of late stood stands waits a until is_begun fault read_failed write_failed last
   turn_stops is_begun fault read_failed write_failed last begun x = record {
@@ -234,6 +256,74 @@ module _ (waits : Bool) (step : Step) (zone : Zone) (digest_of : DigestOf) (earl
     leads = Leads-after step zone digest_of early late stood mid stands last earlier stays x.leads;
     due = x.due;
   }
+
+-- what became of a message that is next: whether it is left out, and whether the replay goes on
+abbrev leaves : Turned → Bool
+leaves Played = false
+leaves LeftOut = true
+leaves Last = true
+
+abbrev goes_on : Turned → Bool
+goes_on Played = true
+goes_on LeftOut = true
+goes_on Last = false
+
+-- a message is next, and it stopped the replay, or this became of it
+module _ (step : Step) (zone : Zone) (digest_of : DigestOf) (early late : Type 0) (earlier : late → early) (stood mid stands : List Terminal → Room → Type 0)
+    (a b : Option (List ℕ)) (until : Option ℕ) (kept : List ℕ) (looked : Bool) (at : ℕ) (layout : Layout) (next : Next) (is : next ≡ Message at layout) (old : Progress)
+    (x : NextIs digest_of early stood mid a b looked until old.is_begun kept (Ok next)) where
+  front : NextIs digest_of early stood mid a b looked until old.is_begun kept (Ok (Message at layout))
+  front = subst (λ (n : Next). NextIs digest_of early stood mid a b looked until old.is_begun kept (Ok n)) is x
+
+  pub stops_message : (waits : Bool) (fault : ReplayFault) (read_failed write_failed : Bool) (last : List Turn)
+      → StopsIn step zone digest_of late mid stands waits b (Some at) true fault read_failed write_failed last
+      → StopsIn step zone digest_of late stood stands waits a until old.is_begun fault read_failed write_failed last
+  stops_message waits fault read_failed write_failed last y =
+      turn_stops waits step zone digest_of early late earlier stood mid stands a b until at front.0 front.6 front.3 front.2 old.is_begun fault read_failed write_failed last front.4 y
+
+  module _ (c : Option (List ℕ)) (failed : Bool) (new : Progress) where
+    one_passes : (sent : List ℕ) (taken : List Entry) (left : Bool) (t : TurnOf step zone digest_of late mid stands at sent taken left) → AreBy until (message at sent ∷ taken)
+        → Consumes b c (texts_of (message at sent ∷ taken)) → (is_unanswered t.turn ≡ true → BeginsWith c [] HasNoStatus)
+        → Passes step zone digest_of late stood stands a c until IsReplayed (t.turn ∷ [])
+    one_passes sent taken left t by took unanswered =
+        passes_one step zone digest_of late stood stands a c until IsReplayed t.turn (message at sent ∷ taken) t.is t.replayed t.entries by
+        (keeps_consumes a b c (texts_of (message at sent ∷ taken)) front.3 took)
+        (Leads-after step zone digest_of early late stood mid stands (t.turn ∷ []) earlier front.6 t.leads) unanswered
+
+    left_passes : (sent : List ℕ) (t : TurnOf step zone digest_of late mid stands at sent [] true) → IsEntry (message at sent) → Consumes b c (texts_of (message at sent ∷ []))
+        → BeginsWith c [] HasNoStatus → Passes step zone digest_of late stood stands a c until IsReplayed (t.turn ∷ [])
+    left_passes sent t entry took none = one_passes sent [] true t (one_by until at front.0 sent front.2 entry) took (λ _. none)
+
+    pub takes_message : (turned : Turned) (r : Turned) → r ≡ turned → MessageIs step zone digest_of late mid stands b c failed at (Ok r)
+        → new ≡ record old { records = min (old.records + 1) (2 ^ 64 - 1); is_open = leaves turned }
+        → TakesTurn step zone digest_of late stood stands a c until IsReplayed old new failed (Ok (goes_on turned))
+    takes_message turned r same y noted = go turned (subst (λ (t : Turned). MessageIs step zone digest_of late mid stands b c failed at (Ok t)) same y) noted
+      where
+        go : (turned : Turned) → MessageIs step zone digest_of late mid stands b c failed at (Ok turned)
+            → new ≡ record old { records = min (old.records + 1) (2 ^ 64 - 1); is_open = leaves turned }
+            → TakesTurn step zone digest_of late stood stands a c until IsReplayed old new failed (Ok (goes_on turned))
+        go Played y noted = (
+          y.3.turn ∷ [],
+          one_passes y.0 (y.1 ∷ []) false y.3 (two_by until at front.0 y.0 y.1 front.2 y.4 y.2 y.5) y.6 (λ ends. absurd (replayed_answered y.3.turn y.3.replayed y.3.leaves ends)),
+          message_progress y.3.turn false old new y.3.counts y.3.leaves front.4 noted,
+          λ _. (y.7, refl),
+          λ never. absurd (cc),
+        )
+        go LeftOut y noted = (
+          y.1.turn ∷ [],
+          left_passes y.0 y.1 y.2 y.3 y.5,
+          message_progress y.1.turn true old new y.1.counts y.1.leaves front.4 noted,
+          λ _. (y.4, refl),
+          λ never. absurd (cc),
+        )
+        go Last (y, end) noted =
+            let passes = left_passes y.0 y.1 y.2 y.3 y.5 in (
+              y.1.turn ∷ [],
+              passes,
+              message_progress y.1.turn true old new y.1.counts y.1.leaves front.4 noted,
+              λ never. absurd (cc),
+              λ _. consumes_all a c (entries_of (y.1.turn ∷ [])) until passes.read end,
+            )
 
 module _ (step : Step) (zone : Zone) (digest_of : DigestOf) (terminals : List Terminal) where
   IsReplay-append : (held mid after : Room) (us ts : List Turn) → IsReplay step zone digest_of terminals held us mid → IsReplay step zone digest_of terminals mid ts after

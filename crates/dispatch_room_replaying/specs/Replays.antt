@@ -1,5 +1,6 @@
 -- What a replay does: the turns of a journal, and the room after them.
 use Rattle.std.specs.Prelude.{◌≡◌, ◌⊎◌, ℕ, ◌+◌, ◌-◌, ◌^◌, ⊤, min, List, [], ◌∷◌, ◌++◌, length, All, count_by, Bool, true, false, Option, Result, Ok, Err}
+use Rattle.hex.specs.Hex.{encode_lower}
 use Rattle.room_types.specs.declared.fleet.Terminal.{Terminal}
 use Rattle.room_model.specs.Room.{Room}
 use Rattle.room_http_time.specs.declared.zones.Zone.{Zone}
@@ -16,6 +17,10 @@ use Rattle.dispatch_room_replaying.specs.Faults.{Explains, IsDueTo}
 -- the digest of a room's rows, with its terminals, in digits
 abbrev pub DigestOf : Type 0
 DigestOf = List Terminal → Room → List ℕ
+
+-- what a journal writes of the digest that a room tells
+abbrev pub digits_of : (List Terminal → Room → List ℕ) → DigestOf
+digits_of digest_of terminals room = encode_lower (digest_of terminals room)
 
 module _ (step : Step) (zone : Zone) (digest_of : DigestOf) (terminals : List Terminal) where
   -- the room after a message, and its answer

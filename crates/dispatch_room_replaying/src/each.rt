@@ -4,9 +4,8 @@ ghost use Rattle.std.specs.Io.KnownBytes.{prepend_known};
 ghost use Rattle.dispatch_room_journal.specs.Entries.{message};
 ghost use Rattle.dispatch_room_journal.specs.Looks.{IsLayout};
 ghost use Rattle.dispatch_room_replaying.specs.Frames.{AnswersEach, AnswersTurn, EachIs, FollowIs};
-ghost use Rattle.dispatch_room_replaying.specs.Replays.{UnlessStopped, UnlessWant};
+ghost use Rattle.dispatch_room_replaying.specs.Replays.{UnlessStopped, UnlessWant, digits_of};
 
-use crate::digests::Digested;
 use crate::entries::{Next, next_entry, read_fault};
 use crate::faults::{ReplayFault, Stopped};
 use crate::frames::put_frame;
@@ -21,6 +20,7 @@ use room_http_messages::sinks::Sink;
 use room_http_messages::sources::Source;
 use room_http_requests::routes::Routes;
 use room_http_time::zones::Zone;
+use room_service::digests::Digested;
 use room_types::numbers::Moment;
 use std::alloc::Global;
 
@@ -47,7 +47,7 @@ fn follow<R: Source>(
                     Err(ReplayFault::Differs)
                 }
             }
-            Line::Room(_) | Line::Message { .. } => Ok(false),
+            _ => Ok(false),
         },
     }
 }
@@ -71,7 +71,7 @@ fn answer_message<R: Source, W: Sink, M: Digested>(
     requires front { (sent : List ℕ) × IsLayout inbox.old.kept layout.now (message at sent) }
     ensures ready { M.is_ready room.new }
     ensures trusted { M.is_trusted room.new → M.is_trusted room.old }
-    ensures turn { EachIs M.step zone.now M.digest_of (M.is_trusted room.new)
+    ensures turn { EachIs M.step zone.now (digits_of M.digest_of) (M.is_trusted room.new)
         (M.stands room.old) (M.stands room.new)
         (prepend_known inbox.old.kept (R.left reader.old))
         (prepend_known inbox.new.kept (R.left reader.new)) (W.held writer.old) (W.held writer.new)
@@ -110,7 +110,7 @@ fn answer_turn<R: Source, W: Sink, M: Digested>(
     requires writer { W.has_failed writer.old ≡ false }
     ensures ready { M.is_ready room.new }
     ensures trusted { M.is_trusted room.new → M.is_trusted room.old }
-    ensures turn { AnswersTurn M.step zone.now M.digest_of (M.is_trusted room.new)
+    ensures turn { AnswersTurn M.step zone.now (digits_of M.digest_of) (M.is_trusted room.new)
         (M.stands room.old) (M.stands room.new)
         (prepend_known inbox.old.kept (R.left reader.old))
         (prepend_known inbox.new.kept (R.left reader.new)) (W.held writer.old) (W.held writer.new)
@@ -118,7 +118,7 @@ fn answer_turn<R: Source, W: Sink, M: Digested>(
     ensures kept { M.is_trusted room.new → UnlessWant result (M.is_kept room.old
         → M.is_kept room.new) }
 {
-    match next_entry(alloc, inbox, reader, room, &None, progress.is_begun) {
+    match next_entry(inbox, reader, room, &None, progress.is_begun) {
         Err(fault) => Err(fault),
         Ok(next) => match &next {
             Next::End => Ok(false),
@@ -157,7 +157,7 @@ fn answer_turns<R: Source, W: Sink, M: Digested>(
     requires empty { inbox.old.kept ≡ [] }
     ensures ready { M.is_ready room.new }
     ensures trusted { M.is_trusted room.new → M.is_trusted room.old }
-    ensures answers { AnswersEach M.step zone.now M.digest_of (M.is_trusted room.new)
+    ensures answers { AnswersEach M.step zone.now (digits_of M.digest_of) (M.is_trusted room.new)
         (M.stands room.old) (M.stands room.new) (R.left reader.old) (W.held writer.old)
         (W.held writer.new) (R.has_failed reader.new) (W.has_failed writer.new) result }
     ensures kept { M.is_trusted room.new → UnlessStopped result (M.is_kept room.old
@@ -198,17 +198,17 @@ pub fn answer_each<R: Source, W: Sink, M: Digested>(
     requires ready { M.is_ready room.old }
     ensures ready { M.is_ready room.new }
     ensures trusted { M.is_trusted room.new → M.is_trusted room.old }
-    ensures answers { AnswersEach M.step zone.now M.digest_of (M.is_trusted room.new)
+    ensures answers { AnswersEach M.step zone.now (digits_of M.digest_of) (M.is_trusted room.new)
         (M.stands room.old) (M.stands room.new) (R.left reader.old) (W.held writer.old)
         (W.held writer.new) (R.has_failed reader.new) (W.has_failed writer.new) result }
     ensures kept { M.is_trusted room.new → UnlessStopped result (M.is_kept room.old
         → M.is_kept room.new) }
 {
-    let Ok(routes) = Routes::new(alloc) else {
+    let Ok(mut inbox) = JournalInbox::new(alloc) else {
         return Err(memory());
     };
-    match JournalInbox::new(alloc) {
-        Ok(mut inbox) => answer_turns(alloc, &routes, zone, &mut inbox, reader, writer, room),
+    match Routes::new(alloc) {
+        Ok(routes) => answer_turns(alloc, &routes, zone, &mut inbox, reader, writer, room),
         Err(_) => Err(memory()),
     }
 }

@@ -2,11 +2,10 @@
 ghost use Rattle.std.specs.Prelude.{◌≡◌, ◌↔◌, false, IsTrue};
 ghost use Rattle.std.specs.Io.KnownBytes.{prepend_known};
 ghost use Rattle.dispatch_room_replaying.specs.Faults.{read_fault};
-ghost use Rattle.dispatch_room_replaying.specs.Replays.{UnlessWant};
+ghost use Rattle.dispatch_room_replaying.specs.Replays.{UnlessWant, digits_of};
 ghost use Rattle.dispatch_room_replaying.specs.Steps.{NextIs};
 ghost use Rattle.dispatch_room_replaying.specs.Turns.{IsAfter};
 
-use crate::digests::Digested;
 use crate::faults::ReplayFault;
 use crate::playing::is_at;
 use dispatch_room_journal::inbox::JournalInbox;
@@ -14,8 +13,8 @@ use dispatch_room_journal::lines::Line;
 use dispatch_room_journal::looks::Layout;
 use dispatch_room_journal::reading::{Fault, read_entry};
 use room_http_messages::sources::Source;
+use room_service::digests::Digested;
 use room_types::numbers::Moment;
-use std::alloc::Global;
 
 /// What stands next in a journal.
 #[derive(Clone, Copy)]
@@ -50,7 +49,6 @@ fn is_after(until: &Option<Moment>, at: Moment) -> bool
 
 /// What stands next in a journal, up to a moment. A head is compared with the room, and taken.
 pub fn next_entry<R: Source, M: Digested>(
-    alloc: Global,
     inbox: &mut JournalInbox,
     reader: &mut R,
     room: &mut M,
@@ -61,7 +59,7 @@ pub fn next_entry<R: Source, M: Digested>(
     requires sound { R.has_failed reader.old ≡ false }
     ensures ready { M.is_ready room.new }
     ensures trusted { M.is_trusted room.new → M.is_trusted room.old }
-    ensures next { NextIs M.digest_of (M.is_trusted room.new) (M.stands room.old)
+    ensures next { NextIs (digits_of M.digest_of) (M.is_trusted room.new) (M.stands room.old)
         (M.stands room.new) (prepend_known inbox.old.kept (R.left reader.old))
         (prepend_known inbox.new.kept (R.left reader.new)) (R.has_failed reader.new) until.now
         is_begun inbox.new.kept result }
@@ -72,7 +70,7 @@ pub fn next_entry<R: Source, M: Digested>(
         Err(fault) => Err(read_fault(fault)),
         Ok(None) => Ok(Next::End),
         Ok(Some(layout)) => match &layout.line {
-            Line::Room(digest) => match is_at(alloc, room, digest) {
+            Line::Room(digest) => match is_at(room, digest) {
                 Ok(true) => {
                     inbox.remove(&layout);
                     Ok(Next::Head)

@@ -2,7 +2,6 @@
 //! the journal begins, and their answers compared with those that it tells of.
 #![tactic(auto)]
 
-pub mod digests;
 pub mod each;
 pub mod entries;
 pub mod faults;
@@ -13,4 +12,3 @@ pub mod playing;
 pub mod progress;
 pub mod replaying;
 pub mod settling;
-pub mod stores;

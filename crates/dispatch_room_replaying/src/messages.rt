@@ -3,10 +3,9 @@ ghost use Rattle.std.specs.Prelude.{◌≡◌, ℕ, List, false};
 ghost use Rattle.std.specs.Io.KnownBytes.{prepend_known};
 ghost use Rattle.dispatch_room_journal.specs.Entries.{message};
 ghost use Rattle.dispatch_room_journal.specs.Looks.{IsLayout};
-ghost use Rattle.dispatch_room_replaying.specs.Replays.{UnlessWant};
+ghost use Rattle.dispatch_room_replaying.specs.Replays.{UnlessWant, digits_of};
 ghost use Rattle.dispatch_room_replaying.specs.Steps.{MessageIs};
 
-use crate::digests::Digested;
 use crate::entries::read_fault;
 use crate::faults::ReplayFault;
 use crate::settling::settle;
@@ -16,6 +15,7 @@ use dispatch_room_journal::reading::read_entry;
 use room_http_messages::sources::Source;
 use room_http_requests::routes::Routes;
 use room_http_time::zones::Zone;
+use room_service::digests::Digested;
 use room_types::numbers::Moment;
 use room_types::refusals::Refusal;
 use std::alloc::Global;
@@ -48,7 +48,7 @@ pub fn replay_message<R: Source, M: Digested>(
     requires front { (sent : List ℕ) × IsLayout inbox.old.kept layout.now (message at sent) }
     ensures ready { M.is_ready room.new }
     ensures trusted { M.is_trusted room.new → M.is_trusted room.old }
-    ensures turn { MessageIs M.step zone.now M.digest_of (M.is_trusted room.new)
+    ensures turn { MessageIs M.step zone.now (digits_of M.digest_of) (M.is_trusted room.new)
         (M.stands room.old) (M.stands room.new)
         (prepend_known inbox.old.kept (R.left reader.old))
         (prepend_known inbox.new.kept (R.left reader.new)) (R.has_failed reader.new) at result }

@@ -8,11 +8,11 @@ ghost use Rattle.room_http_messages.specs.Layouts.{Shows};
 ghost use Rattle.room_http_messages.specs.Messages.{WholeMessage, HasMessage};
 ghost use Rattle.dispatch_room_replaying.specs.Faults.{IsNoMessage, IsWanting};
 ghost use Rattle.dispatch_room_journal.specs.Records.{status_in};
-ghost use Rattle.dispatch_room_replaying.specs.Replays.{UnlessWant};
+ghost use Rattle.dispatch_room_replaying.specs.Replays.{UnlessWant, digits_of};
 ghost use Rattle.dispatch_room_replaying.specs.Steps.{Plays};
 
-use crate::digests::Digested;
 use crate::faults::ReplayFault;
+use dispatch_room_journal::digests::digest_of;
 use dispatch_room_journal::lines::DIGEST_DIGITS;
 use dispatch_room_journal::statuses::status_in;
 use itoa::Buffer;
@@ -22,6 +22,7 @@ use room_http_messages::looks::{Look, look_at};
 use room_http_messages::messages::Message;
 use room_http_requests::routes::Routes;
 use room_http_time::zones::Zone;
+use room_service::digests::Digested;
 use room_service::rooms::Room;
 use room_types::numbers::Moment;
 use std::alloc::Global;
@@ -96,11 +97,7 @@ pub fn has_status(answer: &[u8], status: u16) -> bool
 }
 
 /// Whether the digest of the room's rows is this one.
-pub fn is_at<M: Digested>(
-    alloc: Global,
-    room: &mut M,
-    digest: &[u8; DIGEST_DIGITS],
-) -> Result<bool, ReplayFault>
+pub fn is_at<M: Digested>(room: &mut M, digest: &[u8; DIGEST_DIGITS]) -> Result<bool, ReplayFault>
     requires { M.is_ready room.old }
     ensures ready { M.is_ready room.new }
     ensures trusted { M.is_trusted room.new → M.is_trusted room.old }
@@ -108,13 +105,13 @@ pub fn is_at<M: Digested>(
         → M.stands room.old terminals room_then → M.stands room.new terminals room_then }
     ensures says { M.is_trusted room.new → IfOk result (λ is. (terminals : List Terminal)
         (room_then : Held) → M.stands room.old terminals room_then
-        → (IsTrue is ↔ (M.digest_of terminals room_then ≡ digest.now))) }
+        → (IsTrue is ↔ (digits_of M.digest_of terminals room_then ≡ digest.now))) }
     ensures kept { M.is_trusted room.new → UnlessWant result (M.is_kept room.old
         → M.is_kept room.new) }
     ensures wants { IfErr result IsWanting }
 {
-    match room.digest(alloc) {
-        Ok(digits) => Ok(digits.as_slice() == digest.as_slice()),
+    match room.digest() {
+        Ok(hash) => Ok(digest_of(&hash).as_slice() == digest.as_slice()),
         Err(refusal) => Err(ReplayFault::Want(refusal)),
     }
 }

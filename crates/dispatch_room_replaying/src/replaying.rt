@@ -3,11 +3,10 @@ ghost use Rattle.std.specs.Prelude.{◌≡◌, ◌+◌, [], false, min};
 ghost use Rattle.std.specs.Io.KnownBytes.{prepend_known};
 ghost use Rattle.room_types.specs.declared.refusals.Refusal.TheVariants.{Memory};
 ghost use Rattle.dispatch_room_replaying.specs.declared.faults.ReplayFault.TheVariants.{Want};
-ghost use Rattle.dispatch_room_replaying.specs.Replays.{Replays, UnlessStopped, UnlessWant};
+ghost use Rattle.dispatch_room_replaying.specs.Replays.{Replays, UnlessStopped, UnlessWant, digits_of};
 ghost use Rattle.dispatch_room_replaying.specs.Steps.{TakesTurn};
 ghost use Rattle.dispatch_room_replaying.specs.Turns.{IsReplayed};
 
-use crate::digests::Digested;
 use crate::entries::{Next, next_entry};
 use crate::faults::{ReplayFault, Stopped};
 use crate::messages::{Turned, replay_message};
@@ -16,6 +15,7 @@ use dispatch_room_journal::inbox::JournalInbox;
 use room_http_messages::sources::Source;
 use room_http_requests::routes::Routes;
 use room_http_time::zones::Zone;
+use room_service::digests::Digested;
 use room_types::numbers::Moment;
 use room_types::refusals::Refusal;
 use std::alloc::Global;
@@ -44,17 +44,17 @@ pub fn replay<R: Source, M: Digested>(
     requires ready { M.is_ready room.old }
     ensures ready { M.is_ready room.new }
     ensures trusted { M.is_trusted room.new → M.is_trusted room.old }
-    ensures replay { Replays M.step zone.now M.digest_of (M.is_trusted room.new)
+    ensures replay { Replays M.step zone.now (digits_of M.digest_of) (M.is_trusted room.new)
         (M.stands room.old) (M.stands room.new) (R.left reader.old) until.now
         (R.has_failed reader.new) result }
     ensures kept { M.is_trusted room.new → UnlessStopped result (M.is_kept room.old
         → M.is_kept room.new) }
 {
-    let Ok(routes) = Routes::new(alloc) else {
+    let Ok(mut inbox) = JournalInbox::new(alloc) else {
         return Err(memory());
     };
-    match JournalInbox::new(alloc) {
-        Ok(mut inbox) => replay_turns(alloc, &routes, zone, &mut inbox, reader, room, until),
+    match Routes::new(alloc) {
+        Ok(routes) => replay_turns(alloc, &routes, zone, &mut inbox, reader, room, until),
         Err(_) => Err(memory()),
     }
 }
@@ -74,7 +74,7 @@ fn replay_turns<R: Source, M: Digested>(
     requires empty { inbox.old.kept ≡ [] }
     ensures ready { M.is_ready room.new }
     ensures trusted { M.is_trusted room.new → M.is_trusted room.old }
-    ensures replay { Replays M.step zone.now M.digest_of (M.is_trusted room.new)
+    ensures replay { Replays M.step zone.now (digits_of M.digest_of) (M.is_trusted room.new)
         (M.stands room.old) (M.stands room.new) (R.left reader.old) until.now
         (R.has_failed reader.new) result }
     ensures kept { M.is_trusted room.new → UnlessStopped result (M.is_kept room.old
@@ -115,7 +115,7 @@ fn replay_turn<R: Source, M: Digested>(
     requires sound { R.has_failed reader.old ≡ false }
     ensures ready { M.is_ready room.new }
     ensures trusted { M.is_trusted room.new → M.is_trusted room.old }
-    ensures turn { TakesTurn M.step zone.now M.digest_of (M.is_trusted room.new)
+    ensures turn { TakesTurn M.step zone.now (digits_of M.digest_of) (M.is_trusted room.new)
         (M.stands room.old) (M.stands room.new)
         (prepend_known inbox.old.kept (R.left reader.old))
         (prepend_known inbox.new.kept (R.left reader.new)) until.now IsReplayed progress.old
@@ -123,7 +123,7 @@ fn replay_turn<R: Source, M: Digested>(
     ensures kept { M.is_trusted room.new → UnlessWant result (M.is_kept room.old
         → M.is_kept room.new) }
 {
-    match next_entry(alloc, inbox, reader, room, until, progress.is_begun) {
+    match next_entry(inbox, reader, room, until, progress.is_begun) {
         Err(fault) => Err(fault),
         Ok(next) => match &next {
             Next::End => Ok(false),

@@ -1,21 +1,20 @@
 //! What becomes of a message, by what follows it in the journal.
-ghost use Rattle.std.specs.Prelude.{◌≤◌, ◌∷◌, [], length, false, MatchResult};
+ghost use Rattle.std.specs.Prelude.{◌≤◌, length, MatchResult};
 ghost use Rattle.room_http_messages.specs.declared.limits.TheConstants.{INBOX_ROOM};
 ghost use Rattle.dispatch_room_journal.specs.declared.lines.Line.TheVariants.{Answer, Room};
-ghost use Rattle.dispatch_room_journal.specs.Entries.{answer};
-ghost use Rattle.dispatch_room_replaying.specs.Replays.{UnlessWant};
-ghost use Rattle.dispatch_room_replaying.specs.Steps.{ComesTo, Settles, StopsAt, TurnOf};
+ghost use Rattle.dispatch_room_replaying.specs.Replays.{UnlessWant, digits_of};
+ghost use Rattle.dispatch_room_replaying.specs.Steps.{ComesTo, Settles, StopsAt};
 
-use crate::digests::Digested;
 use crate::faults::ReplayFault;
 use crate::playing::{has_status, is_at, play};
 use dispatch_room_journal::lines::{DIGEST_DIGITS, Line};
 use room_http_requests::routes::Routes;
 use room_http_time::zones::Zone;
+use room_service::digests::Digested;
 use room_types::numbers::Moment;
 use std::alloc::Global;
 
-/// Plays a message that has this status.
+/// Plays a message that has this status, whose entry is taken with it.
 fn play_answered<M: Digested>(
     alloc: Global,
     routes: &Routes,
@@ -24,23 +23,20 @@ fn play_answered<M: Digested>(
     sent: &[u8],
     at: Moment,
     status: u16,
-) -> Result<(), ReplayFault>
+) -> Result<bool, ReplayFault>
     requires ready { M.is_ready room.old }
     requires fits { length sent.now ≤ INBOX_ROOM }
     ensures ready { M.is_ready room.new }
     ensures trusted { M.is_trusted room.new → M.is_trusted room.old }
-    ensures turn { MatchResult result
-        (λ _. TurnOf M.step zone.now M.digest_of (M.is_trusted room.new) (M.stands room.old)
-        (M.stands room.new) at sent.now (answer status ∷ []) false)
-        (λ fault. StopsAt M.step zone.now M.digest_of (M.is_trusted room.new)
-        (M.stands room.old) (M.stands room.new) at sent.now (Answer status) fault) }
+    ensures turn { Settles M.step zone.now (digits_of M.digest_of) (M.is_trusted room.new)
+        (M.stands room.old) (M.stands room.new) at sent.now (Answer status) result }
     ensures kept { M.is_trusted room.new → UnlessWant result (M.is_kept room.old
         → M.is_kept room.new) }
 {
     match play(alloc, routes, zone, room, sent, at) {
         Ok(told) => {
             if has_status(told.as_slice(), status) {
-                Ok(())
+                Ok(true)
             } else {
                 Err(ReplayFault::Differs)
             }
@@ -64,15 +60,15 @@ fn play_open<M: Digested>(
     ensures ready { M.is_ready room.new }
     ensures trusted { M.is_trusted room.new → M.is_trusted room.old }
     ensures turn { MatchResult result
-        (λ _. ComesTo M.step zone.now M.digest_of (M.is_trusted room.new) (M.stands room.old)
+        (λ _. ComesTo M.step zone.now (digits_of M.digest_of) (M.is_trusted room.new) (M.stands room.old)
         (M.stands room.new) at sent.now digest.now)
-        (λ fault. StopsAt M.step zone.now M.digest_of (M.is_trusted room.new)
+        (λ fault. StopsAt M.step zone.now (digits_of M.digest_of) (M.is_trusted room.new)
         (M.stands room.old) (M.stands room.new) at sent.now (Room digest.now) fault) }
     ensures kept { M.is_trusted room.new → UnlessWant result (M.is_kept room.old
         → M.is_kept room.new) }
 {
     match play(alloc, routes, zone, room, sent, at) {
-        Ok(_) => match is_at(alloc, room, digest) {
+        Ok(_) => match is_at(room, digest) {
             Ok(true) => Ok(()),
             Ok(false) => Err(ReplayFault::Another),
             Err(fault) => Err(fault),
@@ -96,12 +92,12 @@ fn catch_up<M: Digested>(
     requires fits { length sent.now ≤ INBOX_ROOM }
     ensures ready { M.is_ready room.new }
     ensures trusted { M.is_trusted room.new → M.is_trusted room.old }
-    ensures turn { Settles M.step zone.now M.digest_of (M.is_trusted room.new)
+    ensures turn { Settles M.step zone.now (digits_of M.digest_of) (M.is_trusted room.new)
         (M.stands room.old) (M.stands room.new) at sent.now (Room digest.now) result }
     ensures kept { M.is_trusted room.new → UnlessWant result (M.is_kept room.old
         → M.is_kept room.new) }
 {
-    match is_at(alloc, room, digest) {
+    match is_at(room, digest) {
         Ok(true) => Ok(false),
         Ok(false) => match play_open(alloc, routes, zone, room, sent, at, digest) {
             Ok(()) => Ok(true),
@@ -126,18 +122,13 @@ pub fn settle<M: Digested>(
     requires fits { length sent.now ≤ INBOX_ROOM }
     ensures ready { M.is_ready room.new }
     ensures trusted { M.is_trusted room.new → M.is_trusted room.old }
-    ensures turn { Settles M.step zone.now M.digest_of (M.is_trusted room.new)
+    ensures turn { Settles M.step zone.now (digits_of M.digest_of) (M.is_trusted room.new)
         (M.stands room.old) (M.stands room.new) at sent.now line.now result }
     ensures kept { M.is_trusted room.new → UnlessWant result (M.is_kept room.old
         → M.is_kept room.new) }
 {
     match line {
-        Line::Answer(status) => {
-            match play_answered(alloc, routes, zone, room, sent, at, *status) {
-                Ok(()) => Ok(true),
-                Err(fault) => Err(fault),
-            }
-        }
+        Line::Answer(status) => play_answered(alloc, routes, zone, room, sent, at, *status),
         Line::Room(digest) => catch_up(alloc, routes, zone, room, sent, at, digest),
         Line::Message { .. } => Ok(false),
     }

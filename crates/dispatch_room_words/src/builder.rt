@@ -1,57 +1,90 @@
-//! A command of clap that is put together, where want of memory is looked at once, at the end.
+//! The program as a command of clap, put together from the forms of its commands.
 
-use clap::{Arg, Command};
+use crate::forms::{FORMS, Form, Kind, Word};
+use clap::builder::ValueParser;
+use clap::{Arg, ArgAction, Command};
 use std::alloc::{AllocError, Global};
 
-/// A command so far, or want of memory for it.
-#[derive(Drop)]
-pub struct Draft<'a> {
-    command: Result<Command<'a>, AllocError>,
+/// The program of this version. Its words have to name a command.
+pub fn program<'a>(alloc: Global, version: &'a str) -> Result<Command<'a>, AllocError> {
+    let commands = commands(alloc)?;
+    Command::new(alloc, "dispatch_room")
+        .about(
+            "Keeps the control room of an ambulance service in one SQLite file, \
+             and serves it over HTTP",
+        )
+        .after_help(
+            "Without a command it is the dry run: an example room in memory, requests from \
+             standard input, answers to standard output.\n\n\
+             Exit status: 0 done, 1 refused input, 2 usage, 3 storage, 4 network, 5 memory, \
+             6 journal",
+        )
+        .version(version)
+        .subcommand_required(true)
+        .subcommands(commands)
 }
 
-impl<'a> Draft<'a> {
-    /// A command that has no arguments yet: its name, what it does, and what help says at its end.
-    pub fn new(alloc: Global, name: &'a str, about: &'a str, end: &'a str) -> Draft<'a> {
-        let command = Command::new(alloc, name).about(about).after_help(end);
-        Draft {
-            command: Ok(command),
-        }
+fn commands<'a>(alloc: Global) -> Result<Vec<Command<'a>>, AllocError> {
+    let mut commands = Vec::new(alloc);
+    for form in &FORMS {
+        commands.push(command_of(alloc, form)?)?;
     }
+    Ok(commands)
+}
 
-    /// The command with one argument more.
-    pub fn with(self, arg: Arg<'a>) -> Draft<'a> {
-        let command = match self.command {
-            Ok(command) => command.arg(arg),
-            Err(fault) => Err(fault),
-        };
-        Draft { command }
+fn command_of<'a>(alloc: Global, form: &Form) -> Result<Command<'a>, AllocError> {
+    let args = args_of(alloc, form.words)?;
+    Command::new(alloc, form.name)
+        .about(form.about)
+        .after_help(form.end)
+        .args(args)
+}
+
+fn args_of<'a>(alloc: Global, words: &[Word]) -> Result<Vec<Arg<'a>>, AllocError> {
+    let mut args = Vec::new(alloc);
+    for word in words {
+        args.push(arg_of(alloc, word))?;
     }
+    Ok(args)
+}
 
-    /// The command with one more below it.
-    pub fn with_command(self, below: Draft<'a>) -> Draft<'a> {
-        let command = match below.command {
-            Ok(below) => above(self.command, below),
-            Err(fault) => Err(fault),
-        };
-        Draft { command }
-    }
-
-    /// The program of this version, once it is whole. Its words have to name a command.
-    pub fn finish(self, version: &'a str) -> Result<Command<'a>, AllocError> {
-        match self.command {
-            Ok(program) => Ok(program.version(version).subcommand_required(true)),
-            Err(fault) => Err(fault),
-        }
+fn arg_of<'a>(alloc: Global, word: &Word) -> Arg<'a> {
+    match word.kind {
+        Kind::Placed(parser) => placed(alloc, word, parser),
+        Kind::Flag => flag(alloc, word),
+        Kind::Named {
+            value,
+            parser,
+            default,
+        } => named(alloc, word, value, parser, default),
     }
 }
 
-// A command with one more below it.
-fn above<'a>(
-    command: Result<Command<'a>, AllocError>,
-    below: Command<'a>,
-) -> Result<Command<'a>, AllocError> {
-    match command {
-        Ok(command) => command.subcommand(below),
-        Err(fault) => Err(fault),
-    }
+fn placed<'a>(alloc: Global, word: &Word, parser: ValueParser<'a>) -> Arg<'a> {
+    Arg::new(alloc, word.name)
+        .required(true)
+        .value_parser(parser)
+        .help(word.help)
+}
+
+fn flag<'a>(alloc: Global, word: &Word) -> Arg<'a> {
+    Arg::new(alloc, word.name)
+        .long(word.name)
+        .action(ArgAction::SetTrue)
+        .help(word.help)
+}
+
+fn named<'a>(
+    alloc: Global,
+    word: &Word,
+    value: &'a str,
+    parser: ValueParser<'a>,
+    default: &'a [&'a str],
+) -> Arg<'a> {
+    Arg::new(alloc, word.name)
+        .long(word.name)
+        .value_name(value)
+        .default_values(default)
+        .value_parser(parser)
+        .help(word.help)
 }

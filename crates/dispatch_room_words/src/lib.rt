@@ -3,5 +3,6 @@
 
 mod addresses;
 mod builder;
+mod forms;
 pub mod tasks;
 pub mod words;

@@ -186,8 +186,11 @@ module _ (came : ℕ → List ℕ → List ℕ) (told : List ℕ → List ℕ) w
     }
 
     -- one more arrival
-    module _ (remains : Option (List ℕ)) (mid : Tapes) (early late : Type 0) (stood stays stands : List Terminal → Room → Type 0) (earlier : late → early) (outs : List Timed)
-        (before : Noted step zone left old remains mid early stood stays outs) (new : Tapes) (after : Option (List ℕ)) (o : Arrival) (pass : Passes remains after o) where
+    module _ (early_left remains : Option (List ℕ)) (mid : Tapes) (early late : Type 0) (stood stays stands : List Terminal → Room → Type 0) (earlier : late → early) (outs : List Timed)
+        (noted : Noted step zone left old early_left mid early stood stays outs) (same : Keeps early_left remains) (new : Tapes) (after : Option (List ℕ)) (o : Arrival) (pass : Passes remains after o) where
+      before : Noted step zone left old remains mid early stood stays outs
+      before = Noted-kept early_left remains mid early stood stays outs noted same
+
       abbrev Now : List Timed → List (List ℕ) → Type 0
       Now = ActsOnEach step zone late stood stands
 

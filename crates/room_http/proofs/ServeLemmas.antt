@@ -1,12 +1,18 @@
 -- Lemmas on a connection that is served.
-use Rattle.std.proofs.Common.{◌≡◌, ◌∙◌, ◌≤◌, subst, sym, refl, ℕ, List, [], ◌∷◌, ◌++◌, map, append-nil, inl, inr, Bool, true, false, Option, Some, None, Result, Ok, Err, All}
+use Rattle.std.proofs.Common.{◌≡◌, ◌∙◌, ◌≤◌, ◌-◌, arith, subst, sym, refl, ℕ, List, [], ◌∷◌, ◌++◌, map, append-nil, inl, inr, Bool, true, false, Option, Some, None, Result, Ok, Err, All}
 use Rattle.std.proofs.lemmas.List.{length-map, map-append}
 use Rattle.std.proofs.lemmas.List.Elements.{All-nil, All-push}
+use Rattle.std.specs.Prelude.{⊤}
 use Rattle.std.specs.Io.KnownBytes.{prepend_known, Keeps, Appends}
 use Rattle.room_types.specs.declared.fleet.Terminal.{Terminal}
 use Rattle.room_types.specs.declared.refusals.Refusal.{Refusal}
 use Rattle.room_model.specs.Room.{Room}
-use Rattle.room_http_messages.specs.Messages.{IsPart}
+use Rattle.room_http_messages.specs.declared.messages.Layout.{Layout}
+use Rattle.room_http_messages.specs.declared.unread.Unread.{Unread}
+use Rattle.room_http_messages.specs.declared.unread.Unread.TheVariants.{End, Cut as UnreadCut, ReadFault as Fault, ReadsSpent as Spent, Refused}
+use Rattle.room_http_messages.specs.Messages.{IsCut, IsPart}
+use Rattle.room_http_messages.specs.Readings.{SaysOf}
+use Rattle.room_http_messages.specs.Streams.{CountsBy}
 use Rattle.room_http_messages.proofs.StreamLemmas.{Appends-more, Appends-none}
 use Rattle.room_http_time.specs.declared.moments.TheConstants.{LAST_MOMENT}
 use Rattle.room_http.specs.declared.serving.ServeEnd.{ServeEnd}
@@ -17,9 +23,10 @@ use Rattle.room_http_time.specs.Moments.{HasNoMoment}
 use Rattle.room_http.specs.Arrivals.{Arrival, is_closing, is_head_only, Begins, HasNext}
 use Rattle.room_http_time.specs.declared.zones.Zone.{Zone}
 use Rattle.room_service.specs.Rooms.{Step, IsWant}
+use Rattle.room_http.specs.Reads.{EndsAs}
 use Rattle.room_http.specs.Serving.{Sides, Finish, Answered, Unserved, Unwritten, Broken, LeavesPart, MissesNone, ServeIs}
 use Rattle.room_http.specs.Talk.{Timed, IsFront, BreaksOff, Stays, Talks, Wants}
-use Rattle.room_http.proofs.StreamLemmas.{Passes, Begins-push}
+use Rattle.room_http.proofs.StreamLemmas.{Passes, Begins-push, nothing_left}
 use Rattle.room_http.proofs.TalkLemmas.{Talks-append, Talks-as, Talks-none}
 
 -- the arrivals were answered, all of them stay open, and these bytes are left
@@ -104,10 +111,47 @@ module _ (step : Step) (zone : Zone) (old : Sides) where
           (map (λ x. x.1) outs, length-map outs (λ x. x.1) ∙ sym (length-map outs (λ x. x.0)), before.moments),
         )
 
+  -- Serving ended where reading stopped: these bytes are in the inbox, and that is to come.
+  module _ (early : Type 0) (stood stays : List Terminal → Room → Type 0) (begun held given : Option (List ℕ)) (outs : List Timed) (first : Going step zone old begun held given early stood stays outs)
+      (kept : List ℕ) (remains : Option (List ℕ)) (same : Keeps begun (prepend_known kept remains)) (granted : ℕ) (read_failed read_ended : Bool) where
+    reached : Going step zone old (prepend_known kept remains) held given early stood stays outs
+    reached = Going-kept early stood stays begun held given outs (prepend_known kept remains) first same
+
+    abbrev Says : Result Layout Unread → Type 0
+    Says = SaysOf kept granted read_failed read_ended remains
+
+    pub stops_missing_none : (read : Result Layout Unread) (e : ServeEnd) → Says read → EndsAs read e → MissesNone old.left remains old.given given e
+    stops_missing_none (Ok layout) e says is = absurd is
+    stops_missing_none (Err (Refused r head_only)) e says is = absurd is
+    stops_missing_none (Err End) e says is = rw is tt
+    stops_missing_none (Err UnreadCut) e says is = rw is tt
+    stops_missing_none (Err Fault) e says is = rw is (leaves_part early stood stays (prepend_known kept remains) held given outs kept remains refl reached says.0)
+    stops_missing_none (Err Spent) e says is = rw is (leaves_part early stood stays (prepend_known kept remains) held given outs kept remains refl reached says.0)
+
+    module _ (reads : Option ℕ) (write_failed was_none : Bool) (wants : Timed → List Terminal → Room → Type 0) (budget : ℕ) (count : CountsBy (budget - granted) old.reads reads) where
+      abbrev new : Finish
+      new = record { reads = reads; held = held; given = given; read_failed = read_failed; read_ended = read_ended; write_failed = write_failed; was_none = was_none }
+
+      answered : (follows : List ℕ → Type 0) → ((rest : List ℕ) → prepend_known kept remains ≡ Some rest → follows rest) → Answered step zone old new early stood stays outs follows
+      answered follows then = Going-ends early stood stays (prepend_known kept remains) held given outs reads read_failed read_ended write_failed was_none follows reached then
+
+      pub stops : (read : Result Layout Unread) (e : ServeEnd) → Says read → EndsAs read e → ServeIs step zone old new early stood stays wants budget e
+      stops (Ok layout) e says is = absurd is
+      stops (Err (Refused r head_only)) e says is = absurd is
+      stops (Err End) e says is = rw is (inl (outs, answered (λ rest. rest ≡ []) (λ rest known. nothing_left kept remains rest says.2 known ∙ says.0), says.1))
+      stops (Err UnreadCut) e says is = rw is (outs, answered IsCut (λ rest known. rw (nothing_left kept remains rest says.2 known) says.0), says.1)
+      stops (Err Fault) e says is = rw is (outs, answered (λ rest. ⊤) (λ rest known. tt), says.1)
+      stops (Err Spent) e says is =
+          let all : budget - granted ≡ budget = omega (arith, says.1) in
+          rw is (outs, answered (λ rest. ⊤) (λ rest known. tt), rw all at count)
+
   -- one more arrival
-  module _ (was early : Type 0) (stood stays : List Terminal → Room → Type 0) (lefts : List Terminal → List Room → Type 0) (left held given : Option (List ℕ)) (outs : List Timed)
-      (before : Going step zone old left held given early stood (Stays was stays lefts) outs) (new : Finish) (is_kept late : Type 0) (stands : List Terminal → Room → Type 0) (leaves : List Terminal → List Room → Type 0)
+  module _ (was early : Type 0) (stood stays : List Terminal → Room → Type 0) (lefts : List Terminal → List Room → Type 0) (begun left held given : Option (List ℕ)) (outs : List Timed)
+      (first : Going step zone old begun held given early stood (Stays was stays lefts) outs) (same : Keeps begun left) (new : Finish) (is_kept late : Type 0) (stands : List Terminal → Room → Type 0) (leaves : List Terminal → List Room → Type 0)
       (earlier : late → early) (kept : late → was → is_kept) (after : Option (List ℕ)) (o : Arrival) (pass : Passes left after o) where
+    before : Going step zone old left held given early stood (Stays was stays lefts) outs
+    before = Going-kept early stood (Stays was stays lefts) begun held given outs left first same
+
     abbrev AnswersHere : Result (Unit {0}) ServeEnd → Type 0
     AnswersHere = Answers step zone held new.held given new.given new.write_failed new.was_none late stays (Stays is_kept stands leaves) (Wants step zone is_kept stands leaves) o
 

@@ -1,16 +1,23 @@
 -- Lemmas on what is read of a stream.
-use Rattle.std.proofs.Common.{◌≡◌, ◌∙◌, ap, sym, subst, refl, arith, ℕ, ◌+◌, ◌-◌, ◌≤◌, List, [], ◌∷◌, ◌++◌, drop, length, take, length-append, length-take-le, map, append-nil, append_assoc, Bool, false, Option, Some, None, All}
+use Rattle.std.proofs.Common.{◌≡◌, ◌∙◌, ap, sym, subst, refl, arith, ℕ, ◌+◌, ◌-◌, ◌<◌, ◌≤◌, List, [], ◌∷◌, ◌++◌, drop, length, take, length-append, length-drop, length-take-le, map, append-nil, append_assoc, Bool, false, Option, Some, None, Result, Ok, Err, All}
 use Rattle.std.proofs.lemmas.List.{take_at}
 use Rattle.std.proofs.lemmas.List.Elements.{All-head, All-tail}
+use Rattle.std.specs.Prelude.{IfOk}
 use Rattle.std.specs.Io.KnownBytes.{prepend_known, Keeps, IsAtEnd}
 use Rattle.httparse.specs.Grammar.{print_request}
 use Rattle.room_types.specs.declared.refusals.Refusal.{Refusal}
 use Rattle.room_http_messages.specs.declared.limits.TheConstants.{INBOX_ROOM}
 use Rattle.room_http_messages.specs.declared.messages.Layout.{Layout}
-use Rattle.room_http_messages.specs.Layouts.{IsLayout}
+use Rattle.room_http_messages.specs.Layouts.{IsLayout, IsWhole}
 use Rattle.room_http_messages.specs.Messages.{WholeMessage, HasMessage, IsRefused}
 use Rattle.room_http_messages.specs.Streams.{CountsBy}
-use Rattle.room_http.specs.Arrivals.{Arrival, message, refused, is_closing, BeginsWith, Begins, IsAlone}
+use Rattle.room_http_messages.specs.declared.unread.Unread.{Unread}
+use Rattle.room_http_messages.specs.declared.unread.Unread.TheVariants.{End, Cut, ReadFault, ReadsSpent, Refused}
+use Rattle.room_http_messages.specs.Readings.{SaysOf}
+use Rattle.room_http.specs.declared.arrivals.Arrived.{Arrived}
+use Rattle.room_http.specs.declared.arrivals.Arrived.TheVariants.{Message, Refused as Shut}
+use Rattle.room_http.specs.Arrivals.{Arrival, message, refused, is_closing, BeginsWith, Begins, IsAlone, IsBounded, IsShown}
+use Rattle.room_http.specs.Reads.{IsReadAs, kept_after}
 
 pub CountsBy-none : (known : Option ℕ) → CountsBy 0 known known
 CountsBy-none None = refl
@@ -84,6 +91,40 @@ refusal_passes kept (Some left) r head_only is = record {
       let same : kept ++ left ≡ rest = cc in
       (rest, (subst (λ (s : List ℕ). IsRefused s r head_only) same (is left), refl), ap Some same);
 }
+
+-- the bytes that are kept and those to come, once what was read was answered
+pub read_passes : (kept : List ℕ) (left : Option (List ℕ)) (granted : ℕ) (failed ended : Bool) (read : Result Layout Unread) (o : Arrival) → SaysOf kept granted failed ended left read → IsReadAs kept read o
+    → Passes (prepend_known kept left) (prepend_known (kept_after kept read) left) o
+read_passes kept left granted failed ended (Ok layout) (message m) says is = message_passes kept (drop layout.body.end kept) left m layout.body.end is refl
+read_passes kept left granted failed ended (Ok layout) (refused r head_only) says is = absurd is
+read_passes kept left granted failed ended (Err (Refused r head_only)) o says is = rw is (refusal_passes kept left r head_only says.0)
+read_passes kept left granted failed ended (Err End) o says is = absurd is
+read_passes kept left granted failed ended (Err Cut) o says is = absurd is
+read_passes kept left granted failed ended (Err ReadFault) o says is = absurd is
+read_passes kept left granted failed ended (Err ReadsSpent) o says is = absurd is
+
+-- where serving goes on after it, no read failed, and fewer bytes are kept
+pub read_goes_on : (kept : List ℕ) (left : Option (List ℕ)) (granted : ℕ) (failed ended : Bool) (read : Result Layout Unread) (o : Arrival) → SaysOf kept granted failed ended left read → IsReadAs kept read o
+    → is_closing o ≡ false → (failed ≡ false) × (length (kept_after kept read) < length kept)
+read_goes_on kept left granted failed ended (Ok layout) o says is goes =
+    let within = says.0.3.content.1 in
+    (says.1, omega (arith, length-drop layout.body.end kept, says.0.2.some, within))
+read_goes_on kept left granted failed ended (Err (Refused r head_only)) o says is goes = absurd (cc)
+read_goes_on kept left granted failed ended (Err End) o says is goes = absurd is
+read_goes_on kept left granted failed ended (Err Cut) o says is goes = absurd is
+read_goes_on kept left granted failed ended (Err ReadFault) o says is goes = absurd is
+read_goes_on kept left granted failed ended (Err ReadsSpent) o says is goes = absurd is
+
+-- where a message was read, it is whole
+pub read_whole : (kept : List ℕ) (left : Option (List ℕ)) (granted : ℕ) (failed ended : Bool) (read : Result Layout Unread) → SaysOf kept granted failed ended left read → IfOk read (IsWhole kept)
+read_whole kept left granted failed ended (Ok layout) says = says.0
+read_whole kept left granted failed ended (Err e) says = tt
+
+-- what is shown has bounds
+pub shown_bounded : (arrived : Arrived) (o : Arrival) → IsShown arrived o → IsBounded arrived
+shown_bounded (Message shown bytes) (message m) is = (is.1.some, is.1.fits)
+shown_bounded (Message shown bytes) (refused r head_only) is = absurd is
+shown_bounded (Shut r head_only) o is = tt
 
 -- the stream that is left, at its end
 pub nothing_left : (kept : List ℕ) (left : Option (List ℕ)) (rest : List ℕ) → IsAtEnd left → prepend_known kept left ≡ Some rest → rest ≡ kept

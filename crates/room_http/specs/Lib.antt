@@ -9,4 +9,5 @@ pub mod Served
 pub mod Laws
 pub mod Kept
 pub mod Answering
+pub mod Reads
 pub mod Serving

@@ -1,5 +1,7 @@
 //! The answer to what has arrived, and what becomes of the room.
-ghost use Rattle.std.specs.Prelude.{◌≡◌};
+ghost use Rattle.std.specs.Prelude.{◌≡◌, Err, IfErr, IfOk};
+ghost use Rattle.room_types.specs.declared.refusals.Refusal.TheVariants as refusals;
+ghost use Rattle.room_http_answers.specs.Replies.{IsReply};
 ghost use Rattle.room_http.specs.Replies.{KeepsReply, Replies};
 
 use crate::arrivals::Arrived;
@@ -39,6 +41,20 @@ pub fn reply<M: Room>(
         }),
         Err(Refusal::Memory) => Err(Refusal::Memory),
         Err(Refusal::Storage) => Err(Refusal::Storage),
-        Err(refusal) => render(alloc, &Err(refusal), at, head_only, closing),
+        Err(refusal) => refused(alloc, refusal, at, head_only, closing),
     }
+}
+
+// The bytes of the answer that tells a refusal.
+fn refused(
+    alloc: Global,
+    refusal: Refusal,
+    at: Moment,
+    head_only: bool,
+    closing: bool,
+) -> Result<Vec<u8>, Refusal>
+    ensures ok { IfOk result (λ bytes. IsReply (Err refusal) at head_only closing bytes.items) }
+    ensures err { IfErr result (λ want. want ≡ refusals.Memory) }
+{
+    render(alloc, &Err(refusal), at, head_only, closing)
 }

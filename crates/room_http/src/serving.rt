@@ -1,7 +1,10 @@
 //! A connection that is served.
-ghost use Rattle.std.specs.Prelude.{◌≡◌, false};
+ghost use Rattle.std.specs.Prelude.{◌≡◌, ◌≤◌, false, length, IfErr, IfOk};
+ghost use Rattle.room_http_messages.specs.Layouts.{IsWhole};
 ghost use Rattle.room_service.specs.Rooms.{machine};
+ghost use Rattle.room_http.specs.Arrivals.{Arrival, IsShown};
 ghost use Rattle.room_http.specs.Kept.{ActsOnEach, KeepsEach};
+ghost use Rattle.room_http.specs.Reads.{EndsAs, IsReadAs, kept_after};
 ghost use Rattle.room_http.specs.Served.{AreFirst, KeepsPromises};
 ghost use Rattle.room_http.specs.Serving.{MissesNone, ReadsAtMost, ServeIs};
 ghost use Rattle.room_http.specs.Talk.{Stays, Wants};
@@ -10,6 +13,7 @@ use crate::answering::answer;
 use crate::arrivals::Arrived;
 use crate::witnesses::Witness;
 use room_http_messages::inbox::Inbox;
+use room_http_messages::messages::Layout;
 use room_http_messages::reading::read_message;
 use room_http_messages::sinks::Sink;
 use room_http_messages::sources::Source;
@@ -112,33 +116,53 @@ pub fn serve<R: Source, W: Sink, M: Room, C: Clock, N: Witness>(
     };
     let mut left = budget;
     'messages: loop {
-        match read_message(&mut inbox, reader, &mut left) {
-            Ok(layout) => {
-                let arrived = Arrived::Message {
-                    message: inbox.message(&layout),
-                    bytes: &inbox.bytes()[..layout.body.end],
-                };
-                if let Err(end) = answer(
-                    alloc, &routes, zone, &arrived, writer, room, clock, witness,
-                ) {
-                    return end;
-                }
-                if layout.closing {
-                    return ServeEnd::Closed;
-                }
-                inbox.remove(&layout);
-            }
-            Err(Unread::Refused { refusal, head_only }) => {
-                let arrived = Arrived::Refused { refusal, head_only };
-                return match answer(alloc, &routes, zone, &arrived, writer, room, clock, witness) {
-                    Ok(()) => ServeEnd::Closed,
-                    Err(end) => end,
-                };
-            }
-            Err(Unread::End) => return ServeEnd::Closed,
-            Err(Unread::Cut) => return ServeEnd::Cut,
-            Err(Unread::ReadFault) => return ServeEnd::ReadFault,
-            Err(Unread::ReadsSpent) => return ServeEnd::ReadsSpent,
+        let read = read_message(&mut inbox, reader, &mut left);
+        let arrived = match arrived(&inbox, &read) {
+            Ok(arrived) => arrived,
+            Err(end) => return end,
+        };
+        if let Err(end) = answer(alloc, &routes, zone, &arrived, writer, room, clock, witness) {
+            return end;
         }
+        if arrived.is_closing() {
+            return ServeEnd::Closed;
+        }
+        pass(&mut inbox, &read);
+    }
+}
+
+// What was read, as it is answered, or why serving ends with no answer.
+fn arrived<'inbox>(
+    inbox: &'inbox Inbox,
+    read: &Result<Layout, Unread>,
+) -> Result<Arrived<'inbox>, ServeEnd>
+    requires { IfOk read.now (IsWhole inbox.now) }
+    ensures ok { IfOk result (λ arrived. (o : Arrival) × IsReadAs inbox.now read.now o
+        × IsShown arrived o) }
+    ensures err { IfErr result (EndsAs read.now) }
+{
+    match read {
+        Ok(layout) => Ok(Arrived::Message {
+            message: inbox.message(layout),
+            bytes: &inbox.bytes()[..layout.body.end],
+        }),
+        Err(Unread::Refused { refusal, head_only }) => Ok(Arrived::Refused {
+            refusal: *refusal,
+            head_only: *head_only,
+        }),
+        Err(Unread::End) => Err(ServeEnd::Closed),
+        Err(Unread::Cut) => Err(ServeEnd::Cut),
+        Err(Unread::ReadFault) => Err(ServeEnd::ReadFault),
+        Err(Unread::ReadsSpent) => Err(ServeEnd::ReadsSpent),
+    }
+}
+
+// Lets a message go that was answered.
+fn pass(inbox: &mut Inbox, read: &Result<Layout, Unread>)
+    requires { IfOk read.now (λ layout. layout.body.end ≤ length inbox.old) }
+    ensures { inbox.new ≡ kept_after inbox.old read.now }
+{
+    if let Ok(layout) = read {
+        inbox.remove(layout);
     }
 }

@@ -1,13 +1,14 @@
 -- The days of a time zone.
 use Rattle.std.specs.Prelude.{◌≡◌, ℕ, ◌≤◌, ℤ, pos, ◌+ℤ◌, ◌*ℤ◌, int_div, neg_ℤ}
-use Rattle.jiff.specs.Words.{civil_nanos, days_in_month, picked_instant, plain_zone, IsBetween}
+use Rattle.jiff.specs.Words.{civil_nanos, days_in_month, picked_instant, IsBetween}
 use Rattle.jiff_core.specs.declared.civil.datetime.DateTime.{DateTime}
 use Rattle.jiff_tz.specs.declared.timezone.TimeZone.{TimeZone}
+use Rattle.jiff_tz.specs.declared.timezone.TimeZone.TheVariants.{Posix}
 use Rattle.room_http_time.specs.declared.zones.Zone.{Zone}
 
 -- the zone in the terms of the crate that works it out
 abbrev pub zone_of : Zone → TimeZone
-zone_of zone = plain_zone zone.rule
+zone_of zone = Posix zone.rule
 
 -- the numbers are a day of the Gregorian calendar, from 1970-01-01 to 2099-12-31
 pub record IsDay (year month day : ℕ) : Type 0 where

@@ -7,12 +7,13 @@ ghost use Rattle.room_http_time.specs.Days.{IsDay, IsInner, IsMidnight, IsSpan, 
 
 use jiff::civil::Date;
 use jiff::tz::TimeZone;
+use jiff_tz::posix;
 use std::fmt;
 
 /// A time zone, by a rule as POSIX writes it: `GMT0BST,M3.5.0/1,M10.5.0`, say.
 #[derive(Clone, Copy)]
 pub struct Zone {
-    rule: TimeZone<'static>,
+    rule: posix::TimeZone,
 }
 
 /// Why a text is no zone.
@@ -40,7 +41,7 @@ impl Zone {
         ensures read { IsOk result ↔ IsSome (read_whole text.now) }
         ensures zone { IfOk result (λ zone. IsPosixZone text.now (zone_of zone)) }
     {
-        match TimeZone::posix(text) {
+        match posix::TimeZone::parse(text.as_bytes()) {
             Ok(rule) => Ok(Zone { rule }),
             Err(_) => Err(ZoneFault::Rule),
         }
@@ -64,7 +65,8 @@ impl Zone {
         requires { IsInner (epoch_day date) }
         ensures { IsMidnight (zone_of self.now) (epoch_day date) result }
     {
-        date.to_zoned(self.rule).unwrap().timestamp().as_second()
+        let zone = TimeZone::from_plain(jiff_tz::TimeZone::Posix(self.rule));
+        date.to_zoned(zone).unwrap().timestamp().as_second()
     }
 }
 

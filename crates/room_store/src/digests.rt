@@ -12,9 +12,18 @@ ghost use Rattle.room_store_writes.specs.Writing.{Leaves};
 ghost use Rattle.room_store.specs.Keeping.{IsKept, IsReady, IsRoom, LeavesOneOf};
 
 use crate::store::Store;
+use room_service::digests::Digested;
 use room_store_digest::digests::digest_in;
 use room_types::refusals::Refusal;
 use sqlite::Alter;
+
+impl<S: Alter> Digested for Store<S> {
+    ghost digest_of = { λ terminals room. sha256 (digest_text terminals room) };
+
+    fn digest(&mut self) -> Result<[u8; 32], Refusal> {
+        digest_of_room(self)
+    }
+}
 
 /// The SHA-256 of the room with its terminals, whatever its zone is. The room stays as it was. A
 /// refusal is of memory or of storage.

@@ -1,22 +1,20 @@
 -- Rows in key order, put among others of the same table.
-use Rattle.std.proofs.Common.{Bool, List, None, Option, Some, [], ap, cond, false, refl, true, ◌∙◌, ◌∷◌, ◌≡◌, ◌||◌}
+use Rattle.std.proofs.Common.{Bool, List, Option, Some, [], ap, cond, false, refl, sym, true, ◌&&◌, ◌∙◌, ◌∷◌, ◌≡◌, ◌||◌}
 use Rattle.std.proofs.lemmas.Cmp.{tied_itself}
 use Rattle.std.specs.Cmp.{IsTotalOrder}
 use Rattle.std.specs.Ordering.{is_eq, ordering_reverse}
 use Rattle.std.specs.Prelude.{filter}
 use Rattle.std.specs.declared.cmp.Ordering.{Ordering}
 use Rattle.std.specs.declared.cmp.Ordering.TheVariants.{Equal, Greater, Less}
-use Rattle.room_types.proofs.KeyedLaws.{below_filter, put_below}
-use Rattle.room_types.specs.Keyed.{IsBelowAll, IsKeyed, put_row, row_at}
+use Rattle.room_types.proofs.KeyedLaws.{below_filter, keyed_filter, put_below, row_filter}
+use Rattle.room_types.specs.Keyed.{IsBelowAll, IsKeyed, keep, put_row, row_at}
+use Rattle.room_store_reads.specs.Reading.{listed}
+use Rattle.room_store_reads.proofs.RoomReads.{filter_and}
 
 -- each row put in its place
 abbrev pub put_all : {R K : Type 0} → (K → K → Ordering) → (R → K) → List R → List R → List R
 put_all cmp key [] rows = rows
 put_all cmp key (m ∷ more) rows = put_all cmp key more (put_row cmp key rows m)
-
-abbrev pub listed : {R : Type 0} → Option R → List R
-listed None = []
-listed (Some x) = x ∷ []
 
 module _ {R K : Type 0} (cmp : K → K → Ordering) (key : R → K) (total : IsTotalOrder cmp) where
   put_above : (x m : R) (rows : List R) → cmp (key x) (key m) ≡ Less → put_row cmp key (x ∷ rows) m ≡ x ∷ put_row cmp key rows m
@@ -56,7 +54,10 @@ module _ {R K : Type 0} (cmp : K → K → Ordering) (key : R → K) (total : Is
     union_is [] h = refl
     union_is (x ∷ table) h = one_more (first x) (second x) x table h.0 (union_is table h.1)
 
-  -- the row of a key, put among the rows that pass a test
-  pub found_too : (first : R → Bool) (table : List R) (k : K) (found : Option R) → IsKeyed cmp key table → found ≡ row_at cmp key table k
-      → put_all cmp key (listed found) (filter first table) ≡ filter (λ x. first x || is_eq (cmp k (key x))) table
-  found_too first table k found h e = rw (e, ← at_key table k h) (union_is first (λ x. is_eq (cmp k (key x))) table h)
+  -- the row of a key that passes a test is the one that has it, where that passes
+  pub found_alone : (p : R → Bool) (table : List R) (k : K) (found : Option R) → IsKeyed cmp key table → found ≡ row_at cmp key table k
+      → listed (keep p found) ≡ filter (λ x. p x && is_eq (cmp k (key x))) table
+  found_alone p table k found h e =
+      ap listed (ap (keep p) e ∙ sym (row_filter cmp key total p table k h))
+      ∙ sym (at_key (filter p table) k (keyed_filter cmp key total p table h))
+      ∙ sym (filter_and p (λ x. is_eq (cmp k (key x))) table)

@@ -13,8 +13,8 @@ use Rattle.room_types.specs.declared.tables.Incident.{Incident}
 use Rattle.room_model.specs.Working.{names_incident, names_opening, reads_active, reads_incident}
 use Rattle.room_types.specs.declared.asks.Ask.TheVariants as ask
 use Rattle.room_model.proofs.Tests.{is_equal}
-use Rattle.room_store_reads.proofs.RoomReads.{or_assoc, or_none, pair_turned}
-use Rattle.room_store_reads.specs.Reading.{contains}
+use Rattle.room_store_reads.proofs.RoomReads.{and_none, or_assoc, or_none, or_turned, pair_turned}
+use Rattle.room_store_reads.specs.Reading.{any, contains}
 
 pub contains_last : (n m : ℕ) (ms : List ℕ) → contains n (ms ++ m ∷ []) ≡ contains n ms || (m == n)
 contains_last n m [] = or_none (m == n)
@@ -56,29 +56,27 @@ numbers_of d reads (x ∷ xs) n h =
     ∙ one_step same (x.division == d) (x.number == n) (reads x) _ _ (pair_turned d n x.division x.number) (numbers_of d reads xs n h.1) gone
     ∙ sym (kept_cond reads same x (row_at pair_cmp incident_key xs (d, n)))
 
-one_way : (own active day first second : Bool) → (((active && own) || (own && day)) || (own && first)) || (own && second) ≡ own && (active || ((first || second) || day))
-one_way false true day first second = refl
-one_way false false day first second = refl
-one_way true true day first second = refl
-one_way true false true true second = refl
-one_way true false true false true = refl
-one_way true false true false false = refl
-one_way true false false true second = refl
-one_way true false false false true = refl
-one_way true false false false false = refl
+one_way : (own shown first second : Bool) → (own && shown) || ((own && first) || ((own && second) || false)) ≡ own && (shown || (first || second))
+one_way true shown first second = ap (λ b. shown || (first || b)) (or_none second)
+one_way false shown first second = refl
 
-and_assoc : (a b c : Bool) → a && (b && c) ≡ (a && b) && c
-and_assoc true b c = refl
-and_assoc false b c = refl
+shown_or_named : (a : Ask) (at : ℕ) (i : Incident) (first second : Bool) → names_incident a i.number ≡ first || second
+    → ((reads_active a && is_active i.state) || names_opening a at i) || (first || second) ≡ reads_incident a at i
+shown_or_named a at i first second e =
+    sym (or_assoc (reads_active a && is_active i.state) (names_opening a at i) (first || second))
+    ∙ ap (λ b. (reads_active a && is_active i.state) || b) (or_turned (names_opening a at i) (first || second) ∙ ap (λ b. b || names_opening a at i) (sym e))
 
--- an incident that is read is active, or it is one of those that are named
-pub one_test : (a : Ask) (d at : ℕ) (i : Incident) (first second day : Bool) → names_incident a i.number ≡ first || second → names_opening a at i ≡ day
-    → (((reads_active a && (is_active i.state && i.division == d)) || (i.division == d && day)) || (i.division == d && first)) || (i.division == d && second) ≡ (i.division == d) && reads_incident a at i
-one_test a d at i first second day e f = rw (e, f)
-    (ap (λ b. ((b || (i.division == d && day)) || (i.division == d && first)) || (i.division == d && second)) (and_assoc (reads_active a) (is_active i.state) (i.division == d))
-    ∙ one_way (i.division == d) (reads_active a && is_active i.state) day first second)
+-- an incident that is read is in the first part, or it is one of those that are named
+pub one_test : (a : Ask) (at : ℕ) (i : Incident) (own shown first second f s : Bool) → shown ≡ (reads_active a && is_active i.state) || names_opening a at i → first ≡ f → second ≡ s → names_incident a i.number ≡ f || s
+    → (own && shown) || ((own && first) || ((own && second) || false)) ≡ own && reads_incident a at i
+one_test a at i own shown first second f s e g h n = one_way own shown first second ∙ ap (λ b. own && b) ((λ j. e j || (g j || h j)) ∙ shown_or_named a at i f s n)
 
 -- where the active incidents are read, no others are
+pub shown_alone : (a : Ask) → reads_active a ≡ true → (at : ℕ) (i : Incident) → is_active i.state ≡ (reads_active a && is_active i.state) || names_opening a at i
+shown_alone ask.Incidents h at i = sym (or_none (is_active i.state))
+shown_alone ask.Queue h at i = sym (or_none (is_active i.state))
+shown_alone a h at i = cc
+
 shown_reads : (a : Ask) → reads_active a ≡ true → (at : ℕ) (i : Incident) → reads_incident a at i ≡ is_active i.state
 shown_reads ask.Incidents h at i = or_none (is_active i.state)
 shown_reads ask.Queue h at i = or_none (is_active i.state)
@@ -91,13 +89,16 @@ kept_alike p q e (Some i) = ap (λ (b : Bool). is_some (cond b (Some i) None)) (
 pub shown_number : (a : Ask) → reads_active a ≡ true → (at : ℕ) (o : Option Incident) → is_some (keep (reads_incident a at) o) ≡ reads_active a && is_some (keep (λ i. is_active i.state) o)
 shown_number a h at o = kept_alike (reads_incident a at) (λ i. is_active i.state) (shown_reads a h at) o ∙ ap (λ b. b && is_some (keep (λ i. is_active i.state) o)) (sym h)
 
--- one number more is looked for
-pub one_more : (own seen this that more : Bool) → this ≡ that → more ≡ seen || that → (own && seen) || (this && own) ≡ own && more
-one_more true true this that more e f = sym f
-one_more true false true that more e f = rw (f, ← e) refl
-one_more true false false that more e f = rw (f, ← e) refl
-one_more false seen true that more e f = refl
-one_more false seen false that more e f = refl
-
 pub same_back : (m n : ℕ) → (m == n) ≡ (n == m)
 same_back m n = grind (arith, nat_tests)
+
+one_more : (own same there : Bool) → (same && own) || (own && there) ≡ own && (same || there)
+one_more true true there = refl
+one_more true false there = refl
+one_more false true there = refl
+one_more false false there = refl
+
+-- a division's row of one of some numbers
+pub own_contains : (own : Bool) (n : ℕ) (ms : List ℕ) → any (λ m. (n == m) && own) ms ≡ own && contains n ms
+own_contains own n [] = sym (and_none own)
+own_contains own n (m ∷ ms) = (λ i. (same_back n m i && own) || own_contains own n ms i) ∙ one_more own (m == n) (contains n ms)

@@ -1,5 +1,5 @@
 -- Which reports wait to be cleared.
-use Rattle.std.proofs.Common.{Bool, ap, false, not, refl, sym, true, ℕ, ◌&&◌, ◌≡◌, ◌||◌}
+use Rattle.std.proofs.Common.{Bool, [], ap, false, not, refl, sym, true, ℕ, ◌&&◌, ◌∷◌, ◌≡◌, ◌||◌}
 use Rattle.std.specs.Prelude.{◌==◌}
 use Rattle.room_types.specs.Codes.{is_normal, outcome_number}
 use Rattle.room_types.specs.declared.codes.Outcome.{Outcome}
@@ -7,15 +7,12 @@ use Rattle.room_types.specs.declared.codes.Outcome.TheVariants.{Late, Normal, Sk
 use Rattle.room_types.specs.declared.asks.Ask.{Ask}
 use Rattle.room_types.specs.declared.tables.Report.{Report}
 use Rattle.room_model.specs.Working.{names_report, reads_exceptions, reads_report}
+use Rattle.room_store_reads.specs.Reading.{any}
 use Rattle.room_store_reads.proofs.RoomReads.{or_none}
 use Rattle.room_types.specs.declared.asks.Ask.TheVariants as ask
 
--- one of this outcome, in the division
-abbrev pub waits : ℕ → Outcome → Report → Bool
-waits d o x = outcome_number x.outcome == outcome_number o && (not x.cleared && x.division == d)
-
 one_of : (o : Outcome) (cleared own : Bool)
-    → ((outcome_number o == 1 && (not cleared && own) || outcome_number o == 2 && (not cleared && own)) || outcome_number o == 3 && (not cleared && own)) || outcome_number o == 4 && (not cleared && own)
+    → outcome_number o == 1 && (not cleared && own) || (outcome_number o == 2 && (not cleared && own) || (outcome_number o == 3 && (not cleared && own) || (outcome_number o == 4 && (not cleared && own) || false)))
     ≡ own && (not (is_normal o) && not cleared)
 one_of Normal c true = refl
 one_of Normal c false = refl
@@ -37,7 +34,7 @@ one_of Stale false true = refl
 one_of Stale false false = refl
 
 -- the four outcomes are all but the normal one
-pub exceptional : (d : ℕ) (x : Report) → ((waits d Skipped x || waits d Wrong x) || waits d Late x) || waits d Stale x ≡ (x.division == d) && (not (is_normal x.outcome) && not x.cleared)
+pub exceptional : (d : ℕ) (x : Report) → any (λ o. outcome_number x.outcome == outcome_number o && (not x.cleared && x.division == d)) (Skipped ∷ Wrong ∷ Late ∷ Stale ∷ []) ≡ (x.division == d) && (not (is_normal x.outcome) && not x.cleared)
 exceptional d x = one_of x.outcome x.cleared (x.division == d)
 
 abbrev pub is_exception : Report → Bool

@@ -1,11 +1,12 @@
 -- Filters of rows, and the tests that they pass.
-use Rattle.std.proofs.Common.{Bool, List, [], ap, arith, cond, eq-eqb, false, refl, sym, true, ℕ, ◌&&◌, ◌∙◌, ◌∷◌, ◌≡◌, ◌||◌}
+use Rattle.std.proofs.Common.{Bool, List, [], ap, arith, cond, false, refl, true, ℕ, ◌&&◌, ◌++◌, ◌∙◌, ◌∷◌, ◌≡◌, ◌||◌}
 use Rattle.std.proofs.lemmas.Bool.Decides.{nat_tests}
 use Rattle.std.specs.Ordering.{is_eq, nat_cmp}
 use Rattle.std.specs.Prelude.{filter, ◌==◌}
 use Rattle.room_tables_sql.proofs.Comparisons.{is_eq-then}
 use Rattle.room_types.specs.Keys.{callsign_cmp, numbered_cmp, pair_cmp, same_callsign}
 use Rattle.room_types.specs.Texts.{Callsign}
+use Rattle.room_store_reads.specs.Reading.{any}
 
 -- tests that agree pass the same rows
 pub filter_as : {X : Type 0} (p q : X → Bool) (xs : List X) → ((x : X) → p x ≡ q x) → filter p xs ≡ filter q xs
@@ -41,6 +42,12 @@ pair_turned d n a b = is_eq-then (nat_cmp d a) (nat_cmp n b) ∙ (λ i. turned_n
 pub numbered_is : (c e : Callsign) (n m : ℕ) → is_eq (numbered_cmp (c, n) (e, m)) ≡ same_callsign c e && (n == m)
 numbered_is c e n m = is_eq-then (callsign_cmp c e) (nat_cmp n m) ∙ (λ i. is_eq (callsign_cmp c e) && same_number n m i)
 
+pub and_swapped : (a b : Bool) → a && b ≡ b && a
+and_swapped true true = refl
+and_swapped true false = refl
+and_swapped false true = refl
+and_swapped false false = refl
+
 pub and_turned : (a b c : Bool) → a && (b && c) ≡ c && (a && b)
 and_turned true true true = refl
 and_turned true true false = refl
@@ -57,6 +64,12 @@ pub or_assoc : (a b c : Bool) → a || (b || c) ≡ (a || b) || c
 or_assoc true b c = refl
 or_assoc false b c = refl
 
+pub or_turned : (a b : Bool) → a || b ≡ b || a
+or_turned true true = refl
+or_turned true false = refl
+or_turned false true = refl
+or_turned false false = refl
+
 pub and_none : (b : Bool) → b && false ≡ false
 and_none true = refl
 and_none false = refl
@@ -65,7 +78,7 @@ pub and_all : (b : Bool) → b && true ≡ b
 and_all true = refl
 and_all false = refl
 
-pub and_twice : (b : Bool) → b && b ≡ b && true
+and_twice : (b : Bool) → b && b ≡ b
 and_twice true = refl
 and_twice false = refl
 
@@ -78,6 +91,23 @@ and_across false false c = refl
 pub filter_never : {X : Type 0} (p q : X → Bool) (xs : List X) → ((x : X) → q x ≡ false) → filter (λ x. p x && q x) xs ≡ []
 filter_never p q xs e = filter_as _ (λ x. false) xs (λ x. ap (λ b. p x && b) (e x) ∙ and_none (p x)) ∙ filter_none xs
 
--- a division's number of the same division
-pub pair_at : (d n m : ℕ) → (n == m) ≡ is_eq (pair_cmp (d, n) (d, m))
-pair_at d n m = sym (pair_is d n d m ∙ ap (λ b. b && (n == m)) (eq-eqb d d refl))
+-- a division owns its own row
+pub own_number : (d n : ℕ) (b : Bool) → ((n == d) && is_eq (nat_cmp d n)) && b ≡ (n == d) && b
+own_number d n b = ap (λ c. c && b) (ap (λ c. (n == d) && c) (turned_number d n) ∙ and_twice (n == d))
+
+and_again : (a b : Bool) → a && (a && b) ≡ a && b
+and_again true b = refl
+and_again false b = refl
+
+-- what a division's number finds is its own
+pub own_pair : (d n a b : ℕ) → (a == d) && is_eq (pair_cmp (d, n) (a, b)) ≡ (a == d) && (n == b)
+own_pair d n a b = ap (λ c. (a == d) && c) (pair_is d n a b) ∙ and_again (a == d) (n == b)
+
+pub filter_all : {X : Type 0} (xs : List X) → filter (λ (x : X). true) xs ≡ xs
+filter_all [] = refl
+filter_all (x ∷ xs) = ap (λ ys. x ∷ ys) (filter_all xs)
+
+-- one item more is looked at
+pub any_last : {K : Type 0} (p : K → Bool) (k : K) (ks : List K) → any p (ks ++ k ∷ []) ≡ any p ks || p k
+any_last p k [] = or_none (p k)
+any_last p k (j ∷ ks) = ap (λ b. p j || b) (any_last p k ks) ∙ or_assoc (p j) (any p ks) (p k)

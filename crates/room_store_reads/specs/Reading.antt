@@ -2,6 +2,7 @@
 use Rattle.std.specs.Ordering.{is_eq}
 use Rattle.std.specs.Prelude.{Bool, List, None, Option, Some, [], false, int_le, int_lt, pos, ℕ, ◌&&◌, ◌==◌, ◌||◌, ◌∷◌}
 use Rattle.room_place.specs.Plans.{has_place}
+use Rattle.room_types.specs.Codes.{is_active}
 use Rattle.room_types.specs.Keys.{numbered_cmp, same_callsign, turn_key}
 use Rattle.room_types.specs.Texts.{Callsign}
 use Rattle.room_types.specs.declared.tables.Incident.{Incident}
@@ -9,8 +10,18 @@ use Rattle.room_types.specs.declared.tables.Turn.{Turn}
 use Rattle.room_model.specs.Queries.{held}
 use Rattle.room_model.specs.Room.{Room}
 use Rattle.room_model.specs.Working.{is_last_turn}
-use Rattle.room_store_reads.specs.declared.naming.Openings.{Openings}
-use Rattle.room_store_reads.specs.declared.naming.Openings.TheVariants.{Around, Between, Nothing}
+use Rattle.room_store_reads.specs.declared.naming.IncidentPart.{IncidentPart}
+use Rattle.room_store_reads.specs.declared.naming.IncidentPart.TheVariants.{Active, Around, Between, Nothing, Numbered}
+
+-- the row, where there is one
+abbrev pub listed : {R : Type 0} → Option R → List R
+listed None = []
+listed (Some x) = x ∷ []
+
+-- some item passes
+abbrev pub any : {K : Type 0} → (K → Bool) → List K → Bool
+any p [] = false
+any p (k ∷ ks) = p k || any p ks
 
 abbrev pub contains : ℕ → List ℕ → Bool
 contains n [] = false
@@ -21,11 +32,13 @@ abbrev pub is_number : Option ℕ → ℕ → Bool
 is_number None n = false
 is_number (Some m) n = m == n
 
--- an incident that is read for when, and where, it was opened
-abbrev pub is_opened : Openings → Incident → Bool
-is_opened Nothing i = false
-is_opened (Between from to) i = int_le from (pos i.opened) && int_lt (pos i.opened) to
-is_opened (Around from square) i = int_le from (pos i.opened) && has_place i.place square
+-- an incident of this part of a division's
+abbrev pub is_part : IncidentPart → Incident → Bool
+is_part Nothing i = false
+is_part Active i = is_active i.state
+is_part (Between from to) i = int_le from (pos i.opened) && int_lt (pos i.opened) to
+is_part (Around from square) i = int_le from (pos i.opened) && has_place i.place square
+is_part (Numbered n) i = n == i.number
 
 -- the report that is named, if one is
 abbrev pub is_report : Option (Callsign × ℕ) → Callsign → ℕ → Bool

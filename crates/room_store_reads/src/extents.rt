@@ -9,7 +9,7 @@ ghost use Rattle.room_tables_schema.specs.Connections.{HasRoomSchema};
 ghost use Rattle.room_tables_sql.specs.Outcomes.{ReadsOnly};
 ghost use Rattle.room_store_reads.specs.Extents.{reaches};
 
-use crate::unions::add_found;
+use crate::unions::listed;
 use room_place::plans::DivisionNumber;
 use room_tables::loading::{row_at, rows_owned_by};
 use room_tables::tables::{Owned, Table};
@@ -50,6 +50,30 @@ pub fn load_extent<R: Owned, S: Alter>(
     }
 }
 
+/// As many of two tables' rows that a division owns.
+pub fn load_both<A: Owned, B: Owned, S: Alter>(
+    alloc: Global,
+    conn: &mut Connection<S>,
+    division: DivisionNumber,
+    first: &Extent<A::Key>,
+    second: &Extent<B::Key>,
+) -> Result<(Rows<A>, Rows<B>), Fault>
+    requires room { HasRoomSchema S.Store conn.old }
+    requires open { HasCleanDisk (state S.Store conn.old)
+        → IsTrue (state S.Store conn.old).is_open }
+    ensures rows { Finds S.Store conn.old conn.new result (λ room x.
+        IsKeyed A.Key.cmp A.key_of (A.rows room) → IsKeyed B.Key.cmp B.key_of (B.rows room)
+        → (x.0 ≡ filter (λ y. A.owned division y && reaches A.Key.cmp first.now (A.key_of y))
+        (A.rows room))
+        × (x.1 ≡ filter (λ y. B.owned division y && reaches B.Key.cmp second.now (B.key_of y))
+        (B.rows room))) }
+    ensures reads { ReadsOnly S.Store conn.old conn.new result }
+{
+    let first = load_extent::<A, S>(alloc, conn, division, first)?;
+    let second = load_extent::<B, S>(alloc, conn, division, second)?;
+    Ok((first, second))
+}
+
 /// The row of a key, where the division owns it.
 pub fn load_one<R: Table, S: Alter>(
     alloc: Global,
@@ -65,9 +89,7 @@ pub fn load_one<R: Table, S: Alter>(
     ensures reads { ReadsOnly S.Store conn.old conn.new result }
 {
     let found = row_at::<R, S>(conn, key)?;
-    let mut rows = Rows::new(alloc);
-    add_found(&mut rows, owned_row(found, division))?;
-    Ok(rows)
+    listed(alloc, owned_row(found, division))
 }
 
 /// The row, where the division owns it.

@@ -4,5 +4,6 @@
 pub mod crews;
 mod extents;
 mod naming;
+mod parts;
 mod unions;
 pub mod working;

@@ -1,16 +1,17 @@
 //! What a request names of the rows that it reads.
-ghost use Rattle.std.specs.Prelude.{◌≡◌, ◌||◌, ℕ, IfSome};
+ghost use Rattle.std.specs.Prelude.{◌≡◌, ◌==◌, ◌&&◌, ◌||◌, ℕ, IfSome};
 ghost use Rattle.room_place.specs.Plans.{has_place};
 ghost use Rattle.room_place.specs.declared.places.Place.{Place as PlaceModel};
+ghost use Rattle.room_types.specs.Codes.{is_active};
 ghost use Rattle.room_types.specs.Keys.{callsign_cmp, pair_cmp};
 ghost use Rattle.room_types.specs.Texts.{Callsign as CallsignText};
 ghost use Rattle.room_types.specs.declared.asks.Ask.TheVariants.{StandDown};
 ghost use Rattle.room_types.specs.declared.tables.Incident.{Incident};
 ghost use Rattle.room_types.specs.declared.tables.Turn.{Turn};
 ghost use Rattle.room_model.specs.Room.{Room};
-ghost use Rattle.room_model.specs.Working.{is_around, names_incident, names_opening, names_report, names_turn, reads_active, reads_assignments, reads_calls, reads_division, reads_exceptions, reads_loan, reads_offer, reads_point, reads_vehicle};
+ghost use Rattle.room_model.specs.Working.{is_around, names_incident, names_opening, names_report, names_turn, reads_active, reads_assignments, reads_calls, reads_division, reads_exceptions, reads_incident, reads_loan, reads_offer, reads_point, reads_vehicle};
 ghost use Rattle.room_store_reads.specs.Extents.{reaches};
-ghost use Rattle.room_store_reads.specs.Reading.{is_last_of, is_number, is_opened, is_report};
+ghost use Rattle.room_store_reads.specs.Reading.{any, contains, is_last_of, is_number, is_part, is_report};
 
 use crate::extents::Extent;
 use room_place::places::Place;
@@ -129,11 +130,14 @@ pub fn reads_active(ask: &Ask) -> bool
     matches!(ask, Ask::Incidents | Ask::Queue)
 }
 
-/// Whether a request reads the calls of its incidents.
-pub fn reads_calls(ask: &Ask) -> bool
-    ensures { result ≡ reads_calls ask.now }
+/// Of some incidents, those whose calls a request reads: all or none.
+pub fn calls_read<'a>(ask: &Ask, numbers: &'a [Number]) -> &'a [Number]
+    ensures { (n : ℕ) → contains n result.now ≡ reads_calls ask.now && contains n numbers.now }
 {
-    matches!(ask, Ask::Incidents | Ask::Merge(_, _))
+    match ask {
+        Ask::Incidents | Ask::Merge(_, _) => numbers,
+        _ => &[],
+    }
 }
 
 /// The incidents that a request names.
@@ -150,27 +154,53 @@ pub fn named_incidents(ask: &Ask) -> (Option<Number>, Option<Number>)
     }
 }
 
-/// The openings of incidents that a request reads, in seconds of UTC since 1970.
+/// A part of a division's incidents. Openings are in seconds of UTC since 1970.
 #[derive(Clone, Copy)]
-pub enum Openings {
+pub enum IncidentPart {
     Nothing,
-    /// From the first on, and before the second.
+    Active,
+    /// Opened from the first on, and before the second.
     Between(i64, i64),
-    /// From this one on, in a square.
+    /// Opened from this one on, in a square.
     Around(i64, Rect),
+    Numbered(Number),
 }
 
-/// Those of the day whose times are asked for, or those that a call may be linked to.
-pub fn openings_read(ask: &Ask, at: Moment) -> Openings
-    ensures { (i : Incident) → names_opening ask.now at i ≡ is_opened result i }
+/// The incidents that a request reads: the active ones, those that were opened then, and those that
+/// it names.
+pub fn incidents_read(ask: &Ask, at: Moment) -> [IncidentPart; 3]
+    ensures { (d : ℕ) (i : Incident) → any (λ p. i.division == d && is_part p i) result
+        ≡ i.division == d && reads_incident ask.now at i }
 {
+    let (first, second) = named_incidents(ask);
+    [shown_or_opened(ask, at), numbered(first), numbered(second)]
+}
+
+// The active incidents, those of the day whose times are asked for, or those that a call may be
+// linked to.
+fn shown_or_opened(ask: &Ask, at: Moment) -> IncidentPart
+    ensures { (i : Incident) → is_part result i
+        ≡ reads_active ask.now && is_active i.state || names_opening ask.now at i }
+{
+    if reads_active(ask) {
+        return IncidentPart::Active;
+    }
     match ask {
-        Ask::Times(from, to) => Openings::Between(*from, *to),
+        Ask::Times(from, to) => IncidentPart::Between(*from, *to),
         Ask::Call(call) => {
             let from = at.get().saturating_sub(LINKED_WITHIN);
-            Openings::Around(i64::from(from), square_around(&call.place))
+            IncidentPart::Around(i64::from(from), square_around(&call.place))
         }
-        _ => Openings::Nothing,
+        _ => IncidentPart::Nothing,
+    }
+}
+
+fn numbered(number: Option<Number>) -> IncidentPart
+    ensures { (i : Incident) → is_part result i ≡ is_number number i.number }
+{
+    match number {
+        Some(number) => IncidentPart::Numbered(number),
+        None => IncidentPart::Nothing,
     }
 }
 

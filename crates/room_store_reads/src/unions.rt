@@ -1,11 +1,12 @@
 //! Rows of one table that were loaded by several reads.
-ghost use Rattle.std.specs.Prelude.{◌≡◌, ◌||◌, Bool, List, filter, OnOk, IfErr};
-ghost use Rattle.std.specs.Ordering.{is_eq};
+ghost use Rattle.std.specs.Prelude.{◌≡◌, ◌||◌, Bool, List, filter, OnOk, IfErr, IfOk};
 ghost use Rattle.room_tables_schema.specs.declared.faults.Fault.TheVariants.{Memory};
-ghost use Rattle.room_types.specs.Keyed.{IsKeyed, put_row, row_at};
+ghost use Rattle.room_types.specs.Keyed.{IsKeyed, put_row};
+ghost use Rattle.room_store_reads.specs.Reading.{listed};
 
 use room_tables_schema::faults::Fault;
 use room_types::rows::{Row, Rows};
+use std::alloc::Global;
 
 /// Adds rows of the same table: then there are those that pass the one test or the other. The one
 /// fault is `Memory`.
@@ -21,21 +22,16 @@ pub fn add_all<R: Row>(rows: &mut Rows<R>, more: &Rows<R>) -> Result<(), Fault>
     Ok(())
 }
 
-/// Adds the row of a key of the same table, where there is one. The one fault is `Memory`.
-pub fn add_found<R: Row>(rows: &mut Rows<R>, found: Option<R>) -> Result<(), Fault>
-    ensures either { OnOk result ((table : List R) (first : R → Bool) (key : R.Key)
-        → IsKeyed R.Key.cmp R.key_of table → rows.old ≡ filter first table
-        → found ≡ row_at R.Key.cmp R.key_of table key
-        → rows.new ≡ filter (λ x. first x || is_eq (R.Key.cmp key (R.key_of x))) table) }
+/// The row, where there is one. The one fault is `Memory`.
+pub fn listed<R: Row>(alloc: Global, found: Option<R>) -> Result<Rows<R>, Fault>
+    ensures rows { IfOk result (λ rows. rows ≡ listed found) }
     ensures memory { IfErr result (λ e. e ≡ Memory) }
 {
-    match found {
-        Some(row) => {
-            add(rows, row)?;
-            Ok(())
-        }
-        None => Ok(()),
+    let mut rows = Rows::new(alloc);
+    if let Some(row) = found {
+        add(&mut rows, row)?;
     }
+    Ok(rows)
 }
 
 fn add<R: Row>(rows: &mut Rows<R>, row: R) -> Result<(), Fault>

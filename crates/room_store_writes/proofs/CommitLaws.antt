@@ -1,20 +1,24 @@
 -- What a transaction leaves that was ended: committed where all went well, and undone where not.
-use Rattle.std.proofs.Common.{Err, IsTrue, Ok, Result, arith, subst, sym, true, ℕ, ◌∙◌, ◌≡◌}
-use Rattle.std.specs.Prelude.{IsOk, OnOk}
+use Rattle.std.proofs.Common.{Err, IsTrue, List, Ok, Result, [], ap, arith, false, inl, subst, sym, true, ℕ, ◌∙◌, ◌∷◌, ◌≡◌}
+use Rattle.std.proofs.lemmas.Result.{on_err_weaker, on_ok_weaker}
+use Rattle.std.specs.Prelude.{IsOk, OnErr, OnOk}
+use Rattle.sqlite.specs.Effect.{Database}
 use Rattle.sqlite.specs.Held.{Held, state}
-use Rattle.sqlite.specs.State.{HasCleanDisk, IsRolledBack, KeepsCommit, Survives}
+use Rattle.sqlite.specs.State.{HasCleanDisk, IsRolledBack, KeepsCommit, Shows, Survives}
 use Rattle.sqlite.proofs.Callers.{survives_begin}
 use Rattle.sqlite.proofs.StateLemmas.{survives_then}
 use Rattle.sqlite_trees.specs.Tree.{Trees}
 use Rattle.sqlite_trees.specs.declared.store.Store.{Ghosts}
 use Rattle.room_tables_sql.specs.Outcomes.{CommitsNothing, WritesInside}
-use Rattle.room_tables_sql.proofs.WriteLaws.{write_commits}
+use Rattle.room_tables_sql.proofs.WriteLaws.{commits_none, write_commits}
 use Rattle.room_place.specs.declared.plans.Area.{Area}
-use Rattle.room_model.specs.Room.{Room}
+use Rattle.room_types.specs.declared.changes.Change.{Change}
+use Rattle.room_model.specs.Room.{Room, apply, apply_one}
 use Rattle.room_tables_schema.specs.Connections.{MayWrite}
-use Rattle.room_tables.specs.Stands.{House}
+use Rattle.room_tables_schema.specs.Schema.{room_schema}
+use Rattle.room_tables.specs.Stands.{House, Stands}
 use Rattle.room_tables.specs.Writes.{AppendsArea, Changes}
-use Rattle.room_store_writes.specs.Writing.{Leaves}
+use Rattle.room_store_writes.specs.Writing.{IsSettled, Leaves}
 
 pub on_ok : {T E : Type 0} (r : Result T E) (P : Type 0) → P → OnOk r P
 on_ok (Ok x) P p = p
@@ -50,6 +54,13 @@ pub ok_both : {T E A B : Type 0} (r : Result T E) (done : Result A B) (P Q R : T
 ok_both (Ok x) done P Q R is p q f = f is p (when_ok done Q is q)
 ok_both (Err e) done P Q R is p q f = tt
 
+-- Where nothing was done, a stop leaves what it could before.
+pub unchanged_survives : {S : Type 0} (g : Ghosts S) (held : Held S) (P : Trees → Type 0) → Survives (state g held) (state g held) P
+unchanged_survives g held P =
+    let none : CommitsNothing g held held = commits_none in
+    let same = none.survives in
+    record { clean = same.clean; shield = same.shield; counts = same.counts; limit = same.limit; closes = same.closes; crash = λ clean db left. inl left }
+
 module _ {S : Type 0} (g : Ghosts S) (old last end : Held S) where
   -- A stop leaves what was before, or what was committed.
   pub ended_survives : {A B : Type 0} (done : Result A B) (P : Trees → Type 0) → Survives (state g (record old { in_transaction = true })) (state g last) (λ _. ⊥)
@@ -66,3 +77,53 @@ module _ {S : Type 0} (g : Ghosts S) (old last end : Held S) where
     now_is = λ is_open. (back.undone is_open).0 ∙ kept.committed (back.was_open is_open) ∙ sym (settled (kept.was_open (back.was_open is_open)));
     committed_is = λ is_open. (back.undone is_open).1 ∙ kept.committed (back.was_open is_open);
   }
+
+-- A transaction, from `old` to `end`: all that was done in it is committed, or nothing.
+pub record IsWhole {S A B : Type 0} (g : Ghosts S) (old end : Held S) (result : Result A B) (P : Trees → Trees → Type 0) : Type 0 where
+  pub ok : HasCleanDisk (state g end) → OnOk result (HasCleanDisk (state g old) × IsSettled (state g end) × ((state g end).now.schema ≡ room_schema) × P (state g old).now.trees (state g end).now.trees)
+  pub err : HasCleanDisk (state g end) → OnErr result (Leaves (state g old) (state g end))
+  pub survives : Survives (state g old) (state g end) (P (state g old).now.trees)
+
+-- It is, where what was done left `last`, and `end` commits that where it went well, and undoes it where not.
+module _ {S A B C D : Type 0} (g : Ghosts S) (old begun last end : Held S) (done : Result A B) (result : Result C D) (P : Trees → Trees → Type 0) (begins : begun ≡ record old { in_transaction = true })
+    (settled : HasCleanDisk (state g old) → IsTrue (state g old).is_open → (state g old).now ≡ (state g old).committed) (inside : CommitsNothing g begun last)
+    (made : HasCleanDisk (state g last) → OnOk done (((state g last).now.schema ≡ room_schema) × P (state g begun).now.trees (state g last).now.trees))
+    (well : OnOk result (IsOk done)) (committed : HasCleanDisk (state g end) → OnOk result (Shows (state g last) (state g end) (state g last).now (state g last).now false))
+    (undone : HasCleanDisk (state g end) → OnErr result (IsRolledBack (state g last) (state g end))) (ended : Survives (state g last) (state g end) (λ db. IsOk done × (db ≡ (state g last).now.trees))) where
+  kept : CommitsNothing g (record old { in_transaction = true }) last
+  kept = subst (λ h. CommitsNothing g h last) begins inside
+
+  last_clean : HasCleanDisk (state g end) → HasCleanDisk (state g last)
+  last_clean clean = omega (arith, ended.clean)
+
+  old_clean : HasCleanDisk (state g end) → HasCleanDisk (state g old)
+  old_clean clean = let early = last_clean clean in omega (arith, kept.survives.clean)
+
+  from_old : P (state g begun).now.trees (state g last).now.trees → P (state g old).now.trees (state g last).now.trees
+  from_old = subst (λ h. P (state g h).now.trees (state g last).now.trees) begins
+
+  pub is_whole : IsWhole g old end result P
+  is_whole = record {
+    ok = λ clean. ok_both result done _ _ _ well (committed clean) (made (last_clean clean)) (λ _ is all. (
+      old_clean clean,
+      record { is_open = is.is_open; committed = is.committed_is ∙ sym is.now_is },
+      ap (λ (db : Database). db.schema) is.now_is ∙ all.0,
+      subst (λ (db : Database). P (state g old).now.trees db.trees) (sym is.now_is) (from_old all.1),
+    ));
+    err = λ clean. on_err_weaker result (λ back. undone_leaves g old last end (kept.kept (last_clean clean)) back (settled (old_clean clean))) (undone clean);
+    survives = ended_survives g old last end done (P (state g old).now.trees) kept.survives ended (λ clean. on_ok_weaker done (λ all. from_old all.1) (made clean));
+  }
+
+-- The tables stand for a room that these changes, the last ones, take to the room that all of them make.
+abbrev pub StandsBefore : List Change → House → Trees → Room → Type 0
+StandsBefore left house db after = (mid : Room) × Stands db house mid × (apply mid left ≡ after)
+
+-- one of them is made
+pub nearer : (left more : List Change) (change : Change) (house : House) (db next : Trees) (after : Room) → left ≡ change ∷ more
+    → ((room : Room) → Stands db house room → Stands next house (apply_one room change)) → StandsBefore left house db after → StandsBefore more house next after
+nearer left more change house db next after is made before =
+    (apply_one before.0 change, made before.0 before.1, sym (ap (apply before.0) is) ∙ before.2)
+
+-- all are made
+pub there : (left : List Change) (house : House) (db : Trees) (after : Room) → left ≡ [] → StandsBefore left house db after → Stands db house after
+there left house db after none before = subst (Stands db house) (sym (ap (apply before.0) none) ∙ before.2) before.1

@@ -1,30 +1,14 @@
--- What one step after another of a transaction keeps, and what comes of puts one by one.
-use Rattle.std.proofs.Common.{Bool, List, [], ap, arith, cond, false, map, refl, subst, sym, true, zero, suc, ℕ, ◌+◌, ◌<◌, ◌∷◌, ◌≡◌}
+-- What comes of puts one by one.
+use Rattle.std.proofs.Common.{Bool, List, [], ap, arith, cond, false, map, refl, true, zero, suc, ℕ, ◌+◌, ◌<◌, ◌∷◌, ◌≡◌}
 use Rattle.std.proofs.lemmas.Bool.Decides.{nat_tests}
 use Rattle.std.specs.Ordering.{nat_cmp}
 use Rattle.std.specs.Prelude.{filter}
 use Rattle.std.specs.declared.cmp.Ordering.TheVariants.{Greater}
-use Rattle.sqlite.specs.Held.{Held, state}
-use Rattle.sqlite.specs.State.{HasCleanDisk, State, Survives}
-use Rattle.sqlite.proofs.Callers.{survives_begin}
-use Rattle.sqlite.proofs.StateLemmas.{survives_then}
-use Rattle.sqlite_trees.specs.Tree.{Trees}
-use Rattle.sqlite_trees.specs.declared.store.Store.{Ghosts}
-use Rattle.room_tables_sql.proofs.ReadLaws.{still}
 use Rattle.room_types.specs.Keyed.{put_row}
 use Rattle.room_types.specs.Keys.{division_key}
 use Rattle.room_types.specs.declared.tables.Division.{Division}
 use Rattle.room_tables.specs.Stands.{places_from}
 use Rattle.room_store_writes.specs.Filling.{new_division}
-
--- what a stop leaves of a transaction is what it could leave before, or what is committed
-pub survives_commit : {S : Type 0} (g : Ghosts S) (old begun : Held S) (made last end : State) (P : Trees → Type 0) → begun ≡ record old { in_transaction = true }
-    → Survives (state g begun) made (λ _. ⊥) → Survives made last (λ _. ⊥) → (HasCleanDisk last → P last.now.trees) → Survives last end (λ db. db ≡ last.now.trees) → Survives (state g old) end P
-survives_commit g old begun made last end P is one two whole commit =
-    let inside = rw is at (still one two) in
-    survives_then (state g old) last end (λ _. ⊥) (λ db. db ≡ last.now.trees) P (λ _ db none. absurd none)
-    (λ clean db same. let early : HasCleanDisk last = omega (arith, commit.clean) in subst P (sym same) (whole early))
-    (survives_begin g old last (λ _. ⊥) inside) commit
 
 greater : (m n : ℕ) → n < m → nat_cmp m n ≡ Greater
 greater m n h = grind (arith, nat_tests)

@@ -74,8 +74,7 @@ fn put_row<S: Alter>(tx: &mut Transaction<'_, S>, row: &FleetRow) -> Result<(), 
     ensures commits { CommitsNothing S.Store tx.old.conn.now tx.new.conn.now }
 {
     put(tx, &new_vehicle(row))?;
-    put_terminal(tx, &new_terminal(row))?;
-    Ok(())
+    put_terminal(tx, &new_terminal(row))
 }
 
 // A vehicle that is new is off duty at home, its shift is over, and it has used no numbers.

@@ -9,13 +9,13 @@ ghost use Rattle.room_place.specs.Plans.{has_division, most_areas};
 ghost use Rattle.room_types.specs.Keyed.{put_row};
 ghost use Rattle.room_types.specs.Keys.{division_key};
 ghost use Rattle.room_model.specs.Room.{Room};
-ghost use Rattle.room_tables_schema.specs.Definitions.{IsBlank};
-ghost use Rattle.room_tables_schema.specs.Schema.{no_schema};
+ghost use Rattle.room_tables_schema.specs.Schema.{no_schema, room_schema};
 ghost use Rattle.room_tables_schema.specs.Connections.{MayWrite};
 ghost use Rattle.room_tables.specs.Stands.{House, Stands};
 ghost use Rattle.room_store_writes.specs.Writing.{Leaves};
 ghost use Rattle.room_store_writes.specs.Filling.{Begins, StandsNew, new_division, new_divisions, put_all};
 
+use crate::writing::end;
 use room_place::plans::{Area, DivisionNumber, Plan};
 use room_tables::areas::put_area;
 use room_tables::changing::put;
@@ -47,32 +47,32 @@ pub fn create_in<S: Alter>(
         (StandsNew plan.now terminals.now) }
 {
     let mut tx = conn.transaction();
-    make(&mut tx)?;
-    fill(&mut tx, plan, terminals)?;
-    tx.commit()?;
-    Ok(())
+    let done = fill(&mut tx, plan, terminals);
+    end(tx, done)
 }
 
-// Puts the rows of a new room in tables without rows.
+// Makes the tables of a new room, and puts its rows in them.
 fn fill<S: Alter>(
     tx: &mut Transaction<'_, S>,
     plan: &Plan,
     terminals: &[Terminal],
 ) -> Result<(), Fault>
-    requires inside { MayWrite S.Store tx.old.conn.now }
-    requires blank { HasCleanDisk (state S.Store tx.old.conn.now)
-        → IsBlank (state S.Store tx.old.conn.now).now.trees }
+    requires empty { HasCleanDisk (state S.Store tx.old.conn.now)
+        → (state S.Store tx.old.conn.now).now.schema ≡ no_schema }
+    requires inside { HasCleanDisk (state S.Store tx.old.conn.now)
+        → IsTrue (state S.Store tx.old.conn.now).in_transaction }
     ensures same_reference { tx.new.conn.ghost_name ≡ tx.old.conn.ghost_name }
-    ensures inside { OnOk result (MayWrite S.Store tx.new.conn.now) }
-    ensures stands { HasCleanDisk (state S.Store tx.new.conn.now)
-        → OnOk result (StandsNew plan.now terminals.now (state S.Store tx.new.conn.now).now.trees) }
+    ensures ok { HasCleanDisk (state S.Store tx.new.conn.now)
+        → OnOk result (IsTrue (state S.Store tx.new.conn.now).in_transaction
+        × ((state S.Store tx.new.conn.now).now.schema ≡ room_schema)
+        × StandsNew plan.now terminals.now (state S.Store tx.new.conn.now).now.trees) }
     ensures commits { CommitsNothing S.Store tx.old.conn.now tx.new.conn.now }
 {
+    make(tx)?;
     put_meta(tx, plan.zone())?;
     put_areas(tx, plan.areas())?;
     put_terminals(tx, terminals)?;
-    put_divisions(tx, plan)?;
-    Ok(())
+    put_divisions(tx, plan)
 }
 
 // Puts the areas in a room that has none.

@@ -1,5 +1,10 @@
--- Parts that fit their forms, seen from the parts that are left.
-use Rattle.std.proofs.Common.{◌≡◌, ◌↔◌, ◌⊎◌, List, [], ◌∷◌, map, length, sym, ap, ◌∙◌, arith, refl, inl, inr}
+-- Parts that fit their forms, seen from the parts that are left, and the first of some indexes.
+use Rattle.std.proofs.Common.{◌≡◌, ◌↔◌, ◌⊎◌, ℕ, List, [], ◌∷◌, map, length, subst, sym, take, ap, ◌∙◌, arith, refl, inl, inr}
+use Rattle.std.proofs.lemmas.List.{take-map}
+use Rattle.sqlite_schema.specs.declared.schema.Index.{Index}
+use Rattle.sqlite_schema.specs.declared.schema.Schema.{Schema}
+use Rattle.sqlite_schema.specs.declared.schema.Table.{Table}
+use Rattle.room_tables_schema.specs.Forms.{IndexForm, index_as, indexes_as}
 
 module _ {F T : Type 0} (meant : F → T) (whole : Type 0) where
   -- the whole fits where what is left does
@@ -25,3 +30,10 @@ module _ {F T : Type 0} (meant : F → T) (whole : Type 0) where
   ends [] (p ∷ ps) waits none = absurd (omega (arith, waits.long))
   ends (f ∷ fs) [] waits none = absurd (omega (arith, waits.long))
   ends (f ∷ fs) (p ∷ ps) waits none = elim none [ inl e ↦ absurd (let a = e in cc) | inr e ↦ absurd (let a = e in cc) ]
+
+-- a schema has the indexes of the first forms where it has the first indexes of all
+abbrev Has : Type 0 → Schema → List Table → List Index → Type 0
+Has Yes schema tables indexes = Yes ↔ (schema ≡ record { tables = tables; indexes = indexes; views = [] })
+
+pub first_of : (Yes : Type 0) (schema : Schema) (tables : List Table) (n : ℕ) (forms : List IndexForm) → Has Yes schema tables (indexes_as (take n forms)) → Has Yes schema tables (take n (indexes_as forms))
+first_of Yes schema tables n forms = subst (Has Yes schema tables) (sym (take-map index_as n forms))

@@ -7,7 +7,8 @@ ghost use Rattle.room_tables_schema.specs.Schema.{first_schema, first_tables, fi
 ghost use Rattle.room_tables_schema.specs.Schema.{indexes_of_first, no_schema, room_indexes};
 ghost use Rattle.room_tables_schema.specs.Schema.{room_schema, room_tables, tables_schema};
 ghost use Rattle.room_tables_schema.specs.Versions.{BeginsAsRoom};
-ghost use Rattle.room_tables_schema.specs.Forms.{column_as, table_as, tables_as, index_as, indexes_as};
+ghost use Rattle.room_tables_schema.specs.Forms.{column_as, index_as, indexes_as};
+ghost use Rattle.room_tables_schema.specs.Forms.{table_as, tables_as};
 ghost use Rattle.room_tables_schema.specs.Bare.{IsBare, HasKey};
 
 use crate::forms::{ColumnForm, IndexForm, TableForm};
@@ -66,30 +67,31 @@ pub fn begins_as_room(schema: &Schema) -> bool
     }
 }
 
-// Whether a schema has a room's tables, and so many of its indexes.
-fn has_room_objects(schema: &Schema, indexes: usize) -> bool
-    requires few { indexes ≤ length INDEXES }
+// Whether a schema has a room's tables, and the first so many of its indexes. The proof of a
+// function writes out each constant that it names, so one function names these.
+fn has_room_objects(schema: &Schema, count: usize) -> bool
+    requires few { count ≤ length INDEXES }
     ensures { IsTrue result
         ↔ (schema.now ≡ record {
           tables = room_tables;
-          indexes = take indexes room_indexes;
+          indexes = take count room_indexes;
           views = [];
         }) }
 {
-    has_objects(schema, &TABLES, &INDEXES[..indexes])
+    has_objects(schema, &TABLES, &INDEXES[..count])
 }
 
 // The same of the first version.
-fn has_first_objects(schema: &Schema, indexes: usize) -> bool
-    requires few { indexes ≤ length FIRST_INDEXES }
+fn has_first_objects(schema: &Schema, count: usize) -> bool
+    requires few { count ≤ length FIRST_INDEXES }
     ensures { IsTrue result
         ↔ (schema.now ≡ record {
           tables = first_tables;
-          indexes = take indexes indexes_of_first;
+          indexes = take count indexes_of_first;
           views = [];
         }) }
 {
-    has_objects(schema, &TABLES[..FIRST_TABLES], &FIRST_INDEXES[..indexes])
+    has_objects(schema, &TABLES[..FIRST_TABLES], &FIRST_INDEXES[..count])
 }
 
 fn has_objects(schema: &Schema, tables: &[TableForm], indexes: &[IndexForm]) -> bool

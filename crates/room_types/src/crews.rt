@@ -53,8 +53,8 @@ impl CrewRows {
         ensures crew { IsTrue result ↔ IsCrew self.now }
     {
         self.are_sent_rows()
-            && self.is_lent()
-            && self.is_reported()
+            && self.has_own_loan()
+            && self.has_own_report()
             && sent_agrees(&self.vehicle, self.assignment.as_ref(), self.turn.as_ref())
     }
 
@@ -73,7 +73,8 @@ impl CrewRows {
         is_assigned && is_ordered
     }
 
-    fn is_lent(&self) -> bool
+    // Whether the loan, if there is one, is this vehicle's.
+    fn has_own_loan(&self) -> bool
         ensures { result ≡ passes (λ l.
             same_callsign l.callsign self.now.vehicle.callsign) self.now.loan }
     {
@@ -83,7 +84,7 @@ impl CrewRows {
         }
     }
 
-    fn is_reported(&self) -> bool
+    fn has_own_report(&self) -> bool
         ensures { result ≡ passes (λ x.
             same_callsign x.callsign self.now.vehicle.callsign) self.now.report }
     {

@@ -1,31 +1,8 @@
-use Rattle.std.proofs.Common.{refl}
 use Rattle.dispatch_room_board.proofs.boards.board_of.Goals as goal
 
 pub returns : goal.returns
-returns c = record {
-  empty = c.new-sheet.result;
-  is_empty = record {
-    rest = c.new-sheet.ensures.rest;
-    page = c.new-sheet.ensures.page.0;
-    colour = c.new-sheet.ensures.page.1;
-    reached = c.new-sheet.ensures.reached;
-  };
-  head = c.put_moment.new.self;
-  is_head = c.in_ok-put_moment.ensures;
-  queue = c.put_table.new.self;
-  is_queue = c.in_ok-put_table.ensures;
-  incidents = c.put_table-2.new.self;
-  is_incidents = c.in_ok-put_table-2.ensures;
-  proposals = c.put_proposals.new.self;
-  is_proposals = c.in_ok-put_proposals.ensures;
-  vehicles = c.put_table-3.new.self;
-  is_vehicles = c.in_ok-put_table-3.ensures;
-  points = c.put_table-4.new.self;
-  is_points = c.in_ok-put_table-4.ensures;
-  offers = c.put_table-5.new.self;
-  is_offers = c.in_ok-put_table-5.ensures;
-  loans = c.put_table-6.new.self;
-  is_loans = c.in_ok-put_table-6.ensures;
-  page = rw c.board.ensures refl;
-  reached = rw c.board.ensures refl;
-}
+returns c =
+    let is = c.new-sheet.ensures in
+    rw c.board.ensures
+    (c.in_ok-put_all.ensures c.args.heard.now c.args.colour
+    (record { rest = is.rest; page = is.page.0; colour = is.page.1; reached = is.reached }))

@@ -1,8 +1,10 @@
 use Rattle.dispatch_room_board.proofs.Answered.{listed_or_not, refused_or_not}
 use Rattle.dispatch_room_board.proofs.listed.rows_said.Goals as goal
 
-pub returns-then-message-eq200 : goal.returns-then-message-eq200
-returns-then-message-eq200 g c = listed_or_not g.T.FromJson.says _ c.args.message.now _ _ _ c.ok_or.ensures.value c.if-message-eq200.true c.requires c.in_ok-rows_in.ensures
+pub returns-then-message-ne200 : goal.returns-then-message-ne200
+returns-then-message-ne200 g c = refused_or_not g.T.FromJson.says _ c.args.message.now _ _ _ c.unwrap_or.ensures c.if-message-ne200.true c.requires c.refusal_in.ensures
 
 pub returns : goal.returns
-returns g c = refused_or_not g.T.FromJson.says _ c.args.message.now _ _ _ c.unwrap_or.ensures c.if-message-eq200.false c.requires c.refusal_in.ensures
+returns g c =
+    listed_or_not g.T.FromJson.says _ c.args.message.now _ _ _ (rw c.zip.ensures at c.ok_or.ensures.value) c.if-message-ne200.false c.requires
+    c.in_ok-rows.ensures

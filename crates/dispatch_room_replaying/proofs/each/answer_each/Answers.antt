@@ -1,6 +1,9 @@
 use Rattle.std.proofs.Common.{refl, [], None, false}
 use Rattle.room_http_messages.proofs.StreamLemmas.{Appends-none}
+use Rattle.room_types.specs.declared.refusals.Refusal.TheVariants.{Memory}
+use Rattle.dispatch_room_replaying.specs.declared.faults.ReplayFault.TheVariants.{Want}
 use Rattle.dispatch_room_replaying.specs.Turns.{IsPlayed}
+use Rattle.dispatch_room_replaying.proofs.FaultLemmas.{stopped_kept}
 use Rattle.dispatch_room_replaying.proofs.TurnLemmas.{nothing_done}
 use Rattle.dispatch_room_replaying.proofs.each.answer_each.Goals as goal
 
@@ -19,3 +22,9 @@ returns-clause-answers g c = (
   nothing_done false _ _ _ _ _ _ None IsPlayed _ _ c.memory-in-Err.result c.memory-in-Err.ensures c.requires.reader c.requires.writer,
   ([], ([], refl), Appends-none (g.W.Sink.held c.args.writer.now)),
 )
+
+pub returns-in_default-clause-kept : goal.returns-in_default-clause-kept
+returns-in_default-clause-kept g c = λ trust. stopped_kept _ (Want Memory) _ (g.M.Room.is_kept c.args.room.now → g.M.Room.is_kept c.args.room.now) c.memory.ensures tt
+
+pub returns-clause-kept : goal.returns-clause-kept
+returns-clause-kept g c = λ trust. stopped_kept _ (Want Memory) _ (g.M.Room.is_kept c.args.room.now → g.M.Room.is_kept c.args.room.now) c.memory-in-Err.ensures tt

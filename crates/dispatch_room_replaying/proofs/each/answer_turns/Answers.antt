@@ -2,11 +2,14 @@ use Rattle.std.proofs.Common.{◌∙◌, refl, ap, subst, sym, arith, ℕ, ◌+�
 use Rattle.std.specs.Io.KnownBytes.{Appends}
 use Rattle.room_http_messages.proofs.StreamLemmas.{Appends-more, Appends-none}
 use Rattle.room_http.proofs.StreamLemmas.{Keeps-prepend}
+use Rattle.dispatch_room_replaying.specs.declared.faults.ReplayFault.TheVariants.{Bad}
 use Rattle.dispatch_room_replaying.specs.Frames.{frames_of}
 use Rattle.dispatch_room_replaying.specs.declared.progress.Progress.{Progress}
 use Rattle.dispatch_room_replaying.specs.Turns.{IsPlayed}
+use Rattle.dispatch_room_replaying.proofs.FaultLemmas.{unless_after, stopped_kept}
 use Rattle.dispatch_room_replaying.proofs.FrameLemmas.{frames_more}
 use Rattle.dispatch_room_replaying.proofs.TurnLemmas.{new_progress, passes_none, passes_more, ended, stopped, exhausted}
+use Rattle.dispatch_room_replaying.specs.Replays.{digits_of}
 use Rattle.dispatch_room_replaying.proofs.each.answer_turns.Goals as goal
 
 pub turns-init : goal.turns-init
@@ -63,6 +66,15 @@ returns-in-Err-clause-answers g c =
 pub returns-clause-answers : goal.returns-clause-answers
 returns-clause-answers g c =
     let going = c.turns.invariant.going in
-    let stops = exhausted _ _ g.M.Digested.digest_of _ _ _ _ _ None IsPlayed going.0 false c.turns.progress _ _ _ going.1 going.2 c.stopped-2.ensures (omega (arith, going.4))
+    let stops = exhausted _ _ (digits_of g.M.Digested.digest_of) _ _ _ _ _ None IsPlayed going.0 false c.turns.progress _ _ _ going.1 going.2 c.stopped-2.ensures (omega (arith, going.4))
     c.turns.invariant.reader c.turns.invariant.writer in
     (going.0, [], stops, ([], ([], refl), subst (λ (t : List ℕ). Appends (g.W.Sink.held c.args.writer.now) (g.W.Sink.held c.turns.writer) t) (sym (append-nil (frames_of going.0))) going.3))
+
+pub returns-in-Err-clause-kept : goal.returns-in-Err-clause-kept
+returns-in-Err-clause-kept g c = λ trust.
+    stopped_kept _ c.in-Err.fault _ (g.M.Room.is_kept c.args.room.now → g.M.Room.is_kept c.answer_turn.new.room) c.stopped.ensures
+    (unless_after c.in-Err.fault (g.M.Room.is_kept c.args.room.now) (g.M.Room.is_kept c.turns.room) (g.M.Room.is_kept c.answer_turn.new.room)
+    (c.turns.invariant.kept (c.answer_turn.ensures.trusted trust)) (c.in-Err.ensures.kept trust))
+
+pub returns-clause-kept : goal.returns-clause-kept
+returns-clause-kept g c = λ trust. stopped_kept _ Bad _ (g.M.Room.is_kept c.args.room.now → g.M.Room.is_kept c.turns.room) c.stopped-2.ensures (c.turns.invariant.kept trust)

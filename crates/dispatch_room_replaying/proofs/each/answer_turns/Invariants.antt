@@ -3,11 +3,12 @@ use Rattle.std.specs.Io.KnownBytes.{prepend_known, Appends}
 use Rattle.dispatch_room_replaying.specs.Frames.{frames_of}
 use Rattle.dispatch_room_replaying.specs.Steps.{Passes, IsProgress}
 use Rattle.dispatch_room_replaying.specs.Turns.{Turn, IsPlayed}
+use Rattle.dispatch_room_replaying.specs.Replays.{digits_of}
 use Rattle.dispatch_room_replaying.proofs.each.answer_turns.Given as goal
 
 abbrev pub invariant-turns : goal.invariant-turns
 invariant-turns g l = record {
-  going : (us : List Turn) × Passes g.M.Room.step l.zone g.M.Digested.digest_of (g.M.Room.is_trusted l.room) (g.M.Room.stands l.initial.room) (g.M.Room.stands l.room)
+  going : (us : List Turn) × Passes g.M.Room.step l.zone (digits_of g.M.Digested.digest_of) (g.M.Room.is_trusted l.room) (g.M.Room.stands l.initial.room) (g.M.Room.stands l.room)
       (g.R.Source.left l.initial.reader) (prepend_known l.inbox.kept (g.R.Source.left l.reader)) None IsPlayed us
       × IsProgress l.progress us × Appends (g.W.Sink.held l.initial.writer) (g.W.Sink.held l.writer) (frames_of us) × (length us ≡ l._turn);
   trusted : g.M.Room.is_trusted l.room → g.M.Room.is_trusted l.initial.room;

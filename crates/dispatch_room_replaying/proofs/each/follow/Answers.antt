@@ -1,4 +1,4 @@
-use Rattle.std.proofs.Common.{◌∙◌, refl, sym, ap, inl, inr, drop, false}
+use Rattle.std.proofs.Common.{◌∙◌, refl, sym, ap, drop, false}
 use Rattle.dispatch_room_journal.specs.Entries.{answer}
 use Rattle.dispatch_room_replaying.specs.Faults.{broken}
 use Rattle.dispatch_room_journal.specs.Records.{status_in}
@@ -39,12 +39,7 @@ returns-in-Ok-None g c =
     let read = rw c.in-Ok-None.field-0-is at c.in-Ok-None.ensures.read in
     (read.same, read.says.3, no_status_end _ (at_end _ _ read.says.0 read.says.2))
 
-pub returns-in-Room : goal.returns-in-Room
-returns-in-Room g c =
+pub returns-in_default : goal.returns-in_default
+returns-in_default g c =
     let read = rw c.in-Ok-Some.field-0-is at c.in-Ok-Some.ensures.read in
-    (read.same, read.says.1, no_status_front _ _ c.in-Ok-Some.next read.says.0.0 read.says.0.1 (λ status is. elim c.in-Room.is as (λ z. ⊥) [ inl x ↦ cc (x.1, is) | inr x ↦ cc (x.2, is) ]))
-
-pub returns-in-Room-2 : goal.returns-in-Room-2
-returns-in-Room-2 g c =
-    let read = rw c.in-Ok-Some.field-0-is at c.in-Ok-Some.ensures.read in
-    (read.same, read.says.1, no_status_front _ _ c.in-Ok-Some.next read.says.0.0 read.says.0.1 (λ status is. elim c.in-Room.is as (λ z. ⊥) [ inl x ↦ cc (x.1, is) | inr x ↦ cc (x.2, is) ]))
+    (read.same, read.says.1, no_status_front _ _ c.in-Ok-Some.next read.says.0.0 read.says.0.1 (λ status. c.in_default.not-Answer status))

@@ -1,8 +1,8 @@
-use Rattle.std.proofs.Common.{refl, [], drop}
+use Rattle.std.proofs.Common.{refl, [], drop, inl}
 use Rattle.dispatch_room_journal.specs.Entries.{room, answer}
 use Rattle.dispatch_room_replaying.specs.Faults.{broken, unasked, headless}
-use Rattle.dispatch_room_replaying.proofs.FaultLemmas.{not_both, read_explains, read_due, wanting_explains, wanting_due}
-use Rattle.dispatch_room_replaying.proofs.EntryLemmas.{layout_of_room, layout_of_message, layout_of_mark, taken, ends_before}
+use Rattle.dispatch_room_replaying.proofs.FaultLemmas.{unless_known, not_both, read_explains, read_due, wanting_explains, wanting_due}
+use Rattle.dispatch_room_replaying.proofs.EntryLemmas.{layout_of_room, layout_of_message, layout_of_mark, taken, by_not_after, ends_before}
 use Rattle.dispatch_room_replaying.proofs.entries.next_entry.Goals as goal
 
 pub returns-in-Ok-true-clause-next : goal.returns-in-Ok-true-clause-next
@@ -85,3 +85,24 @@ returns-in-Answer-clause-next g c =
           (text, refl, unasked c.in-Answer.field-0 (drop c.in-Ok-Some.layout.end text) refl front.begins),
       (read.says.1, refl),
     )
+
+pub returns-in-Ok-None-clause-next : goal.returns-in-Ok-None-clause-next
+returns-in-Ok-None-clause-next g c =
+    let read = rw c.in-Ok-None.field-0-is at c.in-Ok-None.ensures.read in
+    (read.same, λ text known. (text, refl, inl (read.first text known)), λ trust terminals room stood. stood)
+
+pub returns-else-is_after-clause-next : goal.returns-else-is_after-clause-next
+returns-else-is_after-clause-next g c =
+    let read = rw c.in-Ok-Some.field-0-is at c.in-Ok-Some.ensures.read in
+    let front = layout_of_message _ c.in-Ok-Some.layout read.says.0.0 c.in-Message.at c.in-Message.size read.says.0.1 c.in-Message.is in (
+      front.0,
+      front.1,
+      by_not_after c.args.until.now c.in-Message.at front.0 (λ late. not_both _ c.if-is_after.false (c.is_after.ensures.1 late)),
+      read.same,
+      c.if-not-is_begun.false,
+      read.says.1,
+      λ trust terminals room stood. stood,
+    )
+
+pub returns-in-Err-clause-kept : goal.returns-in-Err-clause-kept
+returns-in-Err-clause-kept g c = λ trust. unless_known c.read_fault.result (g.M.Room.is_kept c.args.room.now → g.M.Room.is_kept c.args.room.now) (λ was. was)

@@ -1,8 +1,11 @@
 use Rattle.std.proofs.Common.{◌∙◌, refl, ap, arith, ◌+◌, ◌-◌, ◌^◌, min, [], ◌++◌, length-append, true}
 use Rattle.room_http.proofs.StreamLemmas.{Keeps-prepend}
+use Rattle.dispatch_room_replaying.specs.declared.faults.ReplayFault.TheVariants.{Bad}
 use Rattle.dispatch_room_replaying.specs.declared.progress.Progress.{Progress}
 use Rattle.dispatch_room_replaying.specs.Turns.{IsReplayed}
+use Rattle.dispatch_room_replaying.proofs.FaultLemmas.{unless_after, stopped_kept}
 use Rattle.dispatch_room_replaying.proofs.TurnLemmas.{new_progress, passes_none, passes_more, ended, stopped, exhausted}
+use Rattle.dispatch_room_replaying.specs.Replays.{digits_of}
 use Rattle.dispatch_room_replaying.proofs.replaying.replay_turns.Goals as goal
 
 pub turns-init : goal.turns-init
@@ -55,6 +58,15 @@ returns-in-Err-clause-replay g c =
 pub returns-clause-replay : goal.returns-clause-replay
 returns-clause-replay g c =
     let going = c.turns.invariant.going in
-    let stops = exhausted _ _ g.M.Digested.digest_of _ _ _ _ _ _ IsReplayed going.0 true c.turns.progress _ _ _ going.1 going.2 c.stopped-2.ensures (omega (arith, going.3))
+    let stops = exhausted _ _ (digits_of g.M.Digested.digest_of) _ _ _ _ _ _ IsReplayed going.0 true c.turns.progress _ _ _ going.1 going.2 c.stopped-2.ensures (omega (arith, going.3))
     c.turns.invariant.reader refl in
     (going.0, [], stops)
+
+pub returns-in-Err-clause-kept : goal.returns-in-Err-clause-kept
+returns-in-Err-clause-kept g c = λ trust.
+    stopped_kept _ c.in-Err.fault _ (g.M.Room.is_kept c.args.room.now → g.M.Room.is_kept c.replay_turn.new.room) c.stopped.ensures
+    (unless_after c.in-Err.fault (g.M.Room.is_kept c.args.room.now) (g.M.Room.is_kept c.turns.room) (g.M.Room.is_kept c.replay_turn.new.room)
+    (c.turns.invariant.kept (c.replay_turn.ensures.trusted trust)) (c.in-Err.ensures.kept trust))
+
+pub returns-clause-kept : goal.returns-clause-kept
+returns-clause-kept g c = λ trust. stopped_kept _ Bad _ (g.M.Room.is_kept c.args.room.now → g.M.Room.is_kept c.turns.room) c.stopped-2.ensures (c.turns.invariant.kept trust)

@@ -2,11 +2,12 @@ use Rattle.std.proofs.Common.{◌≡◌, false, List, length}
 use Rattle.std.specs.Io.KnownBytes.{prepend_known}
 use Rattle.dispatch_room_replaying.specs.Steps.{Passes, IsProgress}
 use Rattle.dispatch_room_replaying.specs.Turns.{Turn, IsReplayed}
+use Rattle.dispatch_room_replaying.specs.Replays.{digits_of}
 use Rattle.dispatch_room_replaying.proofs.replaying.replay_turns.Given as goal
 
 abbrev pub invariant-turns : goal.invariant-turns
 invariant-turns g l = record {
-  going : (us : List Turn) × Passes g.M.Room.step l.zone g.M.Digested.digest_of (g.M.Room.is_trusted l.room) (g.M.Room.stands l.initial.room) (g.M.Room.stands l.room)
+  going : (us : List Turn) × Passes g.M.Room.step l.zone (digits_of g.M.Digested.digest_of) (g.M.Room.is_trusted l.room) (g.M.Room.stands l.initial.room) (g.M.Room.stands l.room)
       (g.R.Source.left l.initial.reader) (prepend_known l.inbox.kept (g.R.Source.left l.reader)) l.until IsReplayed us
       × IsProgress l.progress us × (length us ≡ l._turn);
   trusted : g.M.Room.is_trusted l.room → g.M.Room.is_trusted l.initial.room;

@@ -1,6 +1,8 @@
 use Rattle.std.proofs.Common.{refl, inl, inr}
 use Rattle.dispatch_room_journal.specs.Entries.{room}
+use Rattle.dispatch_room_replaying.proofs.FaultLemmas.{unless_after}
 use Rattle.dispatch_room_replaying.proofs.StepLemmas.{left_turn, caught_turn, stops_later}
+use Rattle.dispatch_room_replaying.specs.Replays.{digits_of}
 use Rattle.dispatch_room_replaying.proofs.settling.catch_up.Goals as goal
 
 pub returns-in-Ok-true-clause-turn : goal.returns-in-Ok-true-clause-turn
@@ -16,7 +18,12 @@ returns-in-Ok-clause-turn g c = (
 
 pub returns-in-Err-play_open-clause-turn : goal.returns-in-Err-play_open-clause-turn
 returns-in-Err-play_open-clause-turn g c =
-    stops_later _ _ g.M.Digested.digest_of _ _ c.play_open.ensures.trusted _ _ _ _ _ _ _ c.is_at.ensures.same c.in-Err-play_open.ensures.turn
+    stops_later _ _ (digits_of g.M.Digested.digest_of) _ _ c.play_open.ensures.trusted _ _ _ _ _ _ _ c.is_at.ensures.same c.in-Err-play_open.ensures.turn
 
 pub returns-in-Err-clause-turn : goal.returns-in-Err-clause-turn
 returns-in-Err-clause-turn g c = inl (c.is_at.ensures.same, inr c.in-Err.ensures.wants)
+
+pub returns-in-Err-play_open-clause-kept : goal.returns-in-Err-play_open-clause-kept
+returns-in-Err-play_open-clause-kept g c = λ trust.
+    unless_after c.in-Err-play_open.fault (g.M.Room.is_kept c.args.room.now) (g.M.Room.is_kept c.is_at.new.room) (g.M.Room.is_kept c.play_open.new.room)
+    (c.in-Ok-false.ensures.kept (c.play_open.ensures.trusted trust)) (c.in-Err-play_open.ensures.kept trust)

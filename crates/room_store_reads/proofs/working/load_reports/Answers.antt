@@ -3,15 +3,15 @@ use Rattle.std.proofs.lemmas.Result.{IfOk-weaker}
 use Rattle.std.specs.Prelude.{◌==◌}
 use Rattle.room_types.specs.Keys.{owns_report}
 use Rattle.room_tables_sql.proofs.ReadLaws.{begins, told}
-use Rattle.room_store_reads.proofs.ReportTests.{named_only, shown_report}
+use Rattle.room_store_reads.proofs.ReportTests.{exceptional, named_only, shown_report}
 use Rattle.room_store_reads.proofs.RoomReads.{filter_as, filter_never, numbered_is}
 use Rattle.room_store_reads.proofs.working.load_reports.Goals as goal
 
 pub returns-then-reads_exceptions-clause-rows : goal.returns-then-reads_exceptions-clause-rows
 returns-then-reads_exceptions-clause-rows g c clean =
     let read = sym c.reads_exceptions.ensures ∙ c.if-reads_exceptions.true in
-    IfOk-weaker c.load_exceptions.result _ _ (λ x found house room h in_order.
-    found house room h in_order ∙ filter_as _ _ room.reports (λ y. ap (λ b. (y.division == c.args.division) && b) (shown_report c.args.ask.now y read))) (c.load_exceptions.ensures.rows clean)
+    IfOk-weaker c.load_parts.result _ _ (λ x found house room h in_order.
+    found house room h in_order.reports ∙ filter_as _ _ room.reports (λ y. exceptional c.args.division y ∙ ap (λ b. (y.division == c.args.division) && b) (shown_report c.args.ask.now y read))) (c.load_parts.ensures.rows clean)
 
 pub returns-in-Some-clause-rows : goal.returns-in-Some-clause-rows
 returns-in-Some-clause-rows g c clean =

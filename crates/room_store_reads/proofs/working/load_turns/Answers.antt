@@ -3,6 +3,7 @@ use Rattle.std.proofs.lemmas.Result.{IfOk-weaker}
 use Rattle.std.specs.Prelude.{◌==◌}
 use Rattle.room_types.specs.declared.asks.Ask.TheVariants.{StandDown}
 use Rattle.room_model.specs.Working.{names_turn, reads_number, working}
+use Rattle.room_store_reads.proofs.ReadNumbers.{own_contains}
 use Rattle.room_store_reads.proofs.RoomReads.{filter_as, or_none}
 use Rattle.room_store_reads.proofs.working.load_turns.Goals as goal
 
@@ -17,7 +18,7 @@ pub returns-in-None-clause-rows : goal.returns-in-None-clause-rows
 returns-in-None-clause-rows g c clean =
     let d = c.args.division in
     let a = c.args.ask.now in
-    IfOk-weaker c.turns_of_all.result _ _ (λ x found house room h in_order numbers.
-    found house room h in_order ∙ filter_as _ _ room.turns (λ t.
+    IfOk-weaker c.load_parts.result _ _ (λ x found house room h in_order numbers.
+    found house room h in_order.turns ∙ filter_as _ _ room.turns (λ t.
     let unnamed : names_turn d a room t ≡ false = c.stood_down.ensures.turn d room t ∙ rw c.in-None.is refl in
-    ap (λ b. (t.division == d) && b) (numbers t.incident ∙ sym (or_none (reads_number d a room t.incident)) ∙ ap (λ b. reads_number d a room t.incident || b) (sym unnamed)))) (c.turns_of_all.ensures.rows clean)
+    own_contains (t.division == d) t.incident c.args.numbers.now ∙ ap (λ b. (t.division == d) && b) (numbers t.incident ∙ sym (or_none (reads_number d a room t.incident)) ∙ ap (λ b. reads_number d a room t.incident || b) (sym unnamed)))) (c.load_parts.ensures.rows clean)

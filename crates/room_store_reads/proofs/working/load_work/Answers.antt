@@ -1,37 +1,45 @@
-use Rattle.std.proofs.Common.{ap, ◌&&◌, ◌∙◌}
+use Rattle.std.proofs.Common.{ap, ℕ, ◌&&◌, ◌∙◌, ◌≡◌}
 use Rattle.std.specs.Prelude.{◌==◌}
 use Rattle.sqlite.specs.Held.{state}
-use Rattle.room_model.specs.Working.{reads_calls}
+use Rattle.room_model.specs.Working.{reads_calls, reads_number}
 use Rattle.room_tables_sql.proofs.ReadLaws.{and, but, clean_before, fails, looked, told, wants}
 use Rattle.room_tables.proofs.RoomReads.{kept}
+use Rattle.room_store_reads.specs.Reading.{contains}
+use Rattle.room_store_reads.proofs.ReadNumbers.{own_contains}
 use Rattle.room_store_reads.proofs.RoomReads.{filter_as}
 use Rattle.room_store_reads.proofs.working.load_work.Goals as goal
 
-pub load_calls-requires-clause-open : goal.load_calls-requires-clause-open
-load_calls-requires-clause-open g c clean = (c.in_ok-incidents.ensures.reads.ok clean).0.is_open
+pub load_parts-requires-2-clause-open : goal.load_parts-requires-2-clause-open
+load_parts-requires-2-clause-open g c clean = (c.in_ok-incidents.ensures.reads.ok clean).0.is_open
 
 pub load_turns-requires-clause-open : goal.load_turns-requires-clause-open
 load_turns-requires-clause-open g c clean = (c.in_ok-calls.ensures.reads.ok clean).0.is_open
 
+pub load_reports-requires-clause-open : goal.load_reports-requires-clause-open
+load_reports-requires-clause-open g c clean = (c.in_ok-turns.ensures.reads.ok clean).0.is_open
+
 pub returns-clause-rows : goal.returns-clause-rows
 returns-clause-rows g c clean house room h in_order =
-    let first = state g.S.Store c.args.conn.now in
-    let second = state g.S.Store c.load_incidents.new.conn in
-    let third = state g.S.Store c.load_calls.new.conn in
     let d = c.args.division in
     let a = c.args.ask.now in
+    let start = state g.S.Store c.args.conn.now in
     let one = looked c.in_ok-incidents.ensures.reads in
     let two = and one c.in_ok-calls.ensures.reads in
-    let clean_third = clean_before two c.in_ok-turns.ensures.reads clean in
-    let clean_second = clean_before one c.in_ok-calls.ensures.reads clean_third in
-    let incidents = c.in_ok-incidents.ensures.rows clean_second house room h in_order in
-    let calls = c.in_ok-calls.ensures.rows clean_third house room (kept first second (one.ok clean_second) house room h) in_order in
-    let turns = c.in_ok-turns.ensures.rows clean house room (kept first third (two.ok clean_third) house room h) in_order in
+    let three = and two c.in_ok-turns.ensures.reads in
+    let third = clean_before three c.in_ok-reports.ensures.reads clean in
+    let second = clean_before two c.in_ok-turns.ensures.reads third in
+    let first = clean_before one c.in_ok-calls.ensures.reads second in
+    let incidents = c.in_ok-incidents.ensures.rows first house room h in_order.incidents ∙ filter_as _ _ room.incidents (λ i. c.incidents_read.ensures d i) in
     let numbers = c.in_ok-numbers.ensures.ok d c.args.at room in_order incidents in
+    let seen : (n : ℕ) → contains n c.as_slice.result.now ≡ reads_number d a room n = rw c.as_slice.ensures.value numbers in
+    let calls = c.in_ok-calls.ensures.rows second house room (kept start (state g.S.Store c.load_parts.new.conn) (one.ok first) house room h) in_order.calls in
+    let turns = c.in_ok-turns.ensures.rows third house room (kept start (state g.S.Store c.load_parts-2.new.conn) (two.ok second) house room h) in_order in
     record {
       incidents = incidents;
-      calls = rw c.as_slice.ensures.value at calls ∙ filter_as _ _ room.calls (λ x. ap (λ b. (x.division == d) && (reads_calls a && b)) (numbers x.incident));
+      calls = calls ∙ filter_as _ _ room.calls (λ x. own_contains (x.division == d) x.incident c.calls_read-of_calls.result.now
+          ∙ ap (λ b. (x.division == d) && b) (c.calls_read-of_calls.ensures x.incident ∙ ap (λ b. reads_calls a && b) (seen x.incident)));
       turns = turns (rw c.as_slice-2.ensures.value numbers);
+      reports = c.in_ok-reports.ensures.rows clean house room (kept start (state g.S.Store c.load_turns.new.conn) (three.ok third) house room h) in_order;
     }
 
 pub returns-in_err-incidents-clause-reads : goal.returns-in_err-incidents-clause-reads
@@ -39,23 +47,25 @@ returns-in_err-incidents-clause-reads g c = fails c.from_residual.ensures.0 c.in
 
 pub returns-in_err-numbers-clause-reads : goal.returns-in_err-numbers-clause-reads
 returns-in_err-numbers-clause-reads g c =
-    let one = looked c.in_ok-incidents.ensures.reads in
-    wants c.from_residual-in_err-numbers.ensures.0 one
+    wants c.from_residual-in_err-numbers.ensures.0 (looked c.in_ok-incidents.ensures.reads)
 
 pub returns-in_err-calls-clause-reads : goal.returns-in_err-calls-clause-reads
 returns-in_err-calls-clause-reads g c =
-    let one = looked c.in_ok-incidents.ensures.reads in
-    but one c.from_residual-in_err-calls.ensures.0 c.in_err-calls.ensures.reads
+    but (looked c.in_ok-incidents.ensures.reads) c.from_residual-in_err-calls.ensures.0 c.in_err-calls.ensures.reads
 
 pub returns-in_err-turns-clause-reads : goal.returns-in_err-turns-clause-reads
 returns-in_err-turns-clause-reads g c =
     let one = looked c.in_ok-incidents.ensures.reads in
+    but (and one c.in_ok-calls.ensures.reads) c.from_residual-in_err-turns.ensures.0 c.in_err-turns.ensures.reads
+
+pub returns-in_err-reports-clause-reads : goal.returns-in_err-reports-clause-reads
+returns-in_err-reports-clause-reads g c =
+    let one = looked c.in_ok-incidents.ensures.reads in
     let two = and one c.in_ok-calls.ensures.reads in
-    but two c.from_residual-in_err-turns.ensures.0 c.in_err-turns.ensures.reads
+    but (and two c.in_ok-turns.ensures.reads) c.from_residual-in_err-reports.ensures.0 c.in_err-reports.ensures.reads
 
 pub returns-clause-reads : goal.returns-clause-reads
 returns-clause-reads g c =
     let one = looked c.in_ok-incidents.ensures.reads in
     let two = and one c.in_ok-calls.ensures.reads in
-    let three = and two c.in_ok-turns.ensures.reads in
-    told three
+    told (and (and two c.in_ok-turns.ensures.reads) c.in_ok-reports.ensures.reads)

@@ -5,6 +5,7 @@ use Rattle.room_tables_sql.specs.Outcomes.{CommitsNothing}
 use Rattle.room_model.specs.Room.{Room, apply}
 use Rattle.room_tables_schema.specs.Connections.{MayWrite}
 use Rattle.room_tables.specs.Stands.{House, Stands}
+use Rattle.room_store_writes.proofs.CommitLaws.{StandsBefore}
 use Rattle.room_store_writes.proofs.writing.put_each.Given as goal
 
 abbrev pub invariant-loop-change : goal.invariant-loop-change
@@ -15,6 +16,5 @@ invariant-loop-change g l =
       same : l.tx.conn.ghost_name ≡ l.fn.tx.conn.ghost_name;
       commits : CommitsNothing g.S.Store l.fn.tx.conn.now l.tx.conn.now;
       may : MayWrite g.S.Store l.tx.conn.now;
-      stands : HasCleanDisk now → (house : House) (room : Room) → Stands old.now.trees house room
-          → (mid : Room) × Stands now.now.trees house mid × (apply mid (drop l.change-index l.changes) ≡ apply room l.changes);
+      stands : HasCleanDisk now → (house : House) (room : Room) → Stands old.now.trees house room → StandsBefore (drop l.change-index l.changes) house now.now.trees (apply room l.changes);
     }

@@ -1,12 +1,5 @@
-use Rattle.std.proofs.Common.{◌≡◌, IsTrue, ◌↔◌, [], List, subst, sym}
-use Rattle.std.proofs.lemmas.List.{take-map}
-use Rattle.sqlite_schema.specs.declared.schema.Index.{Index}
-use Rattle.room_tables_schema.specs.Forms.{index_as}
-use Rattle.room_tables_schema.specs.Schema.{room_tables}
+use Rattle.room_tables_schema.proofs.Fitting.{first_of}
 use Rattle.room_tables_schema.proofs.testing.has_room_objects.Goals as goal
 
 pub returns : goal.returns
-returns c =
-    subst (λ (is : List Index). IsTrue c.has_objects.result ↔ (c.args.schema.now ≡ record { tables = room_tables; indexes = is; views = [] }))
-    (sym (take-map index_as c.args.indexes _))
-    c.has_objects.ensures
+returns c = first_of _ _ _ c.args.count _ c.has_objects.ensures

@@ -10,5 +10,5 @@ returns-in-None c =
 
 pub returns-in-Some : goal.returns-in-Some
 returns-in-Some c =
-    let h = (rw c.in-Some.is at (read_both c.zip-told.ensures (read_both c.zip-2.ensures (read_both c.zip.ensures c.member.ensures c.member-2.ensures) c.member-3.ensures) c.member-4.ensures)).is in
-    record { is = record { breaks = search (rules, h.0.0.0); distance = search (rules, h.0.0.1); kind = search (rules, h.0.1); callsign = search (rules, h.1) } }
+    let h = (read_both c.in-Some.ensures (read_both c.zip-2.ensures (read_both c.zip.ensures c.member.ensures c.member-2.ensures) c.member-3.ensures) c.member-4.ensures).is in
+    record { is = record { breaks = h.0.0.0; distance = h.0.0.1; kind = h.0.1; callsign = search (rules, h.1) } }

@@ -4,7 +4,6 @@ use Rattle.dispatch_room_board.proofs.sheets.Sheet.put_moment.Goals as goal
 
 pub returns : goal.returns
 returns c =
-    let is = c.in_ok-date.ensures in
     on_ok_weaker c.put_line-2.result
-    (λ h. inl (is.0, rw is.1 c.in-Some.ensures.is, ((rw (c.as_str.ensures.value, c.in_ok-line.ensures.ok, c.as_str-date.ensures.value, is.2) at h.0, h.1), refl, refl)))
+    (λ h. inl (c.date_of-date.result, rw c.date_of-date.ensures c.in-Some.ensures.is, ((rw (c.as_str.ensures.value, c.in_ok-line.ensures.ok) at h.0, h.1), refl, refl)))
     c.put_line-2.ensures

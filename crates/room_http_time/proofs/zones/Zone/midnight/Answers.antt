@@ -9,13 +9,13 @@ use Rattle.room_http_time.proofs.zones.Zone.midnight.Goals as goal
 
 pub unwrap-requires : goal.unwrap-requires
 unwrap-requires c =
-    let zoned = c.to_zoned.ensures in
+    let zoned = rw c.from_plain-zone.ensures at c.to_zoned.ensures in
     let offset = compatible_offset (ambiguous_at (zone_of c.args.self.now) zoned.0) in
     zoned.3.succeeds.1 (midnight_is_instant zoned.0 offset (epoch_day c.args.date) (civil_nanos-midnight zoned.0 c.args.date zoned.1 zoned.2) c.requires)
 
 pub returns : goal.returns
 returns c =
-    let zoned = c.to_zoned.ensures in
+    let zoned = rw c.from_plain-zone.ensures at c.to_zoned.ensures in
     let instant = rw c.unwrap.ensures at zoned.3.value in
     let fits : FitsSigned w64 c.as_second.result = let r = c.as_second.type_inv in omega (arith, signed_arith, r) in (
       zoned.0,

@@ -1,0 +1,250 @@
+//! The commands of the program, each with its words and what help says of them.
+
+use clap::builder::ValueParser;
+
+/// A command: its name, what it does, what help says at its end, and what follows its name.
+#[derive(Clone, Copy)]
+pub struct Form {
+    pub name: &'static str,
+    pub about: &'static str,
+    pub end: &'static str,
+    pub words: &'static [Word],
+}
+
+/// A word of a command, or an option.
+#[derive(Clone, Copy)]
+pub struct Word {
+    pub name: &'static str,
+    pub kind: Kind,
+    pub help: &'static str,
+}
+
+/// How a word is given.
+#[derive(Clone, Copy)]
+pub enum Kind {
+    /// At its place, and it has to be there.
+    Placed(ValueParser<'static>),
+    /// By its name alone.
+    Flag,
+    /// Behind its name: what help calls it, what it has to be, and what it is where none is given.
+    Named {
+        value: &'static str,
+        parser: ValueParser<'static>,
+        default: &'static [&'static str],
+    },
+}
+
+const TEXT: Kind = Kind::Placed(ValueParser::String);
+
+const PATIENCE: Kind = Kind::Named {
+    value: "SECONDS",
+    parser: ValueParser::Signed(1, 3600),
+    default: &["2"],
+};
+
+const FILE: Word = Word {
+    name: "FILE",
+    kind: TEXT,
+    help: "The room's file",
+};
+
+const INIT: Form = Form {
+    name: "init",
+    about: "Creates a room in an empty file, or in one that is not there",
+    end: "Example: dispatch_room init room.db plan.csv",
+    words: &[
+        FILE,
+        Word {
+            name: "PLAN",
+            kind: TEXT,
+            help: "The plan as CSV: zone, areas, and the terminals of desks and positions",
+        },
+    ],
+};
+
+const IMPORT: Form = Form {
+    name: "import",
+    about: "Enrols a fleet, and tells what became of each row",
+    end: "Where it says `refused: file`, `check` tells what is wrong.\n\n\
+         Example: dispatch_room import room.db fleet.csv",
+    words: &[
+        FILE,
+        Word {
+            name: "FLEET",
+            kind: TEXT,
+            help: "The fleet as CSV: callsign, division, kind, place, token",
+        },
+    ],
+};
+
+const MIGRATE: Form = Form {
+    name: "migrate",
+    about: "Moves a room of version 1, which had no offers, to this version",
+    end: "There is no way back but a copy of the file, so make one first.\n\n\
+         Example: dispatch_room migrate room.db",
+    words: &[FILE],
+};
+
+const CHECK: Form = Form {
+    name: "check",
+    about: "Tells how much a room has, or what is wrong first with its file",
+    end: "No row is written. Its status is 0 where the file is a well-formed room.\n\n\
+         Example: dispatch_room check room.db",
+    words: &[FILE],
+};
+
+const SERVE: Form = Form {
+    name: "serve",
+    about: "Serves a room over HTTP, one connection after another",
+    end: "Where it says `refused: file`, `check` tells what is wrong.\n\n\
+         Example: dispatch_room serve room.db 127.0.0.1:8080",
+    words: &[
+        FILE,
+        Word {
+            name: "ADDRESS",
+            kind: TEXT,
+            help: "Where to listen: an address of this machine alone, with a port",
+        },
+        Word {
+            name: "connections",
+            kind: Kind::Named {
+                value: "N",
+                parser: ValueParser::Unsigned(1, u64::MAX),
+                default: &[],
+            },
+            help: "How many connections to serve, one after another; without it there is no end",
+        },
+        Word {
+            name: "idle",
+            kind: Kind::Named {
+                value: "MILLISECONDS",
+                parser: ValueParser::Signed(1, 60000),
+                default: &["200"],
+            },
+            help: "How long a connection may be silent between requests, and before the first",
+        },
+        Word {
+            name: "patience",
+            kind: PATIENCE,
+            help: "How long a request may take to come, and its answer to be taken",
+        },
+        Word {
+            name: "log",
+            kind: Kind::Flag,
+            help: "Write a line to standard error for each message: moment, who, method, path, \
+                 status, milliseconds",
+        },
+        Word {
+            name: "journal",
+            kind: Kind::Named {
+                value: "LIST",
+                parser: ValueParser::String,
+                default: &[],
+            },
+            help: "Keep each message in this file before the room acts on it, and its answer's \
+                 status",
+        },
+        Word {
+            name: "journal-sync",
+            kind: Kind::Named {
+                value: "WHEN",
+                parser: ValueParser::Names(&["always", "system"]),
+                default: &["system"],
+            },
+            help: "When a record of the journal is on the disk: always before the room acts on \
+                 it, or when the system writes it",
+        },
+    ],
+};
+
+const REPLAY: Form = Form {
+    name: "replay",
+    about: "Does to a room what a journal says, from standard input, at its moments",
+    end: "The room has to be as it was where the journal begins. Each answer's status has to be \
+         the recorded one; where it is another, or the list is none, the record is told.\n\n\
+         Example: dispatch_room replay copy.db --until $(date -d '03:15' +%s) <room.list",
+    words: &[
+        FILE,
+        Word {
+            name: "until",
+            kind: Kind::Named {
+                value: "MOMENT",
+                parser: ValueParser::Signed(0, 4102444799),
+                default: &[],
+            },
+            help: "Stop before the first later message; whole seconds since 1970, in UTC",
+        },
+        Word {
+            name: "answers",
+            kind: Kind::Flag,
+            help: "Play each message as it comes, and write its answer: for a program at both \
+                 pipes",
+        },
+    ],
+};
+
+const BOARD: Form = Form {
+    name: "board",
+    about: "Shows what a desk sees in a room that is served: queue, incidents, vehicles, points, \
+         offers and loans",
+    end: "It only gets. A live board: watch -c -n 5 dispatch_room board .. --color always\n\n\
+         Example: dispatch_room board 127.0.0.1:8080 deskone1 --incident 1",
+    words: &[
+        Word {
+            name: "ADDRESS",
+            kind: TEXT,
+            help: "Where the room is served: an address with a port",
+        },
+        Word {
+            name: "TOKEN",
+            kind: TEXT,
+            help: "The token of the desk",
+        },
+        Word {
+            name: "incident",
+            kind: Kind::Named {
+                value: "N",
+                parser: ValueParser::Signed(1, 2147483647),
+                default: &[],
+            },
+            help: "Show also which vehicles may be sent to this incident",
+        },
+        Word {
+            name: "patience",
+            kind: PATIENCE,
+            help: "How long it may take in all",
+        },
+        Word {
+            name: "color",
+            kind: Kind::Named {
+                value: "WHEN",
+                parser: ValueParser::Names(&["auto", "always", "never"]),
+                default: &["auto"],
+            },
+            help: "Whether lines have colours; auto: on a terminal",
+        },
+    ],
+};
+
+const TIMES: Form = Form {
+    name: "times",
+    about: "Writes the activation times of a division's day as CSV",
+    end: "Where it says `refused: file`, `check` tells what is wrong.\n\n\
+         Example: dispatch_room times room.db 1 2026-03-29",
+    words: &[
+        FILE,
+        Word {
+            name: "DIVISION",
+            kind: Kind::Placed(ValueParser::Names(&["1", "2", "3", "4", "5", "6", "7", "8", "9"])),
+            help: "The division, 1 to 9",
+        },
+        Word {
+            name: "DAY",
+            kind: TEXT,
+            help: "The day, as YYYY-MM-DD, from 1970 to 2099",
+        },
+    ],
+};
+
+/// All commands, as help lists them.
+pub const FORMS: [Form; 8] = [INIT, IMPORT, MIGRATE, CHECK, SERVE, REPLAY, BOARD, TIMES];

@@ -1,0 +1,149 @@
+//! Parts of a division's rows that an index or a key finds, and the load of all that are in some.
+ghost use Rattle.std.specs.Prelude.{◌≡◌, ◌==◌, ◌&&◌, ℕ, Bool, filter, not, IsTrue};
+ghost use Rattle.sqlite.specs.Held.{state};
+ghost use Rattle.sqlite.specs.State.{HasCleanDisk};
+ghost use Rattle.room_types.specs.Codes.{outcome_number};
+ghost use Rattle.room_types.specs.Keyed.{IsKeyed};
+ghost use Rattle.room_tables.specs.Finding.{Finds};
+ghost use Rattle.room_tables_schema.specs.Connections.{HasRoomSchema};
+ghost use Rattle.room_tables_sql.specs.Outcomes.{ReadsOnly};
+ghost use Rattle.room_store_reads.specs.Reading.{any, is_part};
+
+use crate::extents::load_one;
+use crate::naming::IncidentPart;
+use crate::unions::add_all;
+use room_place::plans::DivisionNumber;
+use room_tables::calls::calls_of;
+use room_tables::incidents::{active_incidents, incidents_opened, incidents_since};
+use room_tables::reports::uncleared_reports;
+use room_tables::tables::Table;
+use room_tables::turns::turns_of;
+use room_tables_schema::faults::Fault;
+use room_types::codes::Outcome;
+use room_types::numbers::Number;
+use room_types::rows::Rows;
+use room_types::tables::{Call, Incident, Report, Turn};
+use sqlite::{Alter, Connection};
+use std::alloc::Global;
+
+/// A table that a division's rows are read from part by part.
+pub trait Parted: Table {
+    /// What names a part.
+    type Part;
+
+    /// Whether a row is in a division's part.
+    ghost is_in: { ℕ → Self.Part → Self → Bool };
+
+    /// The rows of a part.
+    fn load_part<S: Alter>(
+        alloc: Global,
+        conn: &mut Connection<S>,
+        division: DivisionNumber,
+        part: &Self::Part,
+    ) -> Result<Rows<Self>, Fault>
+        requires room { HasRoomSchema S.Store conn.old }
+        requires open { HasCleanDisk (state S.Store conn.old)
+            → IsTrue (state S.Store conn.old).is_open }
+        ensures rows { Finds S.Store conn.old conn.new result (λ room x.
+            IsKeyed Self.Key.cmp Self.key_of (Self.rows room)
+            → x ≡ filter (is_in division part.now) (Self.rows room)) }
+        ensures reads { ReadsOnly S.Store conn.old conn.new result };
+}
+
+/// The rows that are in one of some parts.
+pub fn load_parts<R: Parted, S: Alter>(
+    alloc: Global,
+    conn: &mut Connection<S>,
+    division: DivisionNumber,
+    parts: &[R::Part],
+) -> Result<Rows<R>, Fault>
+    requires room { HasRoomSchema S.Store conn.old }
+    requires open { HasCleanDisk (state S.Store conn.old)
+        → IsTrue (state S.Store conn.old).is_open }
+    ensures rows { Finds S.Store conn.old conn.new result (λ room x.
+        IsKeyed R.Key.cmp R.key_of (R.rows room)
+        → x ≡ filter (λ y. any (λ p. R.is_in division p y) parts.now) (R.rows room)) }
+    ensures reads { ReadsOnly S.Store conn.old conn.new result }
+{
+    let mut rows = Rows::new(alloc);
+    for part in parts {
+        let more = R::load_part::<S>(alloc, conn, division, part)?;
+        add_all(&mut rows, &more)?;
+    }
+    Ok(rows)
+}
+
+// The calls of an incident.
+impl Parted for Call {
+    type Part = Number;
+
+    ghost is_in = { λ d n c. c.incident == n && c.division == d };
+
+    fn load_part<S: Alter>(
+        alloc: Global,
+        conn: &mut Connection<S>,
+        division: DivisionNumber,
+        part: &Number,
+    ) -> Result<Rows<Call>, Fault> {
+        calls_of(alloc, conn, division, *part)
+    }
+}
+
+// The turns of an incident.
+impl Parted for Turn {
+    type Part = Number;
+
+    ghost is_in = { λ d n t. t.incident == n && t.division == d };
+
+    fn load_part<S: Alter>(
+        alloc: Global,
+        conn: &mut Connection<S>,
+        division: DivisionNumber,
+        part: &Number,
+    ) -> Result<Rows<Turn>, Fault> {
+        turns_of(alloc, conn, division, *part)
+    }
+}
+
+// The reports of an outcome that are not cleared.
+impl Parted for Report {
+    type Part = Outcome;
+
+    ghost is_in = { λ d o x. outcome_number x.outcome == outcome_number o &&
+        (not x.cleared && x.division == d) };
+
+    fn load_part<S: Alter>(
+        alloc: Global,
+        conn: &mut Connection<S>,
+        division: DivisionNumber,
+        part: &Outcome,
+    ) -> Result<Rows<Report>, Fault> {
+        uncleared_reports(alloc, conn, *part, division)
+    }
+}
+
+// Incidents by their state, by when and where they were opened, or by their number.
+impl Parted for Incident {
+    type Part = IncidentPart;
+
+    ghost is_in = { λ d p i. i.division == d && is_part p i };
+
+    fn load_part<S: Alter>(
+        alloc: Global,
+        conn: &mut Connection<S>,
+        division: DivisionNumber,
+        part: &IncidentPart,
+    ) -> Result<Rows<Incident>, Fault> {
+        match part {
+            IncidentPart::Active => active_incidents(alloc, conn, division),
+            IncidentPart::Between(from, to) => incidents_opened(alloc, conn, *from, *to, division),
+            IncidentPart::Around(from, square) => {
+                incidents_since(alloc, conn, *from, division, square)
+            }
+            IncidentPart::Numbered(number) => {
+                load_one::<Incident, S>(alloc, conn, division, &(division, *number))
+            }
+            IncidentPart::Nothing => Ok(Rows::new(alloc)),
+        }
+    }
+}
