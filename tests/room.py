@@ -16,6 +16,7 @@ TOP = pathlib.Path(__file__).resolve().parent.parent
 os.umask(0o077)
 
 PROGRAM = TOP / 'crates' / 'dispatch_room' / 'out' / 'dispatch_room'
+DRY_RUN = TOP / 'crates' / 'dispatch_room_dry_run' / 'out' / 'dispatch_room_dry_run'
 PLAN = TOP / 'examples' / 'plan.csv'
 FLEET = TOP / 'examples' / 'fleet.csv'
 
@@ -90,11 +91,11 @@ def made(room, *rows):
 # ---- the dry run
 
 
-def dry_run(stdin, stdout=subprocess.PIPE, **named):
+def dry_run(stdin, stdout=subprocess.PIPE, program=PROGRAM, **named):
     """Runs the dry run over a stream, or what is open; gives what it wrote, and its status with
     what it told."""
     given = {'input': stdin} if isinstance(stdin, bytes) else {'stdin': stdin}
-    done = subprocess.run([PROGRAM], **given, stdout=stdout, stderr=subprocess.PIPE, timeout=60,
+    done = subprocess.run([program], **given, stdout=stdout, stderr=subprocess.PIPE, timeout=60,
                           **named)
     return done.stdout, (done.returncode, done.stderr)
 

@@ -1,12 +1,12 @@
 """The dry run from outside: the examples byte by byte, a stream cut at each byte, the refusals
 that its room can give, and what the program says where its input or output fails."""
-# builds: dispatch_room
+# builds: dispatch_room dispatch_room_dry_run
 import os
 import subprocess
 import time
 
-from room import (CLOSE, CUT, FAULT, PROGRAM, TOP, WELL, TestCase, answer, call, dry_run, message,
-                  refusal)
+from room import (CLOSE, CUT, DRY_RUN, FAULT, PROGRAM, TOP, WELL, TestCase, answer, call, dry_run,
+                  message, refusal)
 
 EXAMPLES = TOP / 'examples'
 
@@ -40,6 +40,15 @@ class Examples(TestCase):
         for name in names:
             stream, answers = example(name)
             self.check(name, dry_run(stream), (answers, WELL))
+
+    def test_own_program(self):
+        """The program that is the dry run alone answers and ends as the whole does."""
+        stream, answers = example('first-call')
+        self.check('a first call', dry_run(stream, program=DRY_RUN), (answers, WELL))
+        self.check('a call that is cut', dry_run(stream[:-1], program=DRY_RUN), (b'', CUT))
+        with open('/dev/full', 'wb') as full:
+            _, end = dry_run(stream, full, program=DRY_RUN)
+        self.check('answers that cannot be written', end, FAULT)
 
 
 class Pieces(TestCase):

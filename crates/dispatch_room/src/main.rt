@@ -3,22 +3,15 @@
 //! over a room's file.
 #![tactic(auto)]
 
-ghost use Rattle.std.specs.Prelude.{◌≡◌};
-ghost use Rattle.dispatch_room_endings.specs.Endings.{status_of};
-
 use dispatch_room_commands::commands::{USAGE, command};
-use dispatch_room_endings::endings::{Failure, ended};
-use dispatch_room_example::dry_run::dry_run;
-use room_http_messages::wires::Wire;
+use dispatch_room_endings::endings::{Failure, tell};
+use dispatch_room_example::streams::run;
 use std::process::ExitCode;
 use std::{env, io};
 
 fn main(rt: HostRuntime) -> ExitCode {
     let status = match arguments(&rt) {
-        Ok(words) if words.len() <= 1 => match dry(&rt) {
-            Ok(()) => 0,
-            Err(fault) => tell(&rt, fault),
-        },
+        Ok(words) if words.len() <= 1 => run(&rt),
         Ok(words) => command(
             &rt,
             rt.alloc(),
@@ -38,19 +31,4 @@ fn main(rt: HostRuntime) -> ExitCode {
 // The words of the command line, the program's name first.
 fn arguments(rt: &HostRuntime) -> io::Result<Vec<String>> {
     Ok(env::args(rt)?.collect(rt.alloc())?)
-}
-
-// The dry run over standard input and output.
-fn dry(rt: &HostRuntime) -> Result<(), Failure> {
-    let mut reader = Wire::new(rt.stdin());
-    let mut writer = Wire::new(rt.stdout());
-    ended(dry_run(rt.alloc(), &mut reader, &mut writer)?)
-}
-
-// Tells a fault on standard error, and gives its status.
-fn tell(rt: &HostRuntime, fault: Failure) -> u8
-    ensures { result ≡ status_of fault }
-{
-    let _ = eprintln!(rt; "{fault}");
-    fault.status()
 }

@@ -1,20 +1,17 @@
 //! `board`: a served room is asked as a desk, and what the desk sees is shown.
-ghost use Rattle.std.specs.Prelude.{◌≡◌, IfOk, IfSome, List, ℕ, Bool, false, is_some};
+ghost use Rattle.std.specs.Prelude.{◌≡◌, IfOk, List, ℕ, Bool, is_some};
 ghost use Rattle.dispatch_room_commands.specs.Ends.{IsPrinted, end_of_board};
 
 use dispatch_room_board::asking::{hear, tell};
 use dispatch_room_board::boards::{Reached, board_of};
 use dispatch_room_board::requests::Asker;
 use dispatch_room_endings::endings::{Done, Failure};
-use dispatch_room_sockets::readers::SocketReader;
-use dispatch_room_sockets::waits::Waits;
-use dispatch_room_sockets::writers::SocketWriter;
+use dispatch_room_sockets::calling::call;
 use dispatch_room_words::tasks::{Color, Look};
 use room_types::token::Token;
 use std::alloc::{AllocError, Global};
 use std::io::{IsTerminal, Write};
-use std::net::{OpenStream, TcpStream, ToSocketAddrs};
-use std::time::{Clock, Duration};
+use std::time::Duration;
 
 /// Shows the board of a desk: what could not be reached is told in it, and by the end. A text that
 /// is no token is refused, and nothing is asked.
@@ -86,45 +83,10 @@ fn heard(
     look: &Look<'_>,
     asker: &Asker,
 ) -> Result<Vec<u8>, AllocError> {
-    let Some((mut reader, mut writer)) = sides_of(rt, look.address, look.patience) else {
+    let patience = Duration::from_secs(u64::from(look.patience));
+    let Some((mut reader, mut writer)) = call(rt, look.address, patience) else {
         return Ok(Vec::new(alloc));
     };
     let _told = tell(alloc, asker, &mut writer)?;
     hear(alloc, &mut reader)
-}
-
-type Reader<'a> = SocketReader<'a, TcpStream, HostRuntime>;
-
-type Writer<'a> = SocketWriter<'a, TcpStream, HostRuntime>;
-
-// The two sides of a connection to an address. All reads and writes end so many seconds from now:
-// what a reader and a writer grant to one of them is here granted to all.
-fn sides_of<'a>(
-    rt: &'a HostRuntime,
-    address: &str,
-    patience: u16,
-) -> Option<(Reader<'a>, Writer<'a>)>
-    ensures { IfSome result (λ sides. sides.1.failed ≡ false) }
-{
-    let patience = Duration::from_secs(u64::from(patience));
-    let ends = rt.monotonic().ok()?.saturating_add(patience);
-    let stream = connected(rt, address, ends)?;
-    let waits = Waits {
-        idle: patience,
-        patience,
-    };
-    let reader = SocketReader::new(stream.try_clone().ok()?, rt, waits, ends);
-    let writer = SocketWriter::new(stream, rt, patience, ends);
-    Some((reader, writer))
-}
-
-// A connection to an address, where it is there before a moment.
-fn connected(rt: &HostRuntime, address: &str, ends: Duration) -> Option<TcpStream> {
-    for at in address.to_socket_addrs(rt).ok()? {
-        let left = ends.saturating_sub(rt.monotonic().ok()?);
-        if let Ok(stream) = TcpStream::connect_timeout(rt, &at, left) {
-            return Some(stream);
-        }
-    }
-    None
 }

@@ -4,7 +4,7 @@ ghost use Rattle.dispatch_room_work.specs.Checked.{IsTold};
 
 use crate::files::{RoomFile, Work, in_file};
 use dispatch_room_endings::endings::{Done, Failure};
-use dispatch_room_endings::rooms::Worked;
+use dispatch_room_opening::rooms::Worked;
 use dispatch_room_work::checking::check_in;
 use sqlite::{Alter, Connection};
 use std::alloc::Global;

@@ -7,8 +7,8 @@ ghost use Rattle.dispatch_room_work.specs.Created.{IsTold, created_text};
 
 use crate::files::{RoomFile, Work, in_file, read_text};
 use dispatch_room_endings::endings::{Done, Failure};
-use dispatch_room_endings::rooms::Worked;
 use dispatch_room_files::plans::{PlanFile, read_plan};
+use dispatch_room_opening::rooms::Worked;
 use dispatch_room_work::creating::create_in;
 use sqlite::{Alter, Connection};
 use std::alloc::Global;

@@ -4,8 +4,9 @@ ghost use Rattle.dispatch_room_endings.specs.declared.endings.Failure.TheVariant
 ghost use Rattle.dispatch_room_commands.specs.Ends.{IsFileFault, fault_of};
 
 use dispatch_room_endings::endings::Failure;
-use dispatch_room_endings::rooms::Worked;
+use dispatch_room_opening::rooms::Worked;
 use sqlite::{Alter, Connection, Error, ErrorCode, File, FileStore};
+use sqlite_disk::Disk;
 use std::alloc::Global;
 use std::fs::{self, OpenOptions};
 use std::io::{ErrorKind, Write};
@@ -43,8 +44,8 @@ pub enum RoomFile<'a> {
     New(&'a str),
 }
 
-/// What is done in the file of a room, over any storage. A proof about a file opens all that is
-/// inside it, so `in_file` alone has one.
+/// What is done in the file of a room, over any storage. A proof about a file of the system opens all
+/// that is inside it, so `in_file` has one, and hands it on as a file on any disk.
 pub trait Work: Drop {
     /// What comes of it.
     type Done: Drop;
@@ -75,20 +76,22 @@ pub fn in_file<W: Work, O: Write>(
     ensures { IfOk result (W.says work (O.contents out.old) (O.contents out.new)) }
 {
     match connect(rt, file) {
-        Ok(conn) => closed(work.run(alloc, conn, out)),
+        Ok(conn) => on_disk(alloc, conn, work, out),
         Err(fault) => Err(fault),
     }
 }
 
-// What was done in a file, once the file is closed with all that was committed in it.
-fn closed<T: Drop>(worked: Worked<T, FileStore<File>>) -> Result<T, Failure>
-    ensures room { OnOk result (IsOk worked) }
-    ensures done { IfOk worked (λ worked. IfOk result (λ done. worked.0 ≡ Ok done)) }
-    ensures fault { IfOk worked (λ worked. IfErr result (λ fault. (worked.0 ≡ Err fault)
-        ⊎ IsFileFault fault)) }
-    ensures none { IfErr worked (λ fault. result ≡ Err fault) }
+// Does it in a file on any disk, and closes the file.
+fn on_disk<D: Disk + Drop, W: Work, O: Write>(
+    alloc: Global,
+    conn: Connection<FileStore<D>>,
+    work: W,
+    out: &mut O,
+) -> Result<W::Done, Failure>
+    requires { conn.in_transaction ≡ false }
+    ensures { IfOk result (W.says work (O.contents out.old) (O.contents out.new)) }
 {
-    match worked {
+    match work.run(alloc, conn, out) {
         Ok((done, conn)) => match conn.close() {
             Ok(()) => done,
             Err(error) => Err(fault_of(error)),

@@ -5,8 +5,8 @@ ghost use Rattle.dispatch_room_work.specs.Imported.{IsTold};
 
 use crate::files::{RoomFile, Work, in_file, read_text};
 use dispatch_room_endings::endings::{Done, Failure};
-use dispatch_room_endings::rooms::Worked;
 use dispatch_room_files::fleets::{FleetLine, read_fleet};
+use dispatch_room_opening::rooms::Worked;
 use dispatch_room_work::importing::enrol_in;
 use sqlite::{Alter, Connection};
 use std::alloc::Global;

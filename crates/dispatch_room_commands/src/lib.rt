@@ -8,7 +8,6 @@ pub mod commands;
 mod creating;
 mod files;
 mod importing;
-mod journals;
 mod migrating;
 mod replaying;
 mod serving;

@@ -4,7 +4,7 @@ ghost use Rattle.dispatch_room_commands.specs.Ends.{failure_of};
 
 use crate::files::{RoomFile, Work, in_file};
 use dispatch_room_endings::endings::{Done, Failure, refused};
-use dispatch_room_endings::rooms::{Worked, open_room};
+use dispatch_room_opening::rooms::{Worked, open_room};
 use dispatch_room_replaying::each::answer_each;
 use dispatch_room_replaying::faults::{ReplayFault, Stopped};
 use dispatch_room_replaying::replaying::{self, Replayed};
@@ -53,17 +53,13 @@ impl<'a, E: Write> Work for Replaying<'a, E> {
         let (mut room, zone) = open_room(alloc, conn)?;
         let Replaying { rt, replay, err } = self;
         let mut list = Wire::new(rt.stdin());
-        let done = if replay.answers {
-            answer(alloc, &mut list, &mut room, &zone, out)
-        } else {
-            replay_whole(alloc, &mut list, &mut room, &zone, replay, out, err)
-        };
+        let done = replay_in(alloc, &mut list, &mut room, &zone, replay, out, err);
         Ok((done, room.close()))
     }
 }
 
-// Replays a list, and tells how much that was.
-fn replay_whole<R: Source, M: Digested, O: Write, E: Write>(
+// Replays a list in a room, and tells how much that was, or answers each record.
+fn replay_in<R: Source, M: Digested, O: Write, E: Write>(
     alloc: Global,
     list: &mut R,
     room: &mut M,
@@ -76,6 +72,9 @@ fn replay_whole<R: Source, M: Digested, O: Write, E: Write>(
     requires ready { M.is_ready room.old }
     ensures { M.is_ready room.new }
 {
+    if replay.answers {
+        return answer(alloc, list, room, zone, out);
+    }
     match replaying::replay(alloc, list, room, zone, &replay.until) {
         Ok(replayed) => tell(&replayed, out, err),
         Err(stopped) => Err(failure_of(&stopped)),

@@ -3,10 +3,10 @@ ghost use Rattle.std.specs.Prelude.{◌≡◌, ⊤, None, false};
 ghost use Rattle.dispatch_room_endings.specs.declared.endings.Failure.TheVariants.{Network};
 
 use crate::files::{RoomFile, Work, in_file};
-use crate::journals::{JournalFile, open_journal};
 use dispatch_room_endings::endings::{Done, Failure};
-use dispatch_room_endings::rooms::Worked;
+use dispatch_room_opening::rooms::Worked;
 use dispatch_room_serving::callers::Callers;
+use dispatch_room_serving::journal_files::{JournalFile, open_journal};
 use dispatch_room_serving::journals::Journal;
 use dispatch_room_serving::logs::Log;
 use dispatch_room_serving::serving::serve_in;
@@ -38,7 +38,7 @@ pub fn serve_file<O: Write, E: Write>(
     err: &mut E,
 ) -> Result<Done, Failure> {
     let journal = match &service.journal {
-        Some(journal) => Some(open_journal(rt, alloc, journal, err)?),
+        Some(journal) => Some(open_journal(rt, alloc, journal.list, err)?),
         None => None,
     };
     let serving = Serving {

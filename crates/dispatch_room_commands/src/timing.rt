@@ -4,7 +4,7 @@ ghost use Rattle.dispatch_room_endings.specs.declared.endings.Done.TheVariants.{
 
 use crate::files::{RoomFile, Work, in_file};
 use dispatch_room_endings::endings::{Done, Failure};
-use dispatch_room_endings::rooms::Worked;
+use dispatch_room_opening::rooms::Worked;
 use dispatch_room_work::timing::report_in;
 use room_place::plans::DivisionNumber;
 use sqlite::{Alter, Connection};

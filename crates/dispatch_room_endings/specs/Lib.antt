@@ -1,4 +1,2 @@
 -- how a program ends
 pub mod Endings
--- the room that is opened in a database
-pub mod Opened

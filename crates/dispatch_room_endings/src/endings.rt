@@ -1,14 +1,8 @@
 //! How a program ends: how much it did, or why it fails, what it says of that, and its exit status.
 ghost use Rattle.std.specs.Prelude.{◌≡◌};
-ghost use Rattle.dispatch_room_endings.specs.Endings.{ended, refused};
+ghost use Rattle.dispatch_room_endings.specs.Endings.{refused, status_of};
 ghost use Rattle.dispatch_room_endings.specs.declared.endings.Failure.TheVariants.{Memory};
 
-use dispatch_room_files::fleets::FleetFileFault;
-use dispatch_room_files::plans::PlanFileFault;
-use room_http::serving::ServeEnd;
-use room_store::creating::CreateFault;
-use room_store_opening::migrating::MigrateFault;
-use room_store_opening::opening::OpenFault;
 use room_types::refusals::Refusal;
 use std::alloc::AllocFailed;
 use thiserror::Error;
@@ -120,79 +114,6 @@ impl<T: Drop> From<AllocFailed<T>> for Failure {
     }
 }
 
-impl From<PlanFileFault> for Failure {
-    ghost use Rattle.dispatch_room_endings.specs.Endings.{plan_fault};
-
-    ghost from_gives = { λ fault told. told ≡ plan_fault fault };
-
-    fn from(fault: PlanFileFault) -> Failure {
-        match fault {
-            PlanFileFault::Input => Failure::Input,
-            PlanFileFault::Row(row) => Failure::PlanRow(row),
-            PlanFileFault::Memory => Failure::Memory,
-        }
-    }
-}
-
-impl From<FleetFileFault> for Failure {
-    ghost use Rattle.dispatch_room_endings.specs.Endings.{fleet_fault};
-
-    ghost from_gives = { λ fault told. told ≡ fleet_fault fault };
-
-    fn from(fault: FleetFileFault) -> Failure {
-        match fault {
-            FleetFileFault::Input => Failure::Input,
-            FleetFileFault::Memory => Failure::Memory,
-        }
-    }
-}
-
-impl From<CreateFault> for Failure {
-    ghost use Rattle.dispatch_room_endings.specs.Endings.{create_fault};
-
-    ghost from_gives = { λ fault told. told ≡ create_fault fault };
-
-    fn from(fault: CreateFault) -> Failure {
-        match fault {
-            CreateFault::NotEmpty => Failure::File,
-            // A plan's terminals are sound: it was judged as it was read.
-            CreateFault::BadTerminal => Failure::Input,
-            CreateFault::Memory => Failure::Memory,
-            CreateFault::Storage => Failure::Storage,
-        }
-    }
-}
-
-impl From<OpenFault> for Failure {
-    ghost use Rattle.dispatch_room_endings.specs.Endings.{open_fault};
-
-    ghost from_gives = { λ fault told. told ≡ open_fault fault };
-
-    fn from(fault: OpenFault) -> Failure {
-        match fault {
-            OpenFault::OldRoom => Failure::Version,
-            OpenFault::NotARoom => Failure::File,
-            OpenFault::Memory => Failure::Memory,
-            OpenFault::Storage => Failure::Storage,
-        }
-    }
-}
-
-impl From<MigrateFault> for Failure {
-    ghost use Rattle.dispatch_room_endings.specs.Endings.{migrate_fault};
-
-    ghost from_gives = { λ fault told. told ≡ migrate_fault fault };
-
-    fn from(fault: MigrateFault) -> Failure {
-        match fault {
-            MigrateFault::NotOld => Failure::Version,
-            MigrateFault::NotARoom => Failure::File,
-            MigrateFault::Memory => Failure::Memory,
-            MigrateFault::Storage => Failure::Storage,
-        }
-    }
-}
-
 /// What a store's refusal is to the program: it has no other than of memory and of storage.
 pub fn refused(refusal: Refusal) -> Failure
     ensures { result ≡ refused refusal }
@@ -203,15 +124,10 @@ pub fn refused(refusal: Refusal) -> Failure
     }
 }
 
-/// What the end of serving one connection is to a program that served no more.
-pub fn ended(end: ServeEnd) -> Result<(), Failure>
-    ensures { result ≡ ended end }
+/// Tells on standard error why the program fails, and gives its exit status.
+pub fn tell(rt: &HostRuntime, fault: Failure) -> u8
+    ensures { result ≡ status_of fault }
 {
-    match end {
-        ServeEnd::Closed => Ok(()),
-        ServeEnd::Cut | ServeEnd::ClockFault | ServeEnd::ReadsSpent => Err(Failure::Connection),
-        ServeEnd::ReadFault | ServeEnd::WriteFault => Err(Failure::Network),
-        ServeEnd::Memory => Err(Failure::Memory),
-        ServeEnd::Unkept => Err(Failure::Journal),
-    }
+    let _ = eprintln!(rt; "{fault}");
+    fault.status()
 }

@@ -1,6 +1,5 @@
-//! The room that a command opens, and how a program over a room ends: why it fails, what it says of
-//! that, and its exit status.
+//! How a program over a room ends: how much it did, or why it fails, what it says of that, and its
+//! exit status.
 #![tactic(auto)]
 
 pub mod endings;
-pub mod rooms;

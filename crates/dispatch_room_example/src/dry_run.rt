@@ -1,7 +1,7 @@
 //! The dry run: the example room in memory, served over one connection, always at the same moment.
-ghost use Rattle.std.specs.Prelude.{◌≡◌, ◌⊎◌, ℕ, Bool, false, [], Some, replicate, IfOk, IfErr, OnOk, OnErr};
-ghost use Rattle.room_store.specs.declared.creating.CreateFault.TheVariants.{Memory, Storage};
+ghost use Rattle.std.specs.Prelude.{◌≡◌, ℕ, Bool, false, [], Some, replicate, IfOk, IfErr, OnOk, OnErr};
 ghost use Rattle.room_http.specs.Serving.{ReadsAtMost};
+ghost use Rattle.room_service.specs.Rooms.{IsWant};
 ghost use Rattle.dispatch_room_example.specs.Example.{IsExampleTalk};
 ghost use Rattle.dispatch_room_example.specs.DryRun.{example_moment, most_reads};
 
@@ -10,7 +10,7 @@ use room_http::serving::ServeEnd;
 use room_http_messages::sinks::Sink;
 use room_http_messages::sources::Source;
 use room_http_time::clocks::FixedClock;
-use room_store::creating::CreateFault;
+use room_types::refusals::Refusal;
 use std::alloc::Global;
 
 /// The moment of all that happens in it.
@@ -19,13 +19,13 @@ const MOMENT: u64 = 1000;
 /// How many reads it makes at most.
 const MOST_READS: u32 = 10_000;
 
-/// Serves the example room, made anew in memory, to a reader and a writer. A fault is of memory or
-/// of storage, and then nothing was read or written.
+/// Serves the example room, made anew in memory, to a reader and a writer. A refusal is want of
+/// memory or of storage, and then nothing was read or written.
 pub fn dry_run<R: Source, W: Sink>(
     alloc: Global,
     reader: &mut R,
     writer: &mut W,
-) -> Result<ServeEnd, CreateFault>
+) -> Result<ServeEnd, Refusal>
     requires reader { R.has_failed reader.old ≡ false }
     requires writer { W.has_failed writer.old ≡ false }
     ensures reads { OnOk result (ReadsAtMost most_reads (R.reads reader.old) (R.reads reader.new)) }
@@ -49,7 +49,7 @@ pub fn dry_run<R: Source, W: Sink>(
           was_none = was_none;
         })
         most_reads end) }
-    ensures fault { IfErr result (λ fault. (fault ≡ Memory) ⊎ (fault ≡ Storage)) }
+    ensures wants { IfErr result IsWant }
     ensures unused { OnErr result ((reader.new ≡ reader.old) × (writer.new ≡ writer.old)) }
 {
     let mut clock = FixedClock::<MOMENT>::new();

@@ -6,4 +6,5 @@ pub mod dry_run;
 pub mod example;
 pub mod laws;
 mod rooms;
+pub mod streams;
 pub mod talks;

@@ -16,13 +16,13 @@ use sqlite::{Connection, MemStore};
 use std::alloc::Global;
 
 /// The example room, made anew in memory: its plan and terminals, and then its fleet, enrolled row
-/// by row. A fault is of memory or of storage.
-pub fn example_room(alloc: Global) -> Result<Store<MemStore>, CreateFault>
+/// by row. A refusal is want of memory or of storage.
+pub fn example_room(alloc: Global) -> Result<Store<MemStore>, Refusal>
     ensures ready { IfOk result (IsReady over_memory) }
     ensures zone { IfOk result (λ store. store.plan.zone ≡ example_plan.zone) }
     ensures room { IfOk result (λ store.
         IsRoom over_memory store terminals_with_crews room_with_fleet) }
-    ensures fault { IfErr result (λ fault. (fault ≡ Memory) ⊎ (fault ≡ Storage)) }
+    ensures wants { IfErr result IsWant }
 {
     let mut store = empty_room(alloc)?;
     let mut fates = Vec::new(alloc);
@@ -30,39 +30,39 @@ pub fn example_room(alloc: Global) -> Result<Store<MemStore>, CreateFault>
         Ok(()) => Ok(store),
         Err(refusal) => {
             let _ = store.close();
-            Err(fault_of(refusal))
+            Err(refusal)
         }
     }
 }
 
 // The room before any vehicle is enrolled.
-fn empty_room(alloc: Global) -> Result<Store<MemStore>, CreateFault>
+fn empty_room(alloc: Global) -> Result<Store<MemStore>, Refusal>
     ensures ready { IfOk result (IsReady over_memory) }
     ensures zone { IfOk result (λ store. store.plan.zone ≡ example_plan.zone) }
     ensures room { IfOk result (λ store.
         IsRoom over_memory store (in_order example_terminals) (new_room example_plan)) }
-    ensures fault { IfErr result (λ fault. (fault ≡ Memory) ⊎ (fault ≡ Storage)) }
+    ensures wants { IfErr result IsWant }
 {
     let Ok(plan) = plan(alloc) else {
-        return Err(CreateFault::Memory);
+        return Err(Refusal::Memory);
     };
     let Ok(conn) = Connection::open_in_memory(alloc) else {
-        return Err(CreateFault::Memory);
+        return Err(Refusal::Memory);
     };
     match Store::create(alloc, conn, &plan, &terminals()) {
         Ok(store) => Ok(store),
-        Err((fault, _)) => Err(fault),
+        Err((fault, _)) => Err(want_of(fault)),
     }
 }
 
-// A want of memory or storage, as a fault of making the room.
-fn fault_of(want: Refusal) -> CreateFault
-    requires { IsWant want }
-    ensures memory { want ≡ refusal.Memory → result ≡ Memory }
-    ensures storage { want ≡ refusal.Storage → result ≡ Storage }
+// What a fault of making the room wants.
+fn want_of(fault: CreateFault) -> Refusal
+    requires { (fault ≡ Memory) ⊎ (fault ≡ Storage) }
+    ensures memory { fault ≡ Memory → result ≡ refusal.Memory }
+    ensures storage { fault ≡ Storage → result ≡ refusal.Storage }
 {
-    match want {
-        Refusal::Memory => CreateFault::Memory,
-        _ => CreateFault::Storage,
+    match fault {
+        CreateFault::Memory => Refusal::Memory,
+        _ => Refusal::Storage,
     }
 }

@@ -1,7 +1,7 @@
 //! A connection that the example room serves.
-ghost use Rattle.std.specs.Prelude.{◌≡◌, ◌⊎◌, false, IfOk, IfErr, OnOk, OnErr};
-ghost use Rattle.room_store.specs.declared.creating.CreateFault.TheVariants.{Memory, Storage};
+ghost use Rattle.std.specs.Prelude.{◌≡◌, false, IfOk, IfErr, OnOk, OnErr};
 ghost use Rattle.room_http.specs.Serving.{ReadsAtMost};
+ghost use Rattle.room_service.specs.Rooms.{IsWant};
 ghost use Rattle.dispatch_room_example.specs.Example.{IsExampleTalk};
 
 use crate::rooms::example_room;
@@ -11,19 +11,19 @@ use room_http_messages::sinks::Sink;
 use room_http_messages::sources::Source;
 use room_http_time::clocks::Clock;
 use room_http_time::zones::Zone;
-use room_store::creating::CreateFault;
+use room_types::refusals::Refusal;
 use std::alloc::Global;
 
 /// Serves the example room, made anew in memory, to a reader and a writer, with at most so many
-/// reads. A fault is of memory or of storage; then nothing was read or written, and the clock was
-/// not asked.
+/// reads. A refusal is want of memory or of storage; then nothing was read or written, and the clock
+/// was not asked.
 pub fn serve_example<R: Source, W: Sink, C: Clock>(
     alloc: Global,
     reader: &mut R,
     writer: &mut W,
     clock: &mut C,
     budget: u32,
-) -> Result<ServeEnd, CreateFault>
+) -> Result<ServeEnd, Refusal>
     requires reader { R.has_failed reader.old ≡ false }
     requires writer { W.has_failed writer.old ≡ false }
     ensures reads { OnOk result (ReadsAtMost budget (R.reads reader.old) (R.reads reader.new)) }
@@ -45,7 +45,7 @@ pub fn serve_example<R: Source, W: Sink, C: Clock>(
           was_none = C.was_none clock.new;
         })
         budget) }
-    ensures fault { IfErr result (λ fault. (fault ≡ Memory) ⊎ (fault ≡ Storage)) }
+    ensures wants { IfErr result IsWant }
     ensures unused { OnErr result ((reader.new ≡ reader.old) × (writer.new ≡ writer.old)
         × (clock.new ≡ clock.old)) }
 {

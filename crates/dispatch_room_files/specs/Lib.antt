@@ -5,3 +5,4 @@ pub mod PlanRules
 pub mod Plans
 pub mod Fleets
 pub mod Reports
+pub mod Ends

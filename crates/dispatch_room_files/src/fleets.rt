@@ -6,6 +6,7 @@ ghost use Rattle.dispatch_room_files.specs.Fleets.{ExplainsFleet, IsFleetText, f
 use crate::fields::{number, text_at, whole};
 use crate::records::{RecordsFault, read_rows};
 use csv::StringRecord;
+use dispatch_room_endings::endings::Failure;
 use room_place::places::Place;
 use room_types::callsign::Callsign;
 use room_types::codes::Kind;
@@ -57,6 +58,20 @@ impl From<AllocError> for FleetFileFault {
 
     fn from(_: AllocError) -> FleetFileFault {
         FleetFileFault::Memory
+    }
+}
+
+impl From<FleetFileFault> for Failure {
+    ghost use Rattle.std.specs.Prelude.{◌≡◌};
+    ghost use Rattle.dispatch_room_files.specs.Ends.{fleet_failure};
+
+    ghost from_gives = { λ fault told. told ≡ fleet_failure fault };
+
+    fn from(fault: FleetFileFault) -> Failure {
+        match fault {
+            FleetFileFault::Input => Failure::Input,
+            FleetFileFault::Memory => Failure::Memory,
+        }
     }
 }
 

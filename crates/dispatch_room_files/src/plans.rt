@@ -6,6 +6,7 @@ ghost use Rattle.dispatch_room_files.specs.Plans.{ExplainsLines, ExplainsPlan, I
 use crate::plan_lines::{PlanLine, plan_lines};
 use crate::plan_rules::{first_refused, has_zone_and_areas};
 use crate::records::{RecordsFault, read_rows};
+use dispatch_room_endings::endings::Failure;
 use room_place::plans::{Area, Plan, PlanFault};
 use room_types::fleet::Terminal;
 use room_types::text::Text;
@@ -59,6 +60,21 @@ impl From<AllocError> for PlanFileFault {
 
     fn from(_: AllocError) -> PlanFileFault {
         PlanFileFault::Memory
+    }
+}
+
+impl From<PlanFileFault> for Failure {
+    ghost use Rattle.std.specs.Prelude.{◌≡◌};
+    ghost use Rattle.dispatch_room_files.specs.Ends.{plan_failure};
+
+    ghost from_gives = { λ fault told. told ≡ plan_failure fault };
+
+    fn from(fault: PlanFileFault) -> Failure {
+        match fault {
+            PlanFileFault::Input => Failure::Input,
+            PlanFileFault::Row(row) => Failure::PlanRow(row),
+            PlanFileFault::Memory => Failure::Memory,
+        }
     }
 }
 

@@ -18,7 +18,7 @@ use Rattle.room_store_digest.specs.Texts.{digest_text}
 use Rattle.dispatch_room_endings.specs.declared.endings.Done.{Done}
 use Rattle.dispatch_room_endings.specs.declared.endings.Failure.{Failure}
 use Rattle.dispatch_room_endings.specs.declared.endings.Failure.TheVariants.{Journal, Memory, Network, Storage}
-use Rattle.dispatch_room_endings.specs.Opened.{OpensRoom}
+use Rattle.dispatch_room_opening.specs.Opened.{OpensRoom}
 use Rattle.dispatch_room_serving.specs.Connections.{Serves, Service}
 
 -- why serving does not begin

@@ -3,6 +3,7 @@
 
 pub mod callers;
 pub mod connections;
+pub mod journal_files;
 pub mod journals;
 pub mod logs;
 pub mod serving;

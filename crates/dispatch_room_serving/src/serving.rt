@@ -1,15 +1,15 @@
 //! The room of a database, opened and served to those who call.
 ghost use Rattle.std.specs.Prelude.{◌≡◌, false, IfErr, IfOk, OnErr};
 ghost use Rattle.room_store.specs.Keeping.{IsReady};
-ghost use Rattle.dispatch_room_endings.specs.Opened.{IsUnopened};
+ghost use Rattle.dispatch_room_opening.specs.Opened.{IsUnopened};
 ghost use Rattle.dispatch_room_serving.specs.Rooms.{Announces, Attends, ServesRoom};
 
 use crate::callers::Callers;
 use crate::connections::serve_each;
 use crate::watchers::Watcher;
 use dispatch_room_endings::endings::{Done, Failure, refused};
-use dispatch_room_endings::rooms::{Worked, open_room};
 use dispatch_room_journal::digests::digest_of;
+use dispatch_room_opening::rooms::{Worked, open_room};
 use room_http_time::clocks::Clock;
 use room_http_time::zones::Zone;
 use room_store::digests::digest_of_room;

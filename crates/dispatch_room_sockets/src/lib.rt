@@ -2,6 +2,7 @@
 //! before it, so that no peer holds the room, and an answer that closes a connection arrives.
 #![tactic(auto)]
 
+pub mod calling;
 mod paces;
 pub mod parting;
 pub mod readers;

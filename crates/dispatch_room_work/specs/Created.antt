@@ -11,7 +11,7 @@ use Rattle.room_store.specs.Creating.{Explains, MayBegin}
 use Rattle.room_store.specs.declared.creating.CreateFault.{CreateFault}
 use Rattle.room_store_writes.specs.Filling.{StandsNew, division_numbers}
 use Rattle.room_store_writes.specs.Writing.{IsSettled}
-use Rattle.dispatch_room_endings.specs.Endings.{create_fault}
+use Rattle.dispatch_room_opening.specs.Faults.{create_fault}
 use Rattle.dispatch_room_endings.specs.declared.endings.Done.{Done}
 use Rattle.dispatch_room_endings.specs.declared.endings.Done.TheVariants.{Whole}
 use Rattle.dispatch_room_endings.specs.declared.endings.Failure.{Failure}

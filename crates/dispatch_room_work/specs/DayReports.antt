@@ -22,7 +22,7 @@ use Rattle.room_store.specs.declared.store.Store.{Store}
 use Rattle.dispatch_room_endings.specs.declared.endings.Failure.{Failure}
 use Rattle.dispatch_room_endings.specs.declared.endings.Failure.TheVariants.{Day, Division, Memory, Storage}
 use Rattle.dispatch_room_files.specs.Reports.{report_of}
-use Rattle.dispatch_room_endings.specs.Opened.{IsOpened}
+use Rattle.dispatch_room_opening.specs.Opened.{IsOpened}
 
 -- the seconds, in a zone, of the day that a text writes
 abbrev pub IsSpanOf : TimeZone → List ℕ → ℤ × ℤ → Type 0

@@ -13,7 +13,7 @@ use Rattle.dispatch_room_endings.specs.declared.endings.Failure.{Failure}
 use Rattle.dispatch_room_endings.specs.declared.endings.Failure.TheVariants.{Memory, Network, Storage}
 use Rattle.dispatch_room_files.specs.declared.fleets.FleetLine.{FleetLine}
 use Rattle.dispatch_room_work.specs.Fates.{done_by, fates_text, good_rows, outcomes}
-use Rattle.dispatch_room_endings.specs.Opened.{IsOpened}
+use Rattle.dispatch_room_opening.specs.Opened.{IsOpened}
 
 -- Written is what is told of these lines with these fates, unless the output fails. How much is done is by them.
 abbrev pub HasTold : List FleetLine → List RowFate → Option (List ℕ) → Option (List ℕ) → Result Done Failure → Type 0

@@ -14,7 +14,7 @@ use Rattle.room_store_opening.specs.Opening.{HoldsFirstRoom, IsNewRoom, IsOldRoo
 use Rattle.room_store_opening.specs.declared.migrating.MigrateFault.{MigrateFault}
 use Rattle.room_store_opening.specs.declared.migrating.MigrateFault.TheVariants.{NotARoom, NotOld}
 use Rattle.room_store_writes.specs.Writing.{Leaves}
-use Rattle.dispatch_room_endings.specs.Endings.{migrate_fault}
+use Rattle.dispatch_room_opening.specs.Faults.{migrate_fault}
 use Rattle.dispatch_room_endings.specs.declared.endings.Failure.{Failure}
 
 -- The tables of the first version stood for this well-formed room, in which nothing is offered, and the tables of this one stand for it.

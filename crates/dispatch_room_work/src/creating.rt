@@ -4,8 +4,9 @@ ghost use Rattle.sqlite.specs.Held.{state};
 ghost use Rattle.dispatch_room_work.specs.Created.{ExplainsNone, IsCreated, IsTold, division_count};
 
 use dispatch_room_endings::endings::{Done, Failure};
-use dispatch_room_endings::rooms::Worked;
 use dispatch_room_files::plans::PlanFile;
+use dispatch_room_opening::faults::of_creating;
+use dispatch_room_opening::rooms::Worked;
 use room_place::plans::{DivisionNumber, Plan};
 use room_store::store::Store;
 use sqlite::{Alter, Connection};
@@ -28,7 +29,7 @@ pub fn create_in<S: Alter + Drop, O: Write>(
 {
     match Store::create(alloc, conn, &plan.plan, plan.terminals.as_slice()) {
         Ok(room) => Ok((tell(plan, out), room.close())),
-        Err((fault, _)) => Err(Failure::from(fault)),
+        Err((fault, _)) => Err(of_creating(fault)),
     }
 }
 

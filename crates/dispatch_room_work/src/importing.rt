@@ -9,12 +9,12 @@ ghost use Rattle.room_store.specs.Keeping.{IsReady, IsRoom};
 ghost use Rattle.dispatch_room_endings.specs.declared.endings.Failure.TheVariants.{Memory};
 ghost use Rattle.dispatch_room_work.specs.Fates.{good_rows};
 ghost use Rattle.dispatch_room_work.specs.Imported.{HasImported, HasImportedIn, IsTold};
-ghost use Rattle.dispatch_room_endings.specs.Opened.{IsUnopened};
+ghost use Rattle.dispatch_room_opening.specs.Opened.{IsUnopened};
 
 use crate::fates::{good_rows, tell};
 use dispatch_room_endings::endings::{Done, Failure, refused};
-use dispatch_room_endings::rooms::{Worked, open_room};
 use dispatch_room_files::fleets::FleetLine;
+use dispatch_room_opening::rooms::{Worked, open_room};
 use room_store::store::Store;
 use room_types::fleet::FleetRow;
 use sqlite::{Alter, Connection};

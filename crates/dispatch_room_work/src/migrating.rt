@@ -2,8 +2,8 @@
 ghost use Rattle.std.specs.Prelude.{◌≡◌, false, IfErr, IfOk};
 ghost use Rattle.dispatch_room_work.specs.Migrated.{IsMigrated, IsUnmoved};
 
-use dispatch_room_endings::endings::Failure;
-use dispatch_room_endings::rooms::Worked;
+use dispatch_room_opening::faults::of_migrating;
+use dispatch_room_opening::rooms::Worked;
 use room_store::store::Store;
 use sqlite::{Alter, Connection};
 use std::alloc::Global;
@@ -16,6 +16,6 @@ pub fn migrate_in<S: Alter + Drop>(alloc: Global, conn: Connection<S>) -> Worked
 {
     match Store::migrate(alloc, conn) {
         Ok(room) => Ok((Ok(()), room.close())),
-        Err((fault, _conn)) => Err(Failure::from(fault)),
+        Err((fault, _conn)) => Err(of_migrating(fault)),
     }
 }

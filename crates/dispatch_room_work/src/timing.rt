@@ -9,11 +9,11 @@ ghost use Rattle.room_store.specs.Keeping.{IsReady, IsRoom};
 ghost use Rattle.room_http_time.specs.Dates.{day_of};
 ghost use Rattle.room_http_time.specs.Days.{zone_of};
 ghost use Rattle.dispatch_room_work.specs.DayReports.{ExplainsReport, HasReported, IsAskable, IsDayReport, IsSpanOf, report_in};
-ghost use Rattle.dispatch_room_endings.specs.Opened.{IsUnopened};
+ghost use Rattle.dispatch_room_opening.specs.Opened.{IsUnopened};
 
 use dispatch_room_endings::endings::{Failure, refused};
-use dispatch_room_endings::rooms::{Worked, open_room};
 use dispatch_room_files::reports::day_report;
+use dispatch_room_opening::rooms::{Worked, open_room};
 use room_http_time::days::Day;
 use room_http_time::zones::Zone;
 use room_place::plans::DivisionNumber;

@@ -1,24 +1,56 @@
 -- What a call is decided by, once its serial and its place were looked up.
-use Rattle.std.proofs.Common.{Err, None, Some, not, refl, ℕ, ◌≡◌}
+use Rattle.std.proofs.Common.{Err, List, None, Option, Some, not, refl, sym, ℕ, ◌∙◌, ◌≡◌}
 use Rattle.room_place.specs.Plans.{division_of}
+use Rattle.room_place.specs.declared.plans.Area.{Area}
 use Rattle.room_types.specs.Keyed.{row_at}
 use Rattle.room_types.specs.Keys.{call_key, pair_cmp}
 use Rattle.room_types.specs.declared.answers.Answer.TheVariants.{Called}
+use Rattle.room_types.specs.declared.asks.Ask.{Ask}
+use Rattle.room_types.specs.declared.asks.Ask.TheVariants.{Call}
+use Rattle.room_types.specs.declared.asks.CallForm.{CallForm}
+use Rattle.room_types.specs.declared.asks.Event.{Event}
 use Rattle.room_types.specs.declared.asks.NewCall.{NewCall}
+use Rattle.room_types.specs.declared.asks.Who.TheVariants.{Position}
 use Rattle.room_types.specs.declared.refusals.Refusal.TheVariants.{OutsideArea, SerialReused}
-use Rattle.room_types.specs.declared.tables.Call.{Call}
-use Rattle.room_model.specs.Calls.{same_call, take_call}
-use Rattle.room_model.specs.Decisions.{refuse_if, show}
+use Rattle.room_types.specs.declared.tables.Call.{Call as Call'}
+use Rattle.room_model.specs.Calls.{new_call, same_call}
+use Rattle.room_model.specs.Decisions.{Verdict, refuse_if, show}
 use Rattle.room_model.specs.Queries.{kept_call}
 use Rattle.room_model.specs.Room.{Room}
+use Rattle.room_model.specs.Step.{decided}
+use Rattle.room_store.specs.Acting.{IsIn}
 
 pub kept_is : (position serial : ℕ) (room : Room) → row_at pair_cmp call_key room.calls (position, serial) ≡ kept_call position serial room
 unfolding kept_call
 kept_is position serial room = refl
 
-pub told_again : (new : NewCall) (room : Room) (kept : Call) → kept_call new.position new.serial room ≡ Some kept
-    → take_call new room ≡ refuse_if (not (same_call kept new)) SerialReused (show (Called kept.division kept.given kept.linked))
-told_again new room kept e = rw e refl
+-- A position's call, by its place in these areas and by what is kept at its serial.
+module _ (event : Event) (position : ℕ) (form : CallForm) (areas : List Area) (room : Room) (planned : room.plan ≡ areas) (who : event.who ≡ Position position) (ask : event.ask ≡ Call form)
+    (found : Option Call') (row : found ≡ row_at pair_cmp call_key room.calls (position, form.serial)) where
+  kept_at : (o : Option Call') → found ≡ o → kept_call position form.serial room ≡ o
+  kept_at o is = sym (kept_is position form.serial room) ∙ sym row ∙ is
 
-pub nowhere : (new : NewCall) (room : Room) → kept_call new.position new.serial room ≡ None → division_of room.plan new.place ≡ None → take_call new room ≡ Err OutsideArea
-nowhere new room e f = rw (e, f) refl
+  -- one that is kept is told again
+  pub told_again : (kept : Call') (new : NewCall) (told : Verdict) → found ≡ Some kept → new ≡ new_call position form event.at
+      → told ≡ refuse_if (not (same_call kept new)) SerialReused (show (Called kept.division kept.given kept.linked)) → told ≡ decided event room
+  told_again kept new told is made gives = gives ∙ rw (made, who, ask, kept_at (Some kept) is) refl
+
+  module _ (division : Option ℕ) (placed : division ≡ division_of areas form.place) where
+    place_is : (o : Option ℕ) → division ≡ o → division_of room.plan form.place ≡ o
+    place_is o is = rw planned (sym placed ∙ is)
+
+    -- a new one is refused where it is outside,
+    pub nowhere : found ≡ None → division ≡ None → Err OutsideArea ≡ decided event room
+    nowhere none outside = rw (who, ask, kept_at None none, place_is None outside) refl
+
+    -- and else it is for the division that it is placed in
+    pub is_in : (d : ℕ) → found ≡ None → division ≡ Some d → IsIn event.who event.ask d room
+    is_in d none there = rw who (form, ask, kept_at None none, place_is (Some d) there)
+
+-- The form of a call that is for a division is its own.
+pub placed_in : (ask : Ask) (position division : ℕ) (form : CallForm) (room : Room) → ask ≡ Call form → IsIn (Position position) ask division room
+    → (kept_call position form.serial room ≡ None) × (division_of room.plan form.place ≡ Some division)
+placed_in ask position division form room is there =
+    let both : Call form ≡ Call there.0 = sym is ∙ there.1 in
+    let same : form ≡ there.0 = cc in
+    rw same (there.2, there.3)

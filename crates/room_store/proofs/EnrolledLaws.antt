@@ -4,7 +4,7 @@ use Rattle.std.specs.Prelude.{◌⊎◌}
 use Rattle.std.proofs.lemmas.List.{append_assoc}
 use Rattle.sqlite.specs.Held.{state}
 use Rattle.sqlite.specs.State.{HasCleanDisk, IsUnchanged, State, Survives}
-use Rattle.sqlite.proofs.StateLemmas.{survives_then}
+use Rattle.sqlite.proofs.StateLemmas.{survives_then, survives_weaker}
 use Rattle.sqlite_trees.specs.Tree.{Trees}
 use Rattle.sqlite_trees.specs.declared.store.Store.{Ghosts}
 use Rattle.room_place.specs.Plans.{Layout}
@@ -69,6 +69,14 @@ module _ {S : Type 0} (g : Ghosts S) (old new : Store S) (row : FleetRow) (termi
     plan = rw same (plan_by (fate_of room terminals row) row room ∙ is.plan);
     tables = λ _. rw same (wrote.stands (house_of old.plan terminals) room (in_plan wrote.was_open));
   }
+
+-- what a stop leaves of the row in the tables, it leaves of the store
+pub store_survives : {S : Type 0} (g : Ghosts S) (old : Store S) (new : State) (row : FleetRow)
+    → Survives (state g old.conn) new (λ db. (house : House) (room : Room) → StandsInPlan (state g old.conn).now.trees old.plan house room → StandsAfter (fate_in row house room) row house room db)
+    → Survives (state g old.conn) new (λ db. IsTrue (state g old.conn).is_open → (terminals : List Terminal) (room : Room) → IsRoom g old terminals room
+    → Stands db (house_of old.plan (terminals_enrolled room terminals row)) (room_enrolled room terminals row))
+store_survives g old new row =
+    survives_weaker (state g old.conn) new _ _ (λ _ db left is_open terminals room is. left (house_of old.plan terminals) room (in_plan g old old row terminals room is is_open))
 
 -- the room and its terminals after a row
 abbrev pub after_row : FleetRow → Room × List Terminal → Room × List Terminal

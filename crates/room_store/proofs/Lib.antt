@@ -1,4 +1,5 @@
 pub mod CallReads
+pub mod LookLaws
 pub mod ActLaws
 pub mod StoreLaws
 pub mod EnrolledLaws

@@ -1,9 +1,10 @@
 -- A store's room, before and after an event.
-use Rattle.std.proofs.Common.{Err, IsTrue, List, Ok, Result, [], ap, inl, inr, subst, sym, ◌∙◌, ◌∷◌, ◌≡◌}
-use Rattle.std.specs.Prelude.{OnOk}
+use Rattle.std.proofs.Common.{Err, IsTrue, List, Ok, Result, [], ap, false, inl, inr, subst, sym, true, ◌∙◌, ◌∷◌, ◌≡◌}
+use Rattle.std.specs.Prelude.{OnOk, ◌↔◌}
 use Rattle.sqlite.specs.Effect.{Database}
 use Rattle.sqlite.specs.Held.{state}
-use Rattle.sqlite.specs.State.{HasCleanDisk, Survives}
+use Rattle.sqlite.specs.State.{HasCleanDisk, State, Survives}
+use Rattle.sqlite.proofs.StateLemmas.{survives_weaker}
 use Rattle.sqlite_trees.specs.Tree.{Trees}
 use Rattle.sqlite_trees.specs.declared.store.Store.{Ghosts}
 use Rattle.room_types.specs.declared.asks.Event.{Event}
@@ -13,12 +14,22 @@ use Rattle.room_model.proofs.KeptEvents.{event_kept}
 use Rattle.room_model.specs.Events.{IsNumbered}
 use Rattle.room_model.specs.Room.{Room}
 use Rattle.room_model.specs.Step.{IsAddressed, room_after}
-use Rattle.room_tables.specs.Stands.{Stands}
+use Rattle.room_tables.specs.Stands.{House, Stands}
+use Rattle.room_tables_schema.specs.Connections.{HasRoomSchema}
+use Rattle.room_tables_schema.specs.Schema.{room_schema}
 use Rattle.room_store_writes.specs.Writing.{Commits, IsSettled, Leaves}
 use Rattle.room_store.specs.Acting.{IsFor}
-use Rattle.room_store.specs.Keeping.{IsKept, IsRoom, LeavesOneOf}
+use Rattle.room_store.specs.Keeping.{IsKept, IsReady, IsRoom, LeavesOneOf}
 use Rattle.room_store_writes.specs.Houses.{house_of}
 use Rattle.room_store.specs.declared.store.Store.{Store}
+
+-- a store that was found sound may be called,
+pub ready_sound : {S : Type 0} (g : Ghosts S) (held : Store S) → held.conn.in_transaction ≡ false → held.is_sound ≡ true → HasRoomSchema g held.conn → IsReady g held
+ready_sound g held outside sound is = record { outside = outside; schema = λ _ clean. is clean; shut = λ unsound. let never : false ≡ true = sym unsound ∙ sound in cc }
+
+-- and so may one whose file was tested
+pub ready_tested : {S : Type 0} (g : Ghosts S) (held : Store S) → held.conn.in_transaction ≡ false → (IsTrue held.is_sound ↔ ((state g held.conn).now.schema ≡ room_schema)) → IsReady g held
+ready_tested g held outside tested = record { outside = outside; schema = λ sound _. tested.0 sound; shut = λ unsound is. let never : false ≡ true = sym unsound ∙ tested.1 is in cc }
 
 -- tables that were left stand for the room that they stood for
 pub room_left : {S : Type 0} (g : Ghosts S) (old new : Store S) (terminals : List Terminal) (room : Room) → Leaves (state g old.conn) (state g new.conn) → new.plan ≡ old.plan → IsRoom g old terminals room → IsRoom g new terminals room
@@ -42,6 +53,14 @@ module _ {S : Type 0} (g : Ghosts S) (old new : Store S) (event : Event) (termin
     plan = rw same (plan_run (event ∷ []) room ∙ is.plan);
     tables = λ _. rw same (wrote.stands (house_of old.plan terminals) room (for_room wrote.was_open));
   }
+
+-- what a stop leaves of the event in the tables, it leaves of the store
+pub event_survives : {S : Type 0} (g : Ghosts S) (old : Store S) (new : State) (event : Event)
+    → Survives (state g old.conn) new (λ db. (house : House) (room : Room) → IsFor (state g old.conn).now.trees old.plan event house room → Stands db house (room_after event room))
+    → Survives (state g old.conn) new (λ db. IsTrue (state g old.conn).is_open → (terminals : List Terminal) (room : Room) → IsRoom g old terminals room → IsAddressed event room
+    → Stands db (house_of old.plan terminals) (room_after event room))
+event_survives g old new event =
+    survives_weaker (state g old.conn) new _ _ (λ _ db left is_open terminals room is addressed. left (house_of old.plan terminals) room (for_room g old old event terminals room is addressed is_open))
 
 -- what is kept of a settled connection
 pub kept_settled : {S T E : Type 0} (g : Ghosts S) (held : Store S) (r : Result T E) → OnOk r (IsSettled (state g held.conn))

@@ -1,11 +1,12 @@
 //! A room created in an empty file.
 
-ghost use Rattle.std.specs.Prelude.{◌≡◌, ◌↔◌, false, IsTrue, IfOk, OnOk};
-ghost use Rattle.std.specs.List.{list_all, list_any};
+ghost use Rattle.std.specs.Prelude.{◌≡◌, ◌↔◌, IsTrue, IfErr, IfOk, OnOk};
+ghost use Rattle.std.specs.List.{list_any};
 ghost use Rattle.sqlite.specs.Held.{state};
 ghost use Rattle.sqlite.specs.State.{HasCleanDisk, Survives};
 ghost use Rattle.room_store_writes.specs.Writing.{Leaves};
-ghost use Rattle.room_store.specs.Creating.{AreNewTerminals, have_own_tokens, is_token_of, may_use};
+ghost use Rattle.room_store.specs.Creating.{AreNewTerminals, Explains, MayBegin};
+ghost use Rattle.room_store.specs.Creating.{is_token_of, may_use};
 ghost use Rattle.room_store_writes.specs.Filling.{StandsNew};
 
 use crate::store::Store;
@@ -17,7 +18,8 @@ use room_types::asks::Who;
 use room_types::fleet::Terminal;
 use room_types::token::Token;
 use sqlite::{Alter, Connection};
-use std::alloc::{AllocError, Global};
+use sqlite_schema::schema::Schema;
+use std::alloc::Global;
 use thiserror::Error;
 
 /// Why a room is not created. Of several reasons the first of this list is told.
@@ -96,37 +98,61 @@ impl<S: Alter> Store<S> {
     {
         // Outside a transaction the tables are as they were committed.
         let _ = conn.is_autocommit();
-        if !is_empty(conn.schema()) {
-            return Err((CreateFault::NotEmpty, conn));
-        }
-        if !are_new(plan, terminals) {
-            return Err((CreateFault::BadTerminal, conn));
-        }
-        let Ok(copy) = copy_of(alloc, plan) else {
-            return Err((CreateFault::Memory, conn));
-        };
-        match create_in(&mut conn, plan, terminals) {
-            Ok(()) => Ok(Store {
-                conn,
-                plan: copy,
-                is_sound: true,
-            }),
-            Err(fault) => Err((CreateFault::from(fault), conn)),
+        match own_plan(alloc, conn.schema(), plan, terminals) {
+            Ok(own) => match create_in(&mut conn, plan, terminals) {
+                Ok(()) => Ok(Store {
+                    conn,
+                    plan: own,
+                    is_sound: true,
+                }),
+                Err(fault) => Err((CreateFault::from(fault), conn)),
+            },
+            Err(fault) => Err((fault, conn)),
         }
     }
 }
 
-// Whether a new room of the plan may have these terminals.
+// The plan in memory of the room's own, where a room may begin in a file of this schema. Its areas
+// and zone are a plan's already, so of them memory alone can fail.
+fn own_plan(
+    alloc: Global,
+    schema: &Schema,
+    plan: &Plan,
+    terminals: &[Terminal],
+) -> Result<Plan, CreateFault>
+    ensures plan { IfOk result (λ own. (own.areas ≡ plan.now.areas) × (own.zone ≡ plan.now.zone)) }
+    ensures begun { OnOk result (MayBegin schema.now plan.now terminals.now) }
+    ensures why { IfErr result (Explains schema.now plan.now terminals.now) }
+{
+    if !is_empty(schema) {
+        return Err(CreateFault::NotEmpty);
+    }
+    if !are_new(plan, terminals) {
+        return Err(CreateFault::BadTerminal);
+    }
+    let Ok(areas) = Vec::from_slice(alloc, plan.areas()) else {
+        return Err(CreateFault::Memory);
+    };
+    match Plan::new(alloc, areas, plan.zone()) {
+        Ok(own) => Ok(own),
+        Err(_) => Err(CreateFault::Memory),
+    }
+}
+
+// Whether a new room of the plan may have these terminals: it may have the user of each, and no two
+// have one token.
 fn are_new(plan: &Plan, terminals: &[Terminal]) -> bool
     ensures { IsTrue result ↔ AreNewTerminals plan.now terminals.now }
 {
-    all_may_use(plan, terminals) && have_own_tokens(terminals)
-}
-
-fn all_may_use(plan: &Plan, terminals: &[Terminal]) -> bool
-    ensures { result ≡ list_all (λ t. may_use plan.now.areas t.who) terminals.now }
-{
-    terminals.iter().all(|terminal| may_use(plan, terminal.who))
+    for (index, terminal) in terminals.iter().enumerate() {
+        if !may_use(plan, terminal.who) {
+            return false;
+        }
+        if has_token(&terminals[index + 1..], &terminal.token) {
+            return false;
+        }
+    }
+    true
 }
 
 fn may_use(plan: &Plan, who: Who) -> bool
@@ -139,28 +165,8 @@ fn may_use(plan: &Plan, who: Who) -> bool
     }
 }
 
-// Whether no two terminals have one token.
-fn have_own_tokens(terminals: &[Terminal]) -> bool
-    ensures { result ≡ have_own_tokens terminals.now }
-{
-    for (index, terminal) in terminals.iter().enumerate() {
-        if has_token(&terminals[index + 1..], &terminal.token) {
-            return false;
-        }
-    }
-    true
-}
-
 fn has_token(terminals: &[Terminal], token: &Token) -> bool
     ensures { result ≡ list_any (is_token_of token.now) terminals.now }
 {
     terminals.iter().any(|terminal| *token == terminal.token)
-}
-
-// The plan in memory of its own. Its areas and zone are a plan's already, so memory alone can fail.
-fn copy_of(alloc: Global, plan: &Plan) -> Result<Plan, AllocError>
-    ensures { IfOk result (λ copy. (copy.areas ≡ plan.now.areas) × (copy.zone ≡ plan.now.zone)) }
-{
-    let areas = Vec::from_slice(alloc, plan.areas())?;
-    Plan::new(alloc, areas, plan.zone()).map_err(|_| AllocError)
 }

@@ -1,21 +1,22 @@
 //! What the room in the tables decides of an event. Nothing is written.
-ghost use Rattle.std.specs.Prelude.{◌≡◌, ◌⊎◌, false, None, Some, IfOk, OnOk, OnErr};
+ghost use Rattle.std.specs.Prelude.{◌≡◌, ◌⊎◌, false, IfOk, OnOk, OnErr};
 ghost use Rattle.sqlite.specs.Held.{state};
 ghost use Rattle.sqlite.specs.State.{HasCleanDisk, IsUnchanged, Survives};
 ghost use Rattle.room_tables_schema.specs.Connections.{HasRoomSchema};
 ghost use Rattle.room_tables_sql.specs.Outcomes.{Keeps, ReadsOnly};
-ghost use Rattle.room_core.specs.Deciding.{Decides};
-ghost use Rattle.room_place.specs.Plans.{division_of};
-ghost use Rattle.room_model.specs.Calls.{new_call, take_call};
+ghost use Rattle.room_core.specs.Deciding.{AreRead, Decides};
+ghost use Rattle.room_types.specs.declared.asks.Ask.TheVariants.{Call as CallAsk};
+ghost use Rattle.room_types.specs.declared.asks.Who.TheVariants.{Position};
+ghost use Rattle.room_model.specs.Calls.{new_call};
 ghost use Rattle.room_model.specs.Decisions.{Verdict};
-ghost use Rattle.room_model.specs.Queries.{kept_call};
 ghost use Rattle.room_model.specs.Room.{Room};
+ghost use Rattle.room_model.specs.Slices.{room_of};
 ghost use Rattle.room_model.specs.Step.{IsAddressed, decided};
 ghost use Rattle.room_model.specs.WellFormed.{IsWellFormed};
-ghost use Rattle.room_tables.specs.Stands.{House, Stands};
+ghost use Rattle.room_tables.specs.Stands.{House};
 ghost use Rattle.room_tables.specs.Finding.{Finds};
-ghost use Rattle.room_model.specs.Events.{by_crew, by_desk, by_position};
-ghost use Rattle.room_store.specs.Acting.{IsFor};
+ghost use Rattle.room_model.specs.Events.{by_crew};
+ghost use Rattle.room_store.specs.Acting.{IsFor, IsIn};
 
 use room_core::calls::{decide_again, decide_call};
 use room_core::crews::{decide_crew, number_in_hand};
@@ -59,37 +60,55 @@ pub(crate) fn decide<S: Alter>(
     ensures survives { Survives (state S.Store conn.old) (state S.Store conn.new) (λ _. ⊥) }
 {
     match &event.who {
-        Who::Desk(division) => for_desk(alloc, conn, plan, *division, &event.ask, event.at),
+        Who::Desk(division) => for_division(alloc, conn, plan, *division, event),
         Who::Crew(callsign) => for_crew(alloc, conn, plan, callsign, &event.ask, event.at),
-        Who::Position(position) => {
-            for_position(alloc, conn, plan, *position, &event.ask, event.at)
-        }
+        Who::Position(position) => match &event.ask {
+            Ask::Call(form) => for_call(alloc, conn, plan, *position, form, event),
+            _ => Err(Fault::Storage),
+        },
     }
 }
 
-// What a division's desk asks.
-fn for_desk<S: Alter>(
+// What is for a division: what its desk asks, or a call that is placed in it and not kept.
+fn for_division<S: Alter>(
     alloc: Global,
     conn: &mut Connection<S>,
     plan: &Plan,
     division: DivisionNumber,
-    ask: &Ask,
-    at: Moment,
+    event: &Event,
 ) -> Result<Result<Decision, Refusal>, Fault>
     requires room { HasRoomSchema S.Store conn.old }
     ensures decided { Finds S.Store conn.old conn.new result (λ room x. IsWellFormed room
-        → room.plan ≡ plan.now.areas → IsAddressed (by_desk division ask.now at) room
-        → x ≡ decided (by_desk division ask.now at) room) }
+        → room.plan ≡ plan.now.areas → IsIn event.now.who event.now.ask division room
+        → x ≡ decided event.now room) }
     ensures reads { ReadsOnly S.Store conn.old conn.new result }
 {
-    let rows = load_working(alloc, conn, division, ask, at)?;
+    let rows = load_working(alloc, conn, division, &event.ask, event.at)?;
     match Slice::build(division, rows) {
         Some(slice) => {
-            let decision = decide_desk(alloc, plan, &slice, ask, at);
+            let decision = decide_on(alloc, plan, &slice, event);
             drop(slice);
             machines(decision)
         }
         None => Err(Fault::Storage),
+    }
+}
+
+// What is decided of it on the division's rows. Nothing else is for a division.
+fn decide_on(alloc: Global, plan: &Plan, slice: &Slice, event: &Event) -> Result<Decision, Refusal>
+    ensures { (room : Room) → IsWellFormed room → room.plan ≡ plan.now.areas
+        → AreRead slice.now.division event.now.ask event.now.at
+        (room_of room.plan slice.now.rows) room
+        → IsIn event.now.who event.now.ask slice.now.division room
+        → Decides (decided event.now room) result }
+{
+    match &event.who {
+        Who::Desk(_) => decide_desk(alloc, plan, slice, &event.ask, event.at),
+        Who::Position(position) => match &event.ask {
+            Ask::Call(form) => decide_call(alloc, slice, &new_call(*position, form, event.at)),
+            _ => Err(Refusal::WrongRole),
+        },
+        Who::Crew(_) => Err(Refusal::WrongRole),
     }
 }
 
@@ -118,83 +137,28 @@ fn for_crew<S: Alter>(
     }
 }
 
-// What a call taker's position asks.
-fn for_position<S: Alter>(
-    alloc: Global,
-    conn: &mut Connection<S>,
-    plan: &Plan,
-    position: PositionNumber,
-    ask: &Ask,
-    at: Moment,
-) -> Result<Result<Decision, Refusal>, Fault>
-    requires room { HasRoomSchema S.Store conn.old }
-    ensures decided { Finds S.Store conn.old conn.new result (λ room x. IsWellFormed room
-        → room.plan ≡ plan.now.areas → IsAddressed (by_position position ask.now at) room
-        → x ≡ decided (by_position position ask.now at) room) }
-    ensures ok { HasCleanDisk (state S.Store conn.new)
-        → OnOk result (IsUnchanged (state S.Store conn.old) (state S.Store conn.new)) }
-    ensures err { HasCleanDisk (state S.Store conn.new)
-        → OnErr result (Keeps (state S.Store conn.old) (state S.Store conn.new)
-        ⊎ (conn.new ≡ conn.old)) }
-    ensures mode { conn.old.in_transaction ≡ false → conn.new.in_transaction ≡ false }
-    ensures survives { Survives (state S.Store conn.old) (state S.Store conn.new) (λ _. ⊥) }
-{
-    match ask {
-        Ask::Call(form) => for_call(alloc, conn, plan, position, form, at),
-        _ => Err(Fault::Storage),
-    }
-}
-
-// A call, kept already or new.
+// What a call taker's position asks: a call, kept already or new.
 fn for_call<S: Alter>(
     alloc: Global,
     conn: &mut Connection<S>,
     plan: &Plan,
     position: PositionNumber,
     form: &CallForm,
-    at: Moment,
+    event: &Event,
 ) -> Result<Result<Decision, Refusal>, Fault>
     requires room { HasRoomSchema S.Store conn.old }
     ensures decided { Finds S.Store conn.old conn.new result (λ room x. IsWellFormed room
-        → room.plan ≡ plan.now.areas → x ≡ take_call (new_call position form.now at) room) }
+        → room.plan ≡ plan.now.areas → event.now.who ≡ Position position
+        → event.now.ask ≡ CallAsk form.now → x ≡ decided event.now room) }
     ensures reads { ReadsOnly S.Store conn.old conn.new result }
 {
-    let new = new_call(position, form, at);
     let found = row_at::<Call, S>(conn, &(position, form.serial))?;
     match found {
-        Some(kept) => Ok(decide_again(alloc, &kept, &new)),
+        Some(kept) => Ok(decide_again(alloc, &kept, &new_call(position, form, event.at))),
         None => match plan.division_of(form.place) {
-            Some(division) => for_new_call(alloc, conn, division, form, &new),
+            Some(division) => for_division(alloc, conn, plan, division, event),
             None => Ok(Err(Refusal::OutsideArea)),
         },
-    }
-}
-
-// A call that is not kept, placed in the division.
-fn for_new_call<S: Alter>(
-    alloc: Global,
-    conn: &mut Connection<S>,
-    division: DivisionNumber,
-    form: &CallForm,
-    new: &NewCall,
-) -> Result<Result<Decision, Refusal>, Fault>
-    requires room { HasRoomSchema S.Store conn.old }
-    ensures decided { HasCleanDisk (state S.Store conn.new)
-        → IfOk result (λ x. (house : House) (room : Room)
-        → Stands (state S.Store conn.old).now.trees house room → IsWellFormed room
-        → new.now ≡ new_call new.now.position form.now new.now.at
-        → kept_call new.now.position form.now.serial room ≡ None
-        → division_of room.plan form.now.place ≡ Some division → x ≡ take_call new.now room) }
-    ensures reads { ReadsOnly S.Store conn.old conn.new result }
-{
-    let rows = load_working(alloc, conn, division, &Ask::Call(*form), new.at)?;
-    match Slice::build(division, rows) {
-        Some(slice) => {
-            let decision = decide_call(alloc, &slice, new);
-            drop(slice);
-            machines(decision)
-        }
-        None => Err(Fault::Storage),
     }
 }
 

@@ -1,14 +1,12 @@
 //! The digest of the room that a store keeps, by which it is known again.
-ghost use Rattle.std.specs.Prelude.{◌≡◌, List, [], ◌∷◌, IsTrue, IfOk, IfErr, OnOk};
+ghost use Rattle.std.specs.Prelude.{◌≡◌, List, [], ◌∷◌, IfOk, IfErr, OnOk};
 ghost use Rattle.sha2.specs.Sha256.{sha256};
 ghost use Rattle.sqlite.specs.Held.{state};
-ghost use Rattle.sqlite.specs.State.{HasCleanDisk, Survives};
+ghost use Rattle.sqlite.specs.State.{HasCleanDisk};
 ghost use Rattle.room_types.specs.declared.fleet.Terminal.{Terminal};
 ghost use Rattle.room_model.specs.Room.{Room};
 ghost use Rattle.room_service.specs.Rooms.{IsWant};
 ghost use Rattle.room_store_digest.specs.Texts.{digest_text};
-ghost use Rattle.room_store_writes.specs.Houses.{house_of};
-ghost use Rattle.room_store_writes.specs.Writing.{Leaves};
 ghost use Rattle.room_store.specs.Keeping.{IsKept, IsReady, IsRoom, LeavesOneOf};
 
 use crate::store::Store;
@@ -46,25 +44,6 @@ pub fn digest_of_room<S: Alter>(store: &mut Store<S>) -> Result<[u8; 32], Refusa
         → (terminals : List Terminal) (room : Room) → IsRoom S.Store store.old terminals room
         → LeavesOneOf S.Store store.new terminals (room ∷ []) }
     ensures wants { IfErr result IsWant }
-{
-    read_digest(store)
-}
-
-fn read_digest<S: Alter>(store: &mut Store<S>) -> Result<[u8; 32], Refusal>
-    requires ready { IsReady S.Store store.old }
-    ensures ready { IsReady S.Store store.new }
-    ensures plan { store.new.plan ≡ store.old.plan }
-    ensures known { HasCleanDisk (state S.Store store.new.conn)
-        → IfOk result (λ digest. (terminals : List Terminal) (room : Room)
-        → IsRoom S.Store store.old terminals room
-        → digest ≡ sha256 (digest_text terminals room)) }
-    ensures leaves { HasCleanDisk (state S.Store store.new.conn)
-        → Leaves (state S.Store store.old.conn) (state S.Store store.new.conn) }
-    ensures stays_open { HasCleanDisk (state S.Store store.new.conn)
-        → OnOk result (IsTrue (state S.Store store.new.conn).is_open) }
-    ensures wants { IfErr result IsWant }
-    ensures survives { Survives (state S.Store store.old.conn) (state S.Store store.new.conn)
-        (λ _. ⊥) }
 {
     if !store.is_sound {
         return Err(Refusal::Storage);

@@ -1,15 +1,13 @@
 -- A file whose tables were taken, or that was read, holds the room that it held.
 use Rattle.std.proofs.Common.{IsTrue, List, [], ap, arith, inl, inr, refl, subst, sym, ◌⊎◌, ◌∙◌, ◌∷◌, ◌≡◌}
 use Rattle.sqlite.specs.Effect.{Database}
-use Rattle.sqlite.specs.State.{HasCleanDisk, IsUnchanged, State, Survives}
+use Rattle.sqlite.specs.State.{HasCleanDisk, State, Survives}
 use Rattle.sqlite_schema.specs.declared.schema.Schema.{Schema}
 use Rattle.sqlite_schema.specs.declared.schema.Table.{Table}
-use Rattle.sqlite_value.specs.Order.{Row}
 use Rattle.sqlite_catalog.specs.Change.{KeepsRows}
 use Rattle.sqlite_trees.specs.Tree.{Trees}
 use Rattle.sqlite.proofs.StateLemmas.{survives_then}
 use Rattle.room_tables_sql.proofs.Standing.{holds_still}
-use Rattle.room_tables_sql.specs.Tables.{AreNumbered}
 use Rattle.room_place.specs.Plans.{Layout}
 use Rattle.room_types.specs.declared.fleet.Terminal.{Terminal}
 use Rattle.room_model.specs.Enrol.{AreTerminals}
@@ -17,7 +15,7 @@ use Rattle.room_model.specs.Room.{Room}
 use Rattle.room_model.specs.WellFormed.{IsWellFormed}
 use Rattle.room_tables_schema.specs.Schema.{room_schema, room_tables, tables_schema}
 use Rattle.room_tables_rows.proofs.OneRoom.{one_house, one_room}
-use Rattle.room_tables.specs.Stands.{House, Stands, StandsFor}
+use Rattle.room_tables.specs.Stands.{House, Stands}
 use Rattle.room_store_writes.specs.Houses.{house_of}
 use Rattle.room_store_writes.specs.Writing.{Leaves}
 use Rattle.room_store_opening.specs.Opening.{Becomes, HoldsRoom, KeepsAllRows, KeepsFile, MayBeIndexed, MayBeMoved, MayBecome, Moves, Opens, Takes, WritesNothing, schema_of}
@@ -145,6 +143,10 @@ module _ (old mid new : State) where
     survives = survives_then old mid new _ _ (λ _. ⊥) (λ _ db none. none) (λ _ db none. none) one.survives two.survives;
   }
 
+  -- and one look after another, the tables are as they were
+  pub looked_on : WritesNothing mid new → (HasCleanDisk mid → mid.now ≡ old.now) → (HasCleanDisk new → new.now ≡ mid.now) → HasCleanDisk new → new.now ≡ old.now
+  looked_on nothing one two clean = let early : HasCleanDisk mid = omega (arith, nothing.survives.clean) in two clean ∙ one early
+
 -- a room that some tables hold is the one that they were read as
 pub held_is : (trees : Trees) (plan : Layout) (terminals : List Terminal) (room : Room) → Stands trees (house_of plan terminals) room → HoldsRoom trees → IsWellFormed room × AreTerminals room terminals
 held_is trees plan terminals room stands h =
@@ -152,8 +154,3 @@ held_is trees plan terminals room stands h =
     let house = one_house trees (house_of h.layout h.terminals) (house_of plan terminals) h.room room h.stands stands in
     let theirs : h.terminals ≡ terminals = ap (λ (x : House). x.terminals) house in
     (subst IsWellFormed same h.formed, subst (λ r. AreTerminals r terminals) same (subst (AreTerminals h.room) theirs h.fits))
-
--- what a table was found to hold after reads, it held before them
-pub held_before : {X : Type 0} (old new : State) → IsUnchanged old new → (table : Table) (cells : X → Row) (rows : List X)
-    → (AreNumbered (new.now.trees table.tree) → StandsFor new.now.trees table cells rows) → AreNumbered (old.now.trees table.tree) → StandsFor old.now.trees table cells rows
-held_before old new same table cells rows = subst (λ (db : Database). AreNumbered (db.trees table.tree) → StandsFor db.trees table cells rows) same.0.now_is

@@ -1,7 +1,8 @@
 -- Tables that are taken: what they become holds the room that they held, and what an end of the transaction leaves.
 use Rattle.std.proofs.Common.{Err, IsTrue, List, Ok, Result, [], ap, arith, inl, inr, refl, subst, sym, ◌∙◌, ◌∷◌, ◌≡◌, ◌⊎◌}
 use Rattle.std.proofs.lemmas.Bool.{eqb-false}
-use Rattle.std.specs.Prelude.{IfErr, IfOk, IsOk, OnErr, OnOk}
+use Rattle.std.specs.Prelude.{IfErr, IfOk, IsOk, OnErr, OnOk, ◌≢◌}
+use Rattle.std.specs.Result.{IsErr, IsErrAnd}
 use Rattle.sqlite.specs.Effect.{Database}
 use Rattle.sqlite.specs.Held.{Held, state}
 use Rattle.sqlite.specs.State.{HasCleanDisk, State, Survives}
@@ -16,14 +17,18 @@ use Rattle.room_tables_schema.specs.Connections.{MayWrite}
 use Rattle.room_tables_schema.specs.Definitions.{AddsLast}
 use Rattle.room_tables_schema.specs.Schema.{room_tables}
 use Rattle.room_tables_schema.specs.Versions.{BeginsAsRoom, HasFirstTables}
+use Rattle.room_tables_schema.specs.declared.faults.Fault.{Fault}
+use Rattle.room_tables_schema.specs.declared.faults.Fault.TheVariants as faults
 use Rattle.room_tables_rows.proofs.Moves.{moved_from, moves}
 use Rattle.room_tables_rows.proofs.Version.{tells_held}
 use Rattle.room_tables.specs.Stands.{House, Stands}
 use Rattle.room_tables.specs.Writes.{Renews}
 use Rattle.room_store_writes.specs.Writing.{Leaves}
 use Rattle.room_store_opening.proofs.FileLaws.{rows_kept}
-use Rattle.room_store_opening.specs.Opening.{Becomes, Holds, HoldsBy, HoldsFirstRoom, HoldsRoom, IsMoved, IsRoomOf, MayBecome, StandsBy, Takes, migrate_fault, open_fault, schema_of}
+use Rattle.room_store_opening.specs.Opening.{Becomes, Holds, HoldsBy, HoldsFirstRoom, HoldsRoom, IsMoved, IsRoomOf, MayBecome, StandsBy, Takes, migrate_fault, open_fault, schema_of, take_fault}
+use Rattle.room_store_opening.specs.declared.migrating.MigrateFault.{MigrateFault}
 use Rattle.room_store_opening.specs.declared.migrating.MigrateFault.TheVariants as migrated
+use Rattle.room_store_opening.specs.declared.opening.OpenFault.{OpenFault}
 use Rattle.room_store_opening.specs.declared.opening.OpenFault.TheVariants as opened
 use Rattle.room_store_opening.specs.declared.taking.TakeFault.{TakeFault}
 use Rattle.room_store_opening.specs.declared.taking.TakeFault.TheVariants.{Memory, NotARoom, Storage}
@@ -119,6 +124,31 @@ under (Err e) A P h = h
 pub any_fault : {T E : Type 0} (r : Result T E) (P : E → Type 0) → ((e : E) → P e) → IfErr r P
 any_fault (Ok x) P p = tt
 any_fault (Err e) P p = p e
+
+-- what failed gave nothing
+pub none_found : {T E : Type 0} (r : Result T E) (P : T → Type 0) → IsErr r → IfOk r P
+none_found (Ok x) P is = absurd cc
+none_found (Err e) P is = tt
+
+pub none_ok : {T E : Type 0} (r : Result T E) (P : Type 0) → IsErr r → OnOk r P
+none_ok (Ok x) P is = absurd cc
+none_ok (Err e) P is = tt
+
+-- and a fault of the database tells of no room
+pub not_told : {T : Type 0} (r : Result T TakeFault) (fault : Fault) (P : Type 0) → IsErrAnd r (λ why. why ≡ take_fault fault) → IfErr r (λ e. e ≡ NotARoom → P)
+not_told (Ok x) fault P is = tt
+not_told (Err e) faults.Memory P is = λ none. cc
+not_told (Err e) faults.Storage P is = λ none. cc
+
+pub none_moved : {T : Type 0} (r : Result T MigrateFault) (fault : Fault) → IsErrAnd r (λ why. why ≡ migrate_fault (take_fault fault)) → IfErr r (λ e. (e ≢ migrated.NotOld) × (e ≢ migrated.NotARoom))
+none_moved (Ok x) fault is = tt
+none_moved (Err e) faults.Memory is = (λ old. cc, λ none. cc)
+none_moved (Err e) faults.Storage is = (λ old. cc, λ none. cc)
+
+pub none_opened : {T : Type 0} (r : Result T OpenFault) (fault : Fault) → IsErrAnd r (λ why. why ≡ open_fault (take_fault fault)) → IfErr r (λ e. (e ≢ opened.OldRoom) × (e ≢ opened.NotARoom))
+none_opened (Ok x) fault is = tt
+none_opened (Err e) faults.Memory is = (λ old. cc, λ none. cc)
+none_opened (Err e) faults.Storage is = (λ old. cc, λ none. cc)
 
 -- ---- whole tables, which are looked at
 

@@ -1,10 +1,12 @@
 -- What a file holds that is opened, or moved from the first version to this.
-use Rattle.std.specs.Prelude.{IsTrue, List, drop, ℕ, ◌↔◌, ◌≡◌, ◌≢◌, ◌∷◌, []}
+use Rattle.std.specs.Prelude.{IsTrue, List, OnErr, OnOk, Result, drop, ℕ, ◌↔◌, ◌≡◌, ◌≢◌, ◌∷◌, []}
 use Rattle.sqlite.specs.Effect.{Database}
+use Rattle.sqlite.specs.Held.{Held, state}
 use Rattle.sqlite.specs.State.{HasCleanDisk, State, Survives}
 use Rattle.sqlite_catalog.specs.Change.{KeepsRows}
 use Rattle.sqlite_schema.specs.declared.schema.Schema.{Schema}
 use Rattle.sqlite_trees.specs.Tree.{Trees}
+use Rattle.sqlite_trees.specs.declared.store.Store.{Ghosts}
 use Rattle.room_place.specs.Plans.{Layout}
 use Rattle.room_place.specs.declared.plans.Area.{Area}
 use Rattle.room_types.specs.declared.fleet.Terminal.{Terminal}
@@ -25,6 +27,7 @@ use Rattle.room_tables_rows.specs.Reports.{report_row}
 use Rattle.room_tables_rows.specs.Terminals.{terminal_row}
 use Rattle.room_tables_rows.specs.Turns.{turn_row}
 use Rattle.room_tables_rows.specs.Vehicles.{vehicle_row}
+use Rattle.room_tables_sql.specs.Outcomes.{ReadsInside}
 use Rattle.room_tables_schema.specs.Schema.{areas_table, assignments_table, calls_table, divisions_table, first_schema, first_tables, first_tables_schema, incidents_table, loans_table, meta_table, offers_table, points_table, reports_table, room_schema, room_tables, tables_schema, terminals_table, turns_table, vehicles_table}
 use Rattle.room_tables_schema.specs.Versions.{BeginsAsRoom, HasFirstTables}
 use Rattle.room_tables_schema.specs.declared.faults.Fault.{Fault}
@@ -191,3 +194,9 @@ pub record HasHouse (trees : Trees) (areas : List Area) (zone : List ℕ) (termi
   pub meta : StandsFor trees meta_table meta_row (zone ∷ [])
   pub areas_are : StandsFor trees areas_table area_row (numbered 1 areas)
   pub terminals_are : StandsFor trees terminals_table terminal_row terminals
+
+-- The next of some reads in a transaction: one where all before it went well, and none where not. `Is` holds of the tables where it went well.
+pub record ReadsNext {S : Type 0} (g : Ghosts S) (old new : Held S) (before after : Result (Unit {0}) Fault) (Is : Trees → Type 0) : Type 0 where
+  pub found : HasCleanDisk (state g new) → OnOk after (Is (state g old).now.trees)
+  pub reads : OnOk before (ReadsInside g old new after)
+  pub stays : OnErr before ((new ≡ old) × (after ≡ before))

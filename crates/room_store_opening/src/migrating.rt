@@ -104,30 +104,6 @@ pub fn migrate_in<S: Alter>(alloc: Global, conn: &mut Connection<S>) -> Result<P
     if is_room_of(conn, VERSION)? {
         return Err(MigrateFault::NotOld);
     }
-    migrate_old(alloc, conn)
-}
-
-// The plan of the room of the first version that the file holds.
-fn migrate_old<S: Alter>(alloc: Global, conn: &mut Connection<S>) -> Result<Plan, MigrateFault>
-    requires outside { conn.old.in_transaction ≡ false }
-    ensures room { HasCleanDisk (state S.Store conn.new)
-        → IfOk result (IsPlanOf (state S.Store conn.new).now.trees) }
-    ensures moves { HasCleanDisk (state S.Store conn.new)
-        → OnOk result (Moves (state S.Store conn.old) (state S.Store conn.new)) }
-    ensures old_room { HasCleanDisk (state S.Store conn.new)
-        → OnOk result (IsOldRoom (state S.Store conn.old).now) }
-    ensures leaves { HasCleanDisk (state S.Store conn.new)
-        → OnErr result (Leaves (state S.Store conn.old) (state S.Store conn.new)) }
-    ensures is_old { IfErr result (λ e. e ≢ NotOld) }
-    ensures no_room { HasCleanDisk (state S.Store conn.new)
-        → IfErr result (λ e. e ≡ NotARoom → HasFirstTables (state S.Store conn.old).now.schema
-        → ¬ HoldsFirstRoom (state S.Store conn.old).now.trees) }
-    ensures untouched { IfErr result (λ e. e ≡ NotARoom
-        → WritesNothing (state S.Store conn.old) (state S.Store conn.new)) }
-    ensures ended { conn.new.in_transaction ≡ false }
-    ensures survives { Survives (state S.Store conn.old) (state S.Store conn.new)
-        (MayBeMoved (state S.Store conn.old).now) }
-{
     if !is_room_of(conn, FIRST_VERSION)? {
         return Err(MigrateFault::NotARoom);
     }

@@ -26,7 +26,6 @@ ghost use Rattle.room_store_opening.specs.Opening.{
   schema_of,
 };
 ghost use Rattle.room_store_opening.specs.declared.taking.TakeFault.TheVariants.{Memory, NotARoom};
-ghost use Rattle.room_store_opening.specs.declared.taking.Tables.TheVariants.{Whole};
 
 use crate::opening::is_room_of;
 use crate::whole::{RoomFile, read_whole};
@@ -99,38 +98,11 @@ pub(crate) fn take<S: Alter>(
     ensures survives { Survives (state S.Store conn.old) (state S.Store conn.new)
         (MayBecome tables (state S.Store conn.old).now.trees) }
 {
-    match tables {
-        Tables::Whole => look_in(alloc, conn, tables),
-        _ => take_in(alloc, conn, tables),
-    }
-}
-
-// The plan of the room that whole tables hold. Nothing is written, not even a commit of nothing,
-// which would write the head of a file that another program kept otherwise.
-fn look_in<S: Alter>(
-    alloc: Global,
-    conn: &mut Connection<S>,
-    tables: Tables,
-) -> Result<Plan, TakeFault>
-    requires whole { tables ≡ Whole }
-    requires tables { (state S.Store conn.old).now.schema ≡ schema_of tables }
-    requires outside { conn.old.in_transaction ≡ false }
-    requires committed { IsTrue (state S.Store conn.old).is_open
-        → (state S.Store conn.old).now ≡ (state S.Store conn.old).committed }
-    ensures room { HasCleanDisk (state S.Store conn.new)
-        → IfOk result (IsPlanOf (state S.Store conn.new).now.trees) }
-    ensures takes { HasCleanDisk (state S.Store conn.new)
-        → OnOk result (Takes tables (state S.Store conn.old) (state S.Store conn.new)) }
-    ensures no_room { HasCleanDisk (state S.Store conn.new)
-        → IfErr result (λ e. e ≡ NotARoom → ¬ HoldsBy tables (state S.Store conn.old).now.trees) }
-    ensures leaves { HasCleanDisk (state S.Store conn.new)
-        → OnErr result (Leaves (state S.Store conn.old) (state S.Store conn.new)) }
-    ensures untouched { IfErr result (λ e. e ≡ NotARoom
-        → WritesNothing (state S.Store conn.old) (state S.Store conn.new)) }
-    ensures ended { conn.new.in_transaction ≡ false }
-    ensures survives { Survives (state S.Store conn.old) (state S.Store conn.new)
-        (MayBecome tables (state S.Store conn.old).now.trees) }
-{
+    let Tables::Whole = tables else {
+        return take_in(alloc, conn, tables);
+    };
+    // Whole tables are looked at alone: not even nothing is committed, since a commit would write
+    // the head of a file that another program kept otherwise.
     let found = look(alloc, conn);
     if_open(conn, found)
 }

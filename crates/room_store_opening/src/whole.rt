@@ -1,5 +1,5 @@
 //! All that the tables of a file hold, read inside a transaction.
-ghost use Rattle.std.specs.Prelude.{◌≡◌, IfErr, IfOk};
+ghost use Rattle.std.specs.Prelude.{◌≡◌, IfErr, IfOk, OnOk, string_bytes};
 ghost use Rattle.sqlite.specs.Held.{state};
 ghost use Rattle.sqlite.specs.State.{HasCleanDisk};
 ghost use Rattle.room_tables_schema.specs.Connections.{HasRoomSchema};
@@ -10,7 +10,7 @@ ghost use Rattle.room_model.specs.Slices.{room_of};
 ghost use Rattle.room_tables.specs.Numbering.{AreAllNumbered};
 ghost use Rattle.room_tables.specs.Stands.{Stands, StandsFor};
 ghost use Rattle.room_store_writes.specs.Houses.{house_of};
-ghost use Rattle.room_store_opening.specs.Opening.{HasHouse, HasRows, HoldsRoom};
+ghost use Rattle.room_store_opening.specs.Opening.{HasHouse, HasRows, HoldsRoom, ReadsNext};
 ghost use Rattle.room_store_opening.specs.declared.taking.TakeFault.TheVariants.{NotARoom};
 
 use crate::taking::TakeFault;
@@ -83,20 +83,23 @@ fn read_house<S: Alter>(alloc: Global, tx: &mut Transaction<'_, S>) -> Result<Ho
     let terminals = all_terminals(alloc, tx)?;
     let zone = zone(alloc, tx, VERSION)?;
     let areas = all_areas(alloc, tx)?;
-    match plan_of(alloc, areas, zone.as_str()) {
-        Ok(plan) => Ok(House { plan, terminals }),
-        Err(fault) => Err(fault),
-    }
+    planned_house(alloc, areas, zone, terminals)
 }
 
-// The plan of these areas and this zone; a file is no room where they make none.
-fn plan_of(alloc: Global, areas: Vec<Area>, zone: &str) -> Result<Plan, TakeFault>
-    ensures plan { IfOk result (λ plan. (plan.areas ≡ areas.items) × (plan.zone ≡ zone.now)) }
+// The terminals, and the plan of these areas and this zone; a file is no room where they make none.
+fn planned_house(
+    alloc: Global,
+    areas: Vec<Area>,
+    zone: String,
+    terminals: Vec<Terminal>,
+) -> Result<House, TakeFault>
+    ensures house { IfOk result (λ x. (x.plan.areas ≡ areas.items)
+        × (x.plan.zone ≡ string_bytes zone) × (x.terminals.items ≡ terminals.items)) }
     ensures no_plan { IfErr result (λ e. e ≡ NotARoom → (layout : Layout)
-        → layout.areas ≡ areas.items → layout.zone ≡ zone.now → ⊥) }
+        → layout.areas ≡ areas.items → layout.zone ≡ string_bytes zone → ⊥) }
 {
-    match Plan::new(alloc, areas, zone) {
-        Ok(plan) => Ok(plan),
+    match Plan::new(alloc, areas, zone.as_str()) {
+        Ok(plan) => Ok(House { plan, terminals }),
         Err(PlanFault::Memory) => Err(TakeFault::Memory),
         Err(_) => Err(TakeFault::NotARoom),
     }
@@ -110,46 +113,49 @@ fn read_rows<S: Alter>(alloc: Global, tx: &mut Transaction<'_, S>) -> Result<Div
     ensures reads { ReadsInside S.Store tx.old.conn.now tx.new.conn.now result }
     ensures same_reference { tx.new.conn.ghost_name ≡ tx.old.conn.ghost_name }
 {
-    let reports = all_rows::<Report, S>(alloc, tx)?;
-    let (divisions, vehicles, assignments) = three_tables::<Division, Vehicle, Assignment, S>(
-        alloc, tx,
-    )?;
-    let (points, loans, offers) = three_tables::<Point, Loan, Offer, S>(alloc, tx)?;
-    let (incidents, calls, turns) = three_tables::<Incident, Call, Turn, S>(alloc, tx)?;
-    Ok(DivisionRows {
-        divisions,
-        incidents,
-        calls,
-        vehicles,
-        turns,
-        assignments,
-        points,
-        loans,
-        offers,
-        reports,
-    })
+    let mut done = Ok(());
+    // The longest table is read first: a query's rows stay in memory beside what was read before.
+    let rows = DivisionRows {
+        reports: next_rows::<Report, S>(alloc, tx, &mut done),
+        divisions: next_rows::<Division, S>(alloc, tx, &mut done),
+        incidents: next_rows::<Incident, S>(alloc, tx, &mut done),
+        calls: next_rows::<Call, S>(alloc, tx, &mut done),
+        vehicles: next_rows::<Vehicle, S>(alloc, tx, &mut done),
+        turns: next_rows::<Turn, S>(alloc, tx, &mut done),
+        assignments: next_rows::<Assignment, S>(alloc, tx, &mut done),
+        points: next_rows::<Point, S>(alloc, tx, &mut done),
+        loans: next_rows::<Loan, S>(alloc, tx, &mut done),
+        offers: next_rows::<Offer, S>(alloc, tx, &mut done),
+    };
+    match done {
+        Ok(()) => Ok(rows),
+        Err(fault) => {
+            drop(rows);
+            Err(fault)
+        }
+    }
 }
 
-// The rows of three tables.
-fn three_tables<A: Table, B: Table, C: Table, S: Alter>(
+// The rows of a table, read if all reads before it went well. So a fault is looked at once.
+fn next_rows<X: Table, S: Alter>(
     alloc: Global,
     tx: &mut Transaction<'_, S>,
-) -> Result<(Rows<A>, Rows<B>, Rows<C>), Fault>
-    requires room { HasRoomSchema S.Store tx.old.conn.now }
-    ensures first { HasCleanDisk (state S.Store tx.new.conn.now)
-        → IfOk result (λ x. AreNumbered ((state S.Store tx.old.conn.now).now.trees A.table.tree)
-        → StandsFor (state S.Store tx.old.conn.now).now.trees A.table A.cells x.0) }
-    ensures second { HasCleanDisk (state S.Store tx.new.conn.now)
-        → IfOk result (λ x. AreNumbered ((state S.Store tx.old.conn.now).now.trees B.table.tree)
-        → StandsFor (state S.Store tx.old.conn.now).now.trees B.table B.cells x.1) }
-    ensures third { HasCleanDisk (state S.Store tx.new.conn.now)
-        → IfOk result (λ x. AreNumbered ((state S.Store tx.old.conn.now).now.trees C.table.tree)
-        → StandsFor (state S.Store tx.old.conn.now).now.trees C.table C.cells x.2) }
-    ensures reads { ReadsInside S.Store tx.old.conn.now tx.new.conn.now result }
+    done: &mut Result<(), Fault>,
+) -> Rows<X>
+    requires room { OnOk done.old (HasRoomSchema S.Store tx.old.conn.now) }
+    ensures room { OnOk done.new (HasRoomSchema S.Store tx.new.conn.now) }
+    ensures next { ReadsNext S.Store tx.old.conn.now tx.new.conn.now done.old done.new (λ trees.
+        AreNumbered (trees X.table.tree) → StandsFor trees X.table X.cells result) }
     ensures same_reference { tx.new.conn.ghost_name ≡ tx.old.conn.ghost_name }
 {
-    let first = all_rows::<A, S>(alloc, tx)?;
-    let second = all_rows::<B, S>(alloc, tx)?;
-    let third = all_rows::<C, S>(alloc, tx)?;
-    Ok((first, second, third))
+    match done {
+        Ok(()) => match all_rows::<X, S>(alloc, tx) {
+            Ok(rows) => rows,
+            Err(fault) => {
+                *done = Err(fault);
+                Rows::new(alloc)
+            }
+        },
+        Err(_) => Rows::new(alloc),
+    }
 }

@@ -3,6 +3,8 @@
 pub mod RoomReads
 -- reads in a transaction
 pub mod Inside
+-- a statement that makes a change
+pub mod Made
 -- a vehicle that gets another holder
 pub mod Settles
 -- calls in a loop that change nothing
@@ -11,5 +13,5 @@ pub mod Repeats
 pub mod Rowids
 -- what was shown and is not read
 pub mod Unread
--- a query whose rows are read
+-- want of memory, and a query whose rows are none of what is read
 pub mod Told

@@ -1,6 +1,6 @@
 -- A vehicle that is found and put again with another holder, available, is settled.
-use Rattle.std.proofs.Common.{◌≡◌, ℕ, true, Option, Some, None, ◌∙◌, sym, subst}
-use Rattle.sqlite.specs.State.{State, IsUnchanged}
+use Rattle.std.proofs.Common.{◌≡◌, ℕ, true, Option, Some, None, map, ◌∙◌, sym, subst}
+use Rattle.sqlite.specs.State.{State, IsUnchanged, Shown}
 use Rattle.sqlite_trees.specs.Tree.{Trees}
 use Rattle.room_types.specs.Keyed.{row_at}
 use Rattle.room_types.specs.Keys.{callsign_cmp, vehicle_key}
@@ -10,13 +10,23 @@ use Rattle.room_types.specs.declared.codes.Status.TheVariants.{Available}
 use Rattle.room_types.specs.declared.tables.Vehicle.{Vehicle}
 use Rattle.room_model.specs.Room.{Room, settled}
 use Rattle.room_tables_schema.specs.Schema.{room_schema}
+use Rattle.room_tables_rows.specs.Finds.{listed}
+use Rattle.room_tables_rows.specs.Keys.{text_cells}
 use Rattle.room_tables_rows.specs.Stands.{House, Stands}
+use Rattle.room_tables_rows.specs.Vehicles.{vehicle_row}
 use Rattle.room_tables_rows.specs.Writes.{Makes}
+use Rattle.room_tables_rows.specs.declared.vehicles.TheConstants.{VEHICLE_AT}
+use Rattle.room_tables_rows.proofs.Loads.{row_of_key}
+use Rattle.room_tables_rows.proofs.VehiclesTable.{vehicles_are}
 use Rattle.room_tables.proofs.RoomReads.{kept}
 
 -- this is the row of the callsign, of whatever room the tables stand for
 abbrev pub IsFound : Trees → Callsign → Option Vehicle → Type 0
 IsFound trees callsign found = (house : House) (room : Room) → Stands trees house room → found ≡ row_at callsign_cmp vehicle_key room.vehicles callsign
+
+-- what a selection by the callsign shows
+pub found_by : (old mid : State) (callsign : Callsign) (found : Option Vehicle) → old.now.schema ≡ room_schema → Shown VEHICLE_AT.now (text_cells callsign) old mid (map vehicle_row (listed found)) → IsFound old.now.trees callsign found
+found_by old mid callsign found has shown = row_of_key vehicles_are.is_held VEHICLE_AT.now (text_cells callsign) callsign (vehicles_are.selects_at callsign) old mid found has shown
 
 module _ (old mid : State) (callsign : Callsign) (division : ℕ) (same : IsUnchanged old mid) where
   pub settles_found : (vehicle : Vehicle) (new : State) → IsFound old.now.trees callsign (Some vehicle) → Makes mid new (PutVehicle (record vehicle { holder = division; status = Available })) → Makes old new (Settle callsign division)

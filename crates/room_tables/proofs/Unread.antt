@@ -1,7 +1,7 @@
--- What was shown and is not read: one of the rows is none of the table's, or they are out of order.
+-- What was shown and is read, or not: one of the rows is none of the table's, or they are out of order.
 use Rattle.std.proofs.Common.{◌≡◌, ◌+◌, ◌++◌, ◌<◌, ◌⊎◌, inl, inr, IsTrue, ℕ, zero, suc, List, [], ◌∷◌, map, take, drop, length, get_or, Bool, true, false, Some, refl, sym, ap, ◌∙◌, true≢false, Ordering, Less, is_lt, arith}
 use Rattle.std.specs.List.{slice_get}
-use Rattle.std.proofs.lemmas.List.{drop_more, length-take-le, map-append, take-append-drop}
+use Rattle.std.proofs.lemmas.List.{drop_more, length-take-le, map-append, take_more, take-append-drop}
 use Rattle.std.proofs.lemmas.Grind.{common_steps}
 use Rattle.sqlite_value.specs.Order.{Row}
 use Rattle.room_place.specs.declared.plans.Area.{Area}
@@ -14,6 +14,10 @@ module _ (shown : List Row) (i : ℕ) (r : Row) (within : i < length shown) (is 
   parts =
       let from : drop i shown ≡ r ∷ drop (i + 1) shown = drop_more shown i r within ∙ ap (λ x. x ∷ drop (i + 1) shown) (sym is) in
       ap (λ rows. take i shown ++ rows) (sym from) ∙ take-append-drop i shown
+
+  -- a row that is read is one more of those before it
+  pub read_more : {X : Type 0} (row : X → Row) (xs : List X) (x : X) → map row xs ≡ take i shown → row x ≡ r → map row (xs ++ x ∷ []) ≡ take (i + 1) shown
+  read_more row xs x before here = map-append row xs (x ∷ []) ∙ ap (λ rows. rows ++ row x ∷ []) before ∙ ap (λ cells. take i shown ++ cells ∷ []) (here ∙ is) ∙ sym (take_more shown i r within)
 
   -- a row that is none of the table's
   pub stranger_at : (is_row : Row → Bool) → is_row r ≡ false → HasStranger is_row shown

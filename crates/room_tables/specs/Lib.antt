@@ -5,6 +5,8 @@ pub mod Numbering
 pub mod Finding
 -- what a fault tells
 pub mod Failures
+-- a statement that ran
+pub mod Running
 pub use Rattle.room_tables_rows.specs.Stands
 pub use Rattle.room_tables_rows.specs.Tables
 pub use Rattle.room_tables_rows.specs.Versions

@@ -14,12 +14,12 @@ ghost use Rattle.room_tables_rows.specs.declared.areas.TheConstants.{ALL_AREAS, 
 ghost use Rattle.room_tables.specs.Failures.{AreNoPlan, IfStorage, TellsWhy, TellsWhyUnwritten};
 ghost use Rattle.room_tables.specs.Finding.{Finds};
 
+use crate::running::run;
 use room_place::plans::Area;
 use room_tables_rows::areas::{ALL_AREAS, PUT_AREA, area_columns};
 use room_tables_rows::columns::Stored;
 use room_tables_schema::faults::Fault;
 use room_tables_sql::reading::select_inside;
-use room_tables_sql::writing::write;
 use sqlite::{Alter, Row, Transaction};
 use std::alloc::Global;
 
@@ -71,6 +71,5 @@ pub fn put_area<S: Alter>(tx: &mut Transaction<'_, S>, at: u32, area: &Area) -> 
         (area_row (at, area.now)) }
     ensures same_reference { tx.new.conn.ghost_name ≡ tx.old.conn.ghost_name }
 {
-    write(tx, PUT_AREA, &area_columns(at, area))?;
-    Ok(())
+    run(tx, PUT_AREA, &area_columns(at, area))
 }

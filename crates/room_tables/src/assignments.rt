@@ -2,12 +2,12 @@
 
 ghost use Rattle.room_types.specs.declared.changes.Change.TheVariants as change;
 ghost use Rattle.room_tables_schema.specs.Schema.{assignments_table};
-ghost use Rattle.room_tables_rows.specs.declared.assignments.TheConstants.{ALL_ASSIGNMENTS, ASSIGNMENTS_OF, ASSIGNMENT_AT, DROP_ASSIGNMENT, PUT_ASSIGNMENT};
-ghost use Rattle.room_tables_rows.proofs.AssignmentsTable.{assignments_are, assignments_of_chooses, assignments_dropped};
+ghost use Rattle.room_tables_rows.specs.declared.assignments.TheConstants.{ALL_ASSIGNMENTS, ASSIGNMENTS_OF, ASSIGNMENT_AT, PUT_ASSIGNMENT};
+ghost use Rattle.room_tables_rows.proofs.AssignmentsTable.{assignments_are, assignments_of_chooses};
 
-use crate::tables::{Dropped, Owned, Statements, Table};
+use crate::tables::{Owned, Statements, Table};
 use room_tables_rows::assignments::{
-    ALL_ASSIGNMENTS, ASSIGNMENT_AT, ASSIGNMENTS_OF, DROP_ASSIGNMENT, PUT_ASSIGNMENT,
+    ALL_ASSIGNMENTS, ASSIGNMENT_AT, ASSIGNMENTS_OF, PUT_ASSIGNMENT,
 };
 use room_types::tables::Assignment;
 
@@ -42,17 +42,5 @@ impl Owned for Assignment {
 
     fn select_owned() -> &'static str {
         ASSIGNMENTS_OF
-    }
-}
-
-impl Dropped for Assignment {
-    ghost drop = { change.DropAssignment };
-
-    ghost drop_text = { DROP_ASSIGNMENT.now };
-
-    ghost is_dropped = { assignments_dropped };
-
-    fn drop_statement() -> &'static str {
-        DROP_ASSIGNMENT
     }
 }

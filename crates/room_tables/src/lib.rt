@@ -20,6 +20,7 @@ pub mod offers;
 pub mod points;
 mod reading;
 pub mod reports;
+mod running;
 pub mod tables;
 pub mod terminals;
 pub mod turns;

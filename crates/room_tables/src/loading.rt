@@ -12,7 +12,7 @@ ghost use Rattle.room_tables_rows.specs.Stands.{StandsFor};
 ghost use Rattle.room_tables.specs.Failures.{AreMoreThanOne, AreNoRows, TellsWhy};
 ghost use Rattle.room_tables.specs.Finding.{Finds};
 
-use crate::reading::{find, load, row_of, rows_of};
+use crate::reading::{find, load, rows_of};
 use crate::tables::{Owned, Table};
 use room_place::plans::DivisionNumber;
 use room_tables_rows::columns::Field;
@@ -55,23 +55,6 @@ pub fn row_at<X: Table, S: Alter>(
         (AreMoreThanOne X.is_row) }
 {
     find(conn, X::statements().at, X::key_columns(key).as_slice())
-}
-
-/// The row of a key inside a transaction; none where no row has it.
-pub(crate) fn row_at_inside<X: Table, S: Alter>(
-    tx: &mut Transaction<'_, S>,
-    key: &X::Key,
-) -> Result<Option<X>, Fault>
-    requires room { HasRoomSchema S.Store tx.old.conn.now }
-    ensures row { Finds S.Store tx.old.conn.now tx.new.conn.now result (λ room row.
-        row ≡ row_at X.Key.cmp X.key_of (X.rows room) key.now) }
-    ensures reads { ReadsInside S.Store tx.old.conn.now tx.new.conn.now result }
-    ensures why { TellsWhy S.Store tx.old.conn.now tx.new.conn.now result X.texts.at
-        (X.key_cells key.now) (AreMoreThanOne X.is_row) }
-    ensures same_reference { tx.new.conn.ghost_name ≡ tx.old.conn.ghost_name }
-{
-    let shown = select_inside(tx, X::statements().at, X::key_columns(key).as_slice())?;
-    row_of(shown.as_slice())
 }
 
 /// The rows that a division owns.

@@ -2,11 +2,11 @@
 
 ghost use Rattle.room_types.specs.declared.changes.Change.TheVariants as change;
 ghost use Rattle.room_tables_schema.specs.Schema.{loans_table};
-ghost use Rattle.room_tables_rows.specs.declared.loans.TheConstants.{ALL_LOANS, DROP_LOAN, LOANS_OF, LOAN_AT, PUT_LOAN};
-ghost use Rattle.room_tables_rows.proofs.LoansTable.{loans_are, loans_of_chooses, loans_dropped};
+ghost use Rattle.room_tables_rows.specs.declared.loans.TheConstants.{ALL_LOANS, LOANS_OF, LOAN_AT, PUT_LOAN};
+ghost use Rattle.room_tables_rows.proofs.LoansTable.{loans_are, loans_of_chooses};
 
-use crate::tables::{Dropped, Owned, Statements, Table};
-use room_tables_rows::loans::{ALL_LOANS, DROP_LOAN, LOAN_AT, LOANS_OF, PUT_LOAN};
+use crate::tables::{Owned, Statements, Table};
+use room_tables_rows::loans::{ALL_LOANS, LOAN_AT, LOANS_OF, PUT_LOAN};
 use room_types::tables::Loan;
 
 impl Table for Loan {
@@ -36,17 +36,5 @@ impl Owned for Loan {
 
     fn select_owned() -> &'static str {
         LOANS_OF
-    }
-}
-
-impl Dropped for Loan {
-    ghost drop = { change.DropLoan };
-
-    ghost drop_text = { DROP_LOAN.now };
-
-    ghost is_dropped = { loans_dropped };
-
-    fn drop_statement() -> &'static str {
-        DROP_LOAN
     }
 }

@@ -15,12 +15,12 @@ ghost use Rattle.room_tables_rows.specs.Writes.{Changes, Renews};
 ghost use Rattle.room_tables_rows.specs.declared.meta.TheConstants.{ALL_META, PUT_META};
 ghost use Rattle.room_tables.specs.Failures.{AreNotJustOne, IfStorage, TellsWhy, TellsWhyUnwritten};
 
+use crate::running::run;
 use room_tables_rows::meta::{
     ALL_META, FIRST_VERSION, PUT_META, meta_columns, tells_version, zone_of,
 };
 use room_tables_schema::faults::Fault;
 use room_tables_sql::reading::{select, select_inside};
-use room_tables_sql::writing::write;
 use sqlite::{Alter, Connection, Row, Transaction};
 use std::alloc::Global;
 
@@ -102,8 +102,7 @@ pub fn put_meta<S: Alter>(tx: &mut Transaction<'_, S>, zone: &str) -> Result<(),
         (meta_row zone.now) }
     ensures same_reference { tx.new.conn.ghost_name ≡ tx.old.conn.ghost_name }
 {
-    write(tx, PUT_META, &meta_columns(zone))?;
-    Ok(())
+    run(tx, PUT_META, &meta_columns(zone))
 }
 
 /// Tells this version where the tables tell the first, with the zone that they told.

@@ -1,7 +1,7 @@
 //! Whether the tables of a file number their rows. Tables that this program made do; of a file from
 //! elsewhere no clause says so, and it is tested.
 
-ghost use Rattle.std.specs.Prelude.{◌≡◌, ◌↔◌, ℕ, false, map, IsTrue, IfOk, []};
+ghost use Rattle.std.specs.Prelude.{◌≡◌, ◌↔◌, ℕ, false, map, IsTrue, IfOk};
 ghost use Rattle.sqlite_trees.specs.Tree.{rowid};
 ghost use Rattle.sqlite.specs.Held.{state};
 ghost use Rattle.sqlite.specs.State.{HasCleanDisk};
@@ -10,7 +10,6 @@ ghost use Rattle.room_tables_sql.specs.Outcomes.{ReadsInside};
 ghost use Rattle.room_tables_schema.specs.Schema.{room_tables};
 ghost use Rattle.room_tables_schema.specs.Connections.{HasRoomSchema};
 ghost use Rattle.room_tables.specs.Numbering.{SelectsRowids, SelectEach, AreAllNumbered, integer_in};
-ghost use Rattle.room_tables.specs.Failures.{TellsWhy};
 
 use room_tables_schema::faults::Fault;
 use room_tables_sql::reading::select_inside;
@@ -73,7 +72,6 @@ fn is_numbered<S: Alter>(tx: &mut Transaction<'_, S>, text: &str) -> Result<bool
         → IfOk result (λ yes. (tree : ℕ) → SelectsRowids text.now tree
         → (IsTrue yes ↔ AreNumbered ((state S.Store tx.old.conn.now).now.trees tree))) }
     ensures reads { ReadsInside S.Store tx.old.conn.now tx.new.conn.now result }
-    ensures why { TellsWhy S.Store tx.old.conn.now tx.new.conn.now result text.now [] (λ _. ⊥) }
     ensures same_reference { tx.new.conn.ghost_name ≡ tx.old.conn.ghost_name }
 {
     let shown = select_inside(tx, text, &[])?;

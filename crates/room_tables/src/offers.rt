@@ -2,11 +2,11 @@
 
 ghost use Rattle.room_types.specs.declared.changes.Change.TheVariants as change;
 ghost use Rattle.room_tables_schema.specs.Schema.{offers_table};
-ghost use Rattle.room_tables_rows.specs.declared.offers.TheConstants.{ALL_OFFERS, DROP_OFFER, OFFERS_OF, OFFER_AT, PUT_OFFER};
-ghost use Rattle.room_tables_rows.proofs.OffersTable.{offers_are, offers_of_chooses, offers_dropped};
+ghost use Rattle.room_tables_rows.specs.declared.offers.TheConstants.{ALL_OFFERS, OFFERS_OF, OFFER_AT, PUT_OFFER};
+ghost use Rattle.room_tables_rows.proofs.OffersTable.{offers_are, offers_of_chooses};
 
-use crate::tables::{Dropped, Owned, Statements, Table};
-use room_tables_rows::offers::{ALL_OFFERS, DROP_OFFER, OFFER_AT, OFFERS_OF, PUT_OFFER};
+use crate::tables::{Owned, Statements, Table};
+use room_tables_rows::offers::{ALL_OFFERS, OFFER_AT, OFFERS_OF, PUT_OFFER};
 use room_types::tables::Offer;
 
 impl Table for Offer {
@@ -36,17 +36,5 @@ impl Owned for Offer {
 
     fn select_owned() -> &'static str {
         OFFERS_OF
-    }
-}
-
-impl Dropped for Offer {
-    ghost drop = { change.DropOffer };
-
-    ghost drop_text = { DROP_OFFER.now };
-
-    ghost is_dropped = { offers_dropped };
-
-    fn drop_statement() -> &'static str {
-        DROP_OFFER
     }
 }

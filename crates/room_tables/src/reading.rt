@@ -6,16 +6,16 @@ ghost use Rattle.sqlite.specs.Held.{state};
 ghost use Rattle.sqlite.specs.Listing.{understood};
 ghost use Rattle.sqlite.specs.State.{HasCleanDisk, Shown};
 ghost use Rattle.sqlite.specs.Values.{bound};
-ghost use Rattle.room_tables_sql.specs.Outcomes.{ReadsInside, ReadsOnly};
+ghost use Rattle.room_tables_sql.specs.Outcomes.{ReadsOnly};
 ghost use Rattle.room_types.specs.Keyed.{IsKeyed, put_row};
 ghost use Rattle.room_tables_rows.specs.Finds.{listed};
-ghost use Rattle.room_tables.specs.Failures.{AreMoreThanOne, AreNoRows, HasStranger, IfStorage, TellsWhy};
+ghost use Rattle.room_tables.specs.Failures.{AreMoreThanOne, AreNoRows, IfStorage, TellsWhy};
 
 use room_tables_rows::columns::Stored;
 use room_tables_schema::faults::Fault;
-use room_tables_sql::reading::{select, select_inside};
+use room_tables_sql::reading::select;
 use room_types::rows::{Row, Rows};
-use sqlite::{Alter, Connection, Transaction};
+use sqlite::{Alter, Connection};
 use sqlite_value::value::ValueRef;
 use std::alloc::Global;
 
@@ -39,28 +39,6 @@ pub(crate) fn load<X: Stored + Row, S: Alter>(
 {
     let shown = select(conn, text, params)?;
     rows_of(alloc, shown.as_slice())
-}
-
-/// The values that a selection shows inside a transaction, in its order. A row that is none of its
-/// table is `Storage`.
-pub(crate) fn list<X: Stored, S: Alter>(
-    alloc: Global,
-    tx: &mut Transaction<'_, S>,
-    text: &str,
-    params: &[ValueRef<'_>],
-) -> Result<Vec<X>, Fault>
-    requires { HasCleanDisk (state S.Store tx.old.conn.now)
-        → IsPlain (understood (state S.Store tx.old.conn.now).now.schema text.now) }
-    ensures shown { HasCleanDisk (state S.Store tx.new.conn.now)
-        → IfOk result (λ found. Shown text.now (bound params.now) (state S.Store tx.old.conn.now)
-        (state S.Store tx.new.conn.now) (map X.cells found.items)) }
-    ensures reads { ReadsInside S.Store tx.old.conn.now tx.new.conn.now result }
-    ensures why { TellsWhy S.Store tx.old.conn.now tx.new.conn.now result text.now
-        (bound params.now) (HasStranger X.is_row) }
-    ensures same_reference { tx.new.conn.ghost_name ≡ tx.old.conn.ghost_name }
-{
-    let shown = select_inside(tx, text, params)?;
-    list_of(alloc, shown.as_slice())
 }
 
 /// The row that a selection by a key shows; none where it shows none.
@@ -105,21 +83,6 @@ pub(crate) fn rows_of<X: Stored + Row>(
         };
     }
     Ok(rows)
-}
-
-// The values that stand in columns, in their order.
-fn list_of<X: Stored>(alloc: Global, shown: &[sqlite::Row]) -> Result<Vec<X>, Fault>
-    ensures shown { IfOk result (λ found. map X.cells found.items ≡ shown.now) }
-    ensures why { IfErr result (IfStorage (HasStranger X.is_row shown.now)) }
-{
-    let mut found = Vec::new(alloc);
-    for columns in shown {
-        let Some(value) = X::read(columns) else {
-            return Err(Fault::Storage);
-        };
-        found.push(value)?;
-    }
-    Ok(found)
 }
 
 // Whether the key of a row is above those of these.

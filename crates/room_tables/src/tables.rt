@@ -5,7 +5,7 @@ ghost use Rattle.sqlite_schema.specs.declared.schema.Table.{Table as SchemaTable
 ghost use Rattle.room_tables_sql.specs.Typed.{number};
 ghost use Rattle.room_types.specs.declared.changes.Change.{Change};
 ghost use Rattle.room_model.specs.Room.{Room};
-ghost use Rattle.room_tables_rows.specs.Tables.{IsDropped, IsTable, SelectsChosen, Texts};
+ghost use Rattle.room_tables_rows.specs.Tables.{IsTable, SelectsChosen, Texts};
 
 use room_tables_rows::rows::StoredRow;
 
@@ -56,19 +56,4 @@ pub trait Owned: Table {
 
     ghost selects_owned: { (d : ℕ)
         → SelectsChosen Self.table Self.cells owned_text (number d ∷ []) (Self.owned d) };
-}
-
-/// A table that rows are dropped from.
-pub trait Dropped: Table {
-    /// The change that a drop makes.
-    ghost drop: { Self.Key → Change };
-
-    ghost drop_text: { List ℕ };
-
-    /// Drops the row of a key.
-    fn drop_statement() -> &'static str
-        ensures { result.now ≡ drop_text };
-
-    ghost is_dropped: { IsDropped Self.Key.cmp Self.key_of Self.cells Self.key_cells Self.table
-        Self.rows drop drop_text };
 }

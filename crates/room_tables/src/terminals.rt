@@ -1,6 +1,6 @@
 //! Terminals in their table.
 
-ghost use Rattle.std.specs.Prelude.{◌≡◌, false, IsTrue, IfOk, OnOk, [], ◌∷◌, ◌↔◌};
+ghost use Rattle.std.specs.Prelude.{◌≡◌, false, map, IsTrue, IfOk, OnOk, IfErr, [], ◌∷◌, ◌↔◌};
 ghost use Rattle.sqlite_value.specs.declared.value.Value.TheVariants.{Text};
 ghost use Rattle.sqlite.specs.Held.{state};
 ghost use Rattle.sqlite.specs.State.{HasCleanDisk};
@@ -14,17 +14,18 @@ ghost use Rattle.room_tables_schema.specs.Connections.{HasRoomSchema, MayWrite};
 ghost use Rattle.room_tables_rows.specs.Stands.{StandsFor};
 ghost use Rattle.room_tables_rows.specs.Writes.{Changes};
 ghost use Rattle.room_tables_rows.specs.declared.terminals.TheConstants.{ALL_TERMINALS, PUT_TERMINAL, TERMINAL_AT};
-ghost use Rattle.room_tables.specs.Failures.{AreMoreThanOne, AreNoRows, TellsWhy, TellsWhyUnwritten};
+ghost use Rattle.room_tables.specs.Failures.{AreMoreThanOne, AreNoRows, IfStorage, TellsWhy, TellsWhyUnwritten};
 ghost use Rattle.room_tables.specs.Finding.{FindsInHouse};
 
-use crate::reading::{find, list};
-use room_tables_rows::columns::Field;
+use crate::reading::find;
+use crate::running::run;
+use room_tables_rows::columns::{Field, Stored};
 use room_tables_rows::terminals::{ALL_TERMINALS, PUT_TERMINAL, TERMINAL_AT, terminal_columns};
 use room_tables_schema::faults::Fault;
-use room_tables_sql::writing::write;
+use room_tables_sql::reading::select_inside;
 use room_types::fleet::Terminal;
 use room_types::token::Token;
-use sqlite::{Alter, Connection, Transaction};
+use sqlite::{Alter, Connection, Row, Transaction};
 use std::alloc::Global;
 
 /// All terminals, in the order of their tokens.
@@ -46,7 +47,24 @@ pub fn all_terminals<S: Alter>(
         (AreNoRows is_terminal_row token_cmp terminal_key terminal_row) }
     ensures same_reference { tx.new.conn.ghost_name ≡ tx.old.conn.ghost_name }
 {
-    let terminals = list(alloc, tx, ALL_TERMINALS, &[])?;
+    let shown = select_inside(tx, ALL_TERMINALS, &[])?;
+    terminals_in(alloc, shown.as_slice())
+}
+
+// The terminals of rows in the order of their tokens.
+fn terminals_in(alloc: Global, shown: &[Row]) -> Result<Vec<Terminal>, Fault>
+    ensures shown { IfOk result (λ terminals. map terminal_row terminals.items ≡ shown.now) }
+    ensures keyed { IfOk result (λ terminals. IsKeyed token_cmp terminal_key terminals.items) }
+    ensures why { IfErr result (IfStorage
+        (AreNoRows is_terminal_row token_cmp terminal_key terminal_row shown.now)) }
+{
+    let mut terminals = Vec::new(alloc);
+    for columns in shown {
+        let Some(terminal) = Terminal::read(columns) else {
+            return Err(Fault::Storage);
+        };
+        terminals.push(terminal)?;
+    }
     if are_in_order(terminals.as_slice()) {
         Ok(terminals)
     } else {
@@ -95,6 +113,5 @@ pub fn put_terminal<S: Alter>(tx: &mut Transaction<'_, S>, terminal: &Terminal) 
         (terminal_row terminal.now) }
     ensures same_reference { tx.new.conn.ghost_name ≡ tx.old.conn.ghost_name }
 {
-    write(tx, PUT_TERMINAL, &terminal_columns(terminal))?;
-    Ok(())
+    run(tx, PUT_TERMINAL, &terminal_columns(terminal))
 }

@@ -6,7 +6,7 @@ use Rattle.room_model.specs.Slices.{AreCrewRows}
 use Rattle.room_model.specs.Step.{crew_asks}
 use Rattle.room_core.specs.Deciding.{Decides}
 use Rattle.std.proofs.lemmas.Result.{IfOk-weaker}
-use Rattle.room_tables_sql.proofs.ReadLaws.{fails, looked, told, told_any, wants}
+use Rattle.room_tables_sql.proofs.ReadLaws.{fails, looked, told_any, wants}
 use Rattle.room_store.proofs.deciding.for_crew.Goals as goal
 
 pub returns-in-Some-build-clause-decided : goal.returns-in-Some-build-clause-decided

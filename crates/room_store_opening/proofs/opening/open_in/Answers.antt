@@ -4,10 +4,11 @@ use Rattle.sqlite.specs.Effect.{Database}
 use Rattle.sqlite.specs.Held.{state}
 use Rattle.sqlite.specs.State.{HasCleanDisk}
 use Rattle.sqlite.proofs.StateLemmas.{survives_then}
+use Rattle.room_tables_sql.proofs.ReadLaws.{any_err}
 use Rattle.room_tables_schema.specs.Versions.{HasTables}
 use Rattle.room_store_writes.proofs.CommitLaws.{on_ok, ok_then}
 use Rattle.room_store_opening.proofs.FileLaws.{left_left, left_then_opens, nothing_then}
-use Rattle.room_store_opening.proofs.TakeLaws.{both_errs}
+use Rattle.room_store_opening.proofs.TakeLaws.{any_fault, both_errs, none_found, none_ok, none_opened, survives_less}
 use Rattle.room_store_opening.specs.Opening.{HoldsRoom, IsOldRoom, MayBeIndexed}
 use Rattle.room_store_opening.proofs.opening.open_in.Goals as goal
 
@@ -62,3 +63,40 @@ returns-clause-survives g c =
     survives_then old mid (state g.S.Store c.open_tables.new.conn) _ _ (MayBeIndexed old.now) (λ _ db none. absurd none)
     (λ clean db left. let early : HasCleanDisk mid = omega (arith, c.open_tables.ensures.survives.clean) in subst (λ (was : Database). MayBeIndexed was db) (c.in_ok-is_room_of.ensures.ok early) left)
     c.is_room_of.ensures.nothing.survives c.open_tables.ensures.survives
+
+pub returns-in_err-is_room_of : goal.returns-in_err-is_room_of
+returns-in_err-is_room_of g c =
+    let old = state g.S.Store c.args.conn.now in
+    let failed = c.from_residual.ensures in
+    let looked = c.is_room_of.ensures.nothing in
+    record {
+      room = λ clean. none_found _ _ failed.0;
+      schema = λ clean. none_ok _ _ failed.0;
+      settled = λ clean. none_ok _ _ failed.0;
+      kept = λ clean. none_ok _ _ failed.0;
+      leaves = λ clean. any_err c.from_residual.result (looked.left clean);
+      not_old = λ clean. none_ok _ _ failed.0;
+      old_room = λ clean. IfErr-weaker c.from_residual.result _ _ (λ e other. (λ is. absurd (other.0 is), λ is. absurd (other.1 is))) (none_opened _ c.in_err-is_room_of.field-0.0 failed.1);
+      no_room = λ clean. IfErr-weaker c.from_residual.result _ _ (λ e other is. absurd (other.1 is)) (none_opened _ c.in_err-is_room_of.field-0.0 failed.1);
+      untouched = any_fault c.from_residual.result _ (λ e _. looked);
+      ended = c.is_room_of.ensures.ended;
+      survives = survives_less old (state g.S.Store c.is_room_of.new.conn) (λ _. ⊥) (MayBeIndexed old.now) (λ db none. absurd none) looked.survives;
+    }
+
+pub returns-then-branch : goal.returns-then-branch
+returns-then-branch g c =
+    let old = state g.S.Store c.args.conn.now in
+    let looked = c.is_room_of.ensures.nothing in
+    record {
+      room = λ clean. tt;
+      schema = λ clean. tt;
+      settled = λ clean. tt;
+      kept = λ clean. tt;
+      leaves = λ clean. looked.left clean;
+      not_old = λ clean. tt;
+      old_room = λ clean. (λ is. (c.in_ok-is_room_of.ensures.told clean).0 c.if-branch.true, λ is. cc);
+      no_room = λ clean is. cc;
+      untouched = λ is. looked;
+      ended = c.is_room_of.ensures.ended;
+      survives = survives_less old (state g.S.Store c.is_room_of.new.conn) (λ _. ⊥) (MayBeIndexed old.now) (λ db none. absurd none) looked.survives;
+    }

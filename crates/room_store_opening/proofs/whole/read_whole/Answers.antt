@@ -5,6 +5,7 @@ use Rattle.sqlite.specs.State.{HasCleanDisk}
 use Rattle.room_tables.specs.Numbering.{AreAllNumbered}
 use Rattle.room_tables.proofs.Inside.{inside_then}
 use Rattle.room_tables_sql.proofs.ReadLaws.{fails_inside, told_inside}
+use Rattle.room_store_opening.proofs.TakeLaws.{none_found, not_told}
 use Rattle.room_store_opening.specs.Opening.{HasHouse, HasRows}
 use Rattle.room_store_opening.proofs.whole.read_whole.Goals as goal
 
@@ -37,8 +38,13 @@ returns-clause-stands g c clean =
       offers = rows.offers;
     }
 
-pub returns-in_err-are_numbered-clause-reads : goal.returns-in_err-are_numbered-clause-reads
-returns-in_err-are_numbered-clause-reads g c = fails_inside c.from_residual.ensures.0 c.in_err-are_numbered.ensures.reads
+pub returns-in_err-are_numbered : goal.returns-in_err-are_numbered
+returns-in_err-are_numbered g c = record {
+  stands = λ clean. none_found _ _ c.from_residual.ensures.0;
+  no_room = λ clean. not_told _ c.in_err-are_numbered.field-0.0 _ c.from_residual.ensures.1;
+  reads = fails_inside c.from_residual.ensures.0 c.in_err-are_numbered.ensures.reads;
+  same_reference = c.are_numbered.ensures.same_reference;
+}
 
 pub returns-then-not-branch-clause-reads : goal.returns-then-not-branch-clause-reads
 returns-then-not-branch-clause-reads g c = told_inside _ c.in_ok-are_numbered.ensures.reads
@@ -46,12 +52,16 @@ returns-then-not-branch-clause-reads g c = told_inside _ c.in_ok-are_numbered.en
 pub returns-in_err-house-clause-reads : goal.returns-in_err-house-clause-reads
 returns-in_err-house-clause-reads g c = inside_then c.in_ok-are_numbered.ensures.reads _ (fails_inside c.from_residual-in_err-house.ensures.0 c.in_err-house.ensures.reads)
 
-pub returns-in_err-rows-clause-reads : goal.returns-in_err-rows-clause-reads
-returns-in_err-rows-clause-reads g c =
-    let two = inside_then c.in_ok-are_numbered.ensures.reads _ c.in_ok-house.ensures.reads in
-    inside_then two _ (fails_inside c.from_residual-in_err-rows.ensures.0 c.in_err-rows.ensures.reads)
+pub returns-in_err-rows : goal.returns-in_err-rows
+returns-in_err-rows g c =
+    let failed = c.from_residual-in_err-rows.ensures in
+    record {
+      stands = λ clean. none_found _ _ failed.0;
+      no_room = λ clean. not_told _ c.in_err-rows.field-0.0 _ failed.1;
+      reads = inside_then c.in_ok-are_numbered.ensures.reads _ (inside_then c.in_ok-house.ensures.reads _ (fails_inside failed.0 c.in_err-rows.ensures.reads));
+      same_reference = c.read_rows.ensures.same_reference ∙ c.read_house.ensures.same_reference ∙ c.are_numbered.ensures.same_reference;
+    }
 
 pub returns-clause-reads : goal.returns-clause-reads
 returns-clause-reads g c =
-    let two = inside_then c.in_ok-are_numbered.ensures.reads _ c.in_ok-house.ensures.reads in
-    told_inside _ (inside_then two _ c.in_ok-rows.ensures.reads)
+    inside_then c.in_ok-are_numbered.ensures.reads _ (inside_then c.in_ok-house.ensures.reads _ (told_inside _ c.in_ok-rows.ensures.reads))

@@ -1,7 +1,9 @@
-use Rattle.std.proofs.Common.{◌≡◌, ◌+◌, inl, inr, sym, arith}
+use Rattle.std.proofs.Common.{◌≡◌, ◌+◌, inl, inr, refl, sym, ◌∙◌, arith}
 use Rattle.std.proofs.lemmas.Grind.{common_steps}
+use Rattle.std.proofs.lemmas.List.{take_all}
 use Rattle.room_tables_rows.proofs.PlanLaws.{areas_more}
 use Rattle.room_tables_rows.specs.Areas.{is_area_row}
+use Rattle.room_tables.proofs.Told.{memory_fails}
 use Rattle.room_tables.proofs.Unread.{misnumbered_at, stranger_at}
 use Rattle.room_tables.proofs.areas.areas_in.Goals as goal
 
@@ -20,3 +22,12 @@ returns-in_default-clause-why c = inl (stranger_at c.args.shown.now c.loop-index
 pub returns-then-numbered-index-clause-why : goal.returns-then-numbered-index-clause-why
 returns-then-numbered-index-clause-why c =
     inr (misnumbered_at c.args.shown.now c.loop-index.index c.index-shown-index.result c.loop-index-test.true c.index-shown-index.is c.in-Some.numbered c.in-Some.ensures.row (λ same. omega (arith, same, c.if-numbered-index.true)))
+
+pub loop-index-init : goal.loop-index-init
+loop-index-init c = rw c.new-areas.ensures.items (record { count = refl; read = refl })
+
+pub returns-clause-areas : goal.returns-clause-areas
+returns-clause-areas c = c.loop-index.invariant.read ∙ take_all c.loop-index.index c.args.shown.now c.loop-index-test.false
+
+pub returns-in_err-push-clause-why : goal.returns-in_err-push-clause-why
+returns-in_err-push-clause-why c = memory_fails _ c.from_residual.result c.from_residual.ensures.1

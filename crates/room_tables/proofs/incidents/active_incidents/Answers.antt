@@ -3,10 +3,9 @@ use Rattle.room_tables_schema.specs.Schema.{room_schema}
 use Rattle.room_tables_rows.proofs.IncidentsTable.{active_incidents_are, active_incidents_means}
 use Rattle.room_tables_rows.specs.declared.incidents.TheConstants.{ACTIVE_INCIDENTS}
 use Rattle.sqlite.specs.Held.{state}
-use Rattle.sqlite.specs.State.{HasCleanDisk}
-use Rattle.std.proofs.Common.{arith}
 use Rattle.std.proofs.lemmas.Result.{IfOk-weaker}
 use Rattle.room_tables_sql.proofs.Refusals.{plain_here}
+use Rattle.room_tables.proofs.RoomReads.{was_clean}
 use Rattle.room_tables.proofs.incidents.active_incidents.Goals as goal
 
 pub load-requires : goal.load-requires
@@ -15,7 +14,7 @@ load-requires g c clean = plain_here room_schema _ ACTIVE_INCIDENTS.now (c.requi
 pub returns-clause-rows : goal.returns-clause-rows
 returns-clause-rows g c clean =
     let old = state g.S.Store c.args.conn.now in
-    let early : HasCleanDisk old = omega (arith, c.load.ensures.reads.survives.clean) in
+    let early = was_clean c.load.ensures.reads.survives clean in
     IfOk-weaker c.load.result _ _ (λ found shown. active_incidents_are c.args.division old (state g.S.Store c.load.new.conn) found (c.requires.room early) (rw (c.store.ensures, c.store-2.ensures, c.number-active.ensures) at shown)) (c.load.ensures.shown clean)
 
 pub returns-clause-why : goal.returns-clause-why

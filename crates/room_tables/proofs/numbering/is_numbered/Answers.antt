@@ -19,9 +19,6 @@ returns-clause-numbered g c clean tree selects =
     let rise = rw c.as_slice.ensures.value at c.rise.ensures in
     (λ yes. tells.0 (rise.0 yes), λ numbered. rise.1 (tells.1 numbered))
 
-pub returns-clause-why : goal.returns-clause-why
-returns-clause-why g c clean = tt
-
 pub returns-clause-reads : goal.returns-clause-reads
 returns-clause-reads g c = told_inside _ c.in_ok-shown.ensures.reads
 

@@ -1,35 +1,47 @@
-use Rattle.std.proofs.Common.{arith}
+-- What was shown are all terminals.
+use Rattle.std.proofs.Common.{[], subst, sym, ◌∙◌}
+use Rattle.std.proofs.lemmas.Result.{IfErr-weaker, IfOk-weaker}
 use Rattle.sqlite.specs.Held.{state}
-use Rattle.sqlite.specs.State.{HasCleanDisk}
+use Rattle.sqlite.specs.State.{Shown}
+use Rattle.sqlite_exec.proofs.LoopsLemmas.{ok_both}
 use Rattle.room_tables_sql.proofs.Refusals.{plain_here}
+use Rattle.room_model.specs.Enrol.{terminal_key, token_cmp}
 use Rattle.room_tables_schema.specs.Schema.{room_schema}
+use Rattle.room_tables_rows.specs.Terminals.{is_terminal_row, terminal_row}
 use Rattle.room_tables_rows.specs.declared.terminals.TheConstants.{ALL_TERMINALS}
 use Rattle.room_tables_rows.proofs.TerminalsTable.{all_terminals_means, all_terminals_are}
 use Rattle.room_tables_sql.proofs.ReadLaws.{fails_inside, told_inside}
+use Rattle.room_tables.specs.Failures.{AreNoRows}
+use Rattle.room_tables.proofs.Told.{shown_fails}
+use Rattle.room_tables.proofs.RoomReads.{was_clean}
 use Rattle.room_tables.proofs.terminals.all_terminals.Goals as goal
 
-pub list-requires : goal.list-requires
-list-requires g c clean = plain_here room_schema _ ALL_TERMINALS.now (c.requires.room clean) all_terminals_means.plain
+pub select_inside-requires : goal.select_inside-requires
+select_inside-requires g c clean = plain_here room_schema _ ALL_TERMINALS.now (c.requires.room clean) all_terminals_means.plain
 
-pub returns-then-are_in_order-clause-terminals : goal.returns-then-are_in_order-clause-terminals
-returns-then-are_in_order-clause-terminals g c clean =
+pub returns-clause-terminals : goal.returns-clause-terminals
+returns-clause-terminals g c clean =
     let old = state g.S.Store c.args.tx.now.conn.now in
-    let early : HasCleanDisk old = omega (arith, c.list.ensures.reads.survives.clean) in
-    let keyed = rw c.as_slice.ensures.value at (c.are_in_order.ensures.0 c.if-are_in_order.true) in
-    (all_terminals_are old (state g.S.Store c.list.new.tx.conn.now) c.in_ok-terminals.terminals.items (c.requires.room early) (c.in_ok-terminals.ensures.shown clean) keyed).1
+    let new = state g.S.Store c.select_inside.new.tx.conn.now in
+    let early = was_clean c.select_inside.ensures.reads.survives clean in
+    IfOk-weaker c.terminals_in.result _ _ (λ terminals read. (all_terminals_are old new terminals.items (c.requires.room early)
+    (subst (Shown ALL_TERMINALS.now [] old new) (sym (read.0 ∙ c.as_slice.ensures.value)) (c.in_ok-shown.ensures.shown clean)) read.1).1) (ok_both c.terminals_in.result _ _ c.terminals_in.ensures.shown c.terminals_in.ensures.keyed)
 
-pub returns-then-are_in_order-clause-found : goal.returns-then-are_in_order-clause-found
-returns-then-are_in_order-clause-found g c clean =
+pub returns-clause-found : goal.returns-clause-found
+returns-clause-found g c clean =
     let old = state g.S.Store c.args.tx.now.conn.now in
-    let early : HasCleanDisk old = omega (arith, c.list.ensures.reads.survives.clean) in
-    let keyed = rw c.as_slice.ensures.value at (c.are_in_order.ensures.0 c.if-are_in_order.true) in
-    (all_terminals_are old (state g.S.Store c.list.new.tx.conn.now) c.in_ok-terminals.terminals.items (c.requires.room early) (c.in_ok-terminals.ensures.shown clean) keyed).0
+    let new = state g.S.Store c.select_inside.new.tx.conn.now in
+    let early = was_clean c.select_inside.ensures.reads.survives clean in
+    IfOk-weaker c.terminals_in.result _ _ (λ terminals read. (all_terminals_are old new terminals.items (c.requires.room early)
+    (subst (Shown ALL_TERMINALS.now [] old new) (sym (read.0 ∙ c.as_slice.ensures.value)) (c.in_ok-shown.ensures.shown clean)) read.1).0) (ok_both c.terminals_in.result _ _ c.terminals_in.ensures.shown c.terminals_in.ensures.keyed)
 
-pub returns-in_err-terminals-clause-reads : goal.returns-in_err-terminals-clause-reads
-returns-in_err-terminals-clause-reads g c = fails_inside c.from_residual.ensures.0 c.in_err-terminals.ensures.reads
+pub returns-clause-why : goal.returns-clause-why
+returns-clause-why g c clean =
+    IfErr-weaker c.terminals_in.result _ _ (shown_fails ALL_TERMINALS.now [] (state g.S.Store c.args.tx.now.conn.now) (state g.S.Store c.select_inside.new.tx.conn.now) (AreNoRows is_terminal_row token_cmp terminal_key terminal_row) c.in_ok-shown.shown.items (c.in_ok-shown.ensures.shown clean))
+    (rw c.as_slice.ensures.value at c.terminals_in.ensures.why)
 
-pub returns-then-are_in_order-clause-reads : goal.returns-then-are_in_order-clause-reads
-returns-then-are_in_order-clause-reads g c = told_inside _ c.in_ok-terminals.ensures.reads
+pub returns-clause-reads : goal.returns-clause-reads
+returns-clause-reads g c = told_inside c.terminals_in.result c.in_ok-shown.ensures.reads
 
-pub returns-else-are_in_order-clause-reads : goal.returns-else-are_in_order-clause-reads
-returns-else-are_in_order-clause-reads g c = told_inside _ c.in_ok-terminals.ensures.reads
+pub returns-in_err-shown-clause-reads : goal.returns-in_err-shown-clause-reads
+returns-in_err-shown-clause-reads g c = fails_inside c.from_residual.ensures.0 c.in_err-shown.ensures.reads

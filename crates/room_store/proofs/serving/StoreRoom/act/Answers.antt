@@ -1,6 +1,11 @@
-use Rattle.room_store.proofs.StoreLaws.{acted_left, kept_settled}
+use Rattle.std.proofs.lemmas.Result.{on_err_weaker}
+use Rattle.room_store.proofs.StoreLaws.{acted_left, kept_settled, room_left}
 use Rattle.room_tables_sql.proofs.ReadLaws.{any_err}
 use Rattle.room_store.proofs.serving.StoreRoom.act.Goals as goal
+
+pub returns-clause-same : goal.returns-clause-same
+returns-clause-same g c clean =
+    on_err_weaker c.act.result (λ left terminals room is. room_left g.S.Store c.args.self.now c.act.new.self terminals room left c.act.ensures.plan is) (c.act.ensures.err clean)
 
 pub returns-clause-kept : goal.returns-clause-kept
 returns-clause-kept g c clean = kept_settled g.S.Store c.act.new.self c.act.result (c.act.ensures.settled clean) (c.act.ensures.alone clean)

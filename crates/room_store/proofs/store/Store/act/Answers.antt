@@ -1,7 +1,9 @@
 use Rattle.std.proofs.Common.{refl}
-use Rattle.sqlite.proofs.StateLemmas.{survives_weaker}
+use Rattle.sqlite.specs.Held.{state}
 use Rattle.room_store_writes.specs.Houses.{house_of}
-use Rattle.room_store.proofs.StoreLaws.{for_room, room_moved}
+use Rattle.room_store.proofs.StoreLaws.{event_survives, for_room, ready_sound, ready_tested, room_moved, settled_kept}
+use Rattle.room_store.proofs.LookLaws.{left_same}
+use Rattle.room_store_writes.proofs.CommitLaws.{unchanged_survives}
 use Rattle.room_store.proofs.store.Store.act.Goals as goal
 
 pub returns-in-Ok-clause-bytes : goal.returns-in-Ok-clause-bytes
@@ -14,12 +16,30 @@ returns-in-Ok-clause-ok g c clean terminals room is addressed =
     room_moved g.S.Store c.args.self.now (record c.args.self.now { conn = c.act_on.new.conn }) c.args.event.now terminals room is addressed c.know_number.ensures refl (c.in-Ok.ensures.ok clean)
 
 pub returns-in-Ok-clause-survives : goal.returns-in-Ok-clause-survives
-returns-in-Ok-clause-survives g c =
-    let old = c.args.self.now in
-    survives_weaker _ _ _ _ (λ _ db left is_open terminals room is addressed. left (house_of old.plan terminals) room (for_room g.S.Store old old c.args.event.now terminals room is addressed is_open)) c.act_on.ensures.survives
+returns-in-Ok-clause-survives g c = event_survives g.S.Store c.args.self.now (state g.S.Store c.act_on.new.conn) c.args.event.now c.act_on.ensures.survives
 
 pub returns-in-Err-clause-survives : goal.returns-in-Err-clause-survives
 returns-in-Err-clause-survives g c =
-    let old = c.args.self.now in
-    rw c.test_file.ensures.conn
-    (survives_weaker _ _ _ _ (λ _ db left is_open terminals room is addressed. left (house_of old.plan terminals) room (for_room g.S.Store old old c.args.event.now terminals room is addressed is_open)) c.act_on.ensures.survives)
+    rw c.test_file.ensures.conn (event_survives g.S.Store c.args.self.now (state g.S.Store c.act_on.new.conn) c.args.event.now c.act_on.ensures.survives)
+
+pub returns-then-not-self-clause-err : goal.returns-then-not-self-clause-err
+returns-then-not-self-clause-err g c clean = left_same _
+
+pub returns-then-not-self-clause-survives : goal.returns-then-not-self-clause-survives
+returns-then-not-self-clause-survives g c = unchanged_survives g.S.Store c.args.self.now.conn _
+
+pub returns-in-Ok-clause-ready : goal.returns-in-Ok-clause-ready
+returns-in-Ok-clause-ready g c = ready_sound g.S.Store (record c.args.self.now { conn = c.act_on.new.conn }) c.act_on.ensures.ended c.if-not-self.false (λ clean. (c.in-Ok.ensures.ok clean).schema)
+
+pub returns-in-Ok-clause-settled : goal.returns-in-Ok-clause-settled
+returns-in-Ok-clause-settled g c clean = (c.in-Ok.ensures.ok clean).settled
+
+pub returns-in-Ok-clause-alone : goal.returns-in-Ok-clause-alone
+returns-in-Ok-clause-alone g c clean =
+    (settled_kept g.S.Store (record c.args.self.now { conn = c.act_on.new.conn }) (g.met.S.Store.settled c.act_on.new.conn.store) (c.in-Ok.ensures.ok clean).settled).alone
+
+pub returns-in-Err-clause-ready : goal.returns-in-Err-clause-ready
+returns-in-Err-clause-ready g c = ready_tested g.S.Store c.test_file.new.self (rw c.test_file.ensures.conn c.act_on.ensures.ended) c.test_file.ensures.sound
+
+pub returns-in-Err-clause-err : goal.returns-in-Err-clause-err
+returns-in-Err-clause-err g c clean = rw c.test_file.ensures.conn (c.in-Err.ensures.err (rw c.test_file.ensures.conn at clean))

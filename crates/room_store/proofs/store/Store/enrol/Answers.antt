@@ -1,7 +1,10 @@
 use Rattle.std.proofs.Common.{refl}
-use Rattle.sqlite.proofs.StateLemmas.{survives_weaker}
+use Rattle.sqlite.specs.Held.{state}
 use Rattle.room_store_writes.specs.Houses.{house_of}
-use Rattle.room_store.proofs.EnrolledLaws.{in_plan, room_after_row}
+use Rattle.room_store.proofs.EnrolledLaws.{in_plan, room_after_row, store_survives}
+use Rattle.room_store.proofs.LookLaws.{left_same}
+use Rattle.room_store.proofs.StoreLaws.{ready_sound, ready_tested, settled_kept}
+use Rattle.room_store_writes.proofs.CommitLaws.{unchanged_survives}
 use Rattle.room_store.proofs.store.Store.enrol.Goals as goal
 
 pub returns-in-Ok-clause-fate : goal.returns-in-Ok-clause-fate
@@ -14,12 +17,30 @@ returns-in-Ok-clause-ok g c clean terminals room is =
     room_after_row g.S.Store c.args.self.now (record c.args.self.now { conn = c.add_fate.new.conn }) c.args.row.now terminals room is refl (c.in-Ok.ensures.ok clean)
 
 pub returns-in-Ok-clause-survives : goal.returns-in-Ok-clause-survives
-returns-in-Ok-clause-survives g c =
-    let old = c.args.self.now in
-    survives_weaker _ _ _ _ (λ _ db left is_open terminals room is. left (house_of old.plan terminals) room (in_plan g.S.Store old old c.args.row.now terminals room is is_open)) c.add_fate.ensures.survives
+returns-in-Ok-clause-survives g c = store_survives g.S.Store c.args.self.now (state g.S.Store c.add_fate.new.conn) c.args.row.now c.add_fate.ensures.survives
 
 pub returns-in-Err-clause-survives : goal.returns-in-Err-clause-survives
 returns-in-Err-clause-survives g c =
-    let old = c.args.self.now in
-    rw c.test_file.ensures.conn
-    (survives_weaker _ _ _ _ (λ _ db left is_open terminals room is. left (house_of old.plan terminals) room (in_plan g.S.Store old old c.args.row.now terminals room is is_open)) c.add_fate.ensures.survives)
+    rw c.test_file.ensures.conn (store_survives g.S.Store c.args.self.now (state g.S.Store c.add_fate.new.conn) c.args.row.now c.add_fate.ensures.survives)
+
+pub returns-then-not-self-clause-err : goal.returns-then-not-self-clause-err
+returns-then-not-self-clause-err g c clean = left_same _
+
+pub returns-then-not-self-clause-survives : goal.returns-then-not-self-clause-survives
+returns-then-not-self-clause-survives g c = unchanged_survives g.S.Store c.args.self.now.conn _
+
+pub returns-in-Ok-clause-ready : goal.returns-in-Ok-clause-ready
+returns-in-Ok-clause-ready g c = ready_sound g.S.Store (record c.args.self.now { conn = c.add_fate.new.conn }) c.add_fate.ensures.ended c.if-not-self.false (λ clean. (c.in-Ok.ensures.ok clean).schema)
+
+pub returns-in-Ok-clause-settled : goal.returns-in-Ok-clause-settled
+returns-in-Ok-clause-settled g c clean = (c.in-Ok.ensures.ok clean).settled
+
+pub returns-in-Ok-clause-alone : goal.returns-in-Ok-clause-alone
+returns-in-Ok-clause-alone g c clean =
+    (settled_kept g.S.Store (record c.args.self.now { conn = c.add_fate.new.conn }) (g.met.S.Store.settled c.add_fate.new.conn.store) (c.in-Ok.ensures.ok clean).settled).alone
+
+pub returns-in-Err-clause-ready : goal.returns-in-Err-clause-ready
+returns-in-Err-clause-ready g c = ready_tested g.S.Store c.test_file.new.self (rw c.test_file.ensures.conn c.add_fate.ensures.ended) c.test_file.ensures.sound
+
+pub returns-in-Err-clause-err : goal.returns-in-Err-clause-err
+returns-in-Err-clause-err g c clean = rw c.test_file.ensures.conn (c.in-Err.ensures.err (rw c.test_file.ensures.conn at clean))

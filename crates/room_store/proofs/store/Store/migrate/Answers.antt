@@ -1,7 +1,6 @@
-use Rattle.std.proofs.Common.{true}
-use Rattle.sqlite.specs.Held.{state}
+use Rattle.std.proofs.Common.{refl, true}
 use Rattle.room_store_writes.specs.Houses.{house_of}
-use Rattle.room_store.proofs.StoreLaws.{settled_kept}
+use Rattle.room_store.proofs.StoreLaws.{ready_sound, settled_kept}
 use Rattle.room_store.proofs.store.Store.migrate.Goals as goal
 
 pub returns-in-Ok-clause-room : goal.returns-in-Ok-clause-room
@@ -18,3 +17,13 @@ returns-in-Ok-clause-moved g c clean = (c.in-Ok.ensures.moves clean).moved
 
 pub returns-in-Ok-clause-kept : goal.returns-in-Ok-clause-kept
 returns-in-Ok-clause-kept g c clean = settled_kept g.S.Store (record { conn = c.migrate_in.new.conn; plan = c.in-Ok.plan; is_sound = true }) (g.met.S.Store.settled c.migrate_in.new.conn.store) (c.in-Ok.ensures.moves clean).settled
+
+pub returns-in-Ok-clause-ready : goal.returns-in-Ok-clause-ready
+returns-in-Ok-clause-ready g c =
+    ready_sound g.S.Store (record { conn = c.migrate_in.new.conn; plan = c.in-Ok.plan; is_sound = true }) c.migrate_in.ensures.ended refl (λ clean. (c.in-Ok.ensures.moves clean).schema)
+
+pub returns-in-Ok-clause-survives : goal.returns-in-Ok-clause-survives
+returns-in-Ok-clause-survives g c = c.migrate_in.ensures.survives
+
+pub returns-in-Err-clause-survives_fault : goal.returns-in-Err-clause-survives_fault
+returns-in-Err-clause-survives_fault g c = c.migrate_in.ensures.survives

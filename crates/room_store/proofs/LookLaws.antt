@@ -1,0 +1,64 @@
+-- Reads of a connection that is in no transaction: what they leave, and what may follow them.
+use Rattle.std.proofs.Common.{Bool, IsTrue, ap, arith, false, inl, inr, not, refl, sym, ◌∙◌, ◌≡◌}
+use Rattle.std.specs.Prelude.{◌⊎◌}
+use Rattle.sqlite.specs.Effect.{Database}
+use Rattle.sqlite.specs.Held.{Held, state}
+use Rattle.sqlite.specs.State.{HasCleanDisk, IsUnchanged, State, Survives}
+use Rattle.sqlite.proofs.StateLemmas.{survives_weaker}
+use Rattle.sqlite_trees.specs.Tree.{Trees}
+use Rattle.sqlite_trees.specs.declared.store.Store.{Ghosts}
+use Rattle.room_tables_schema.specs.Connections.{HasRoomSchema}
+use Rattle.room_tables_sql.specs.Outcomes.{Keeps}
+use Rattle.room_store_writes.specs.Writing.{IsSettled, Leaves}
+
+-- outside a transaction the tables are as they were committed
+abbrev pub IsAsCommitted : State → Type 0
+IsAsCommitted at = IsTrue at.is_open → at.now ≡ at.committed
+
+-- which a connection tells that says that it is in none
+pub outside : {P : Type 0} (told mode : Bool) → mode ≡ false → told ≡ not mode → (IsTrue told → P) → P
+outside told mode is says f = f (says ∙ ap not is)
+
+pub left_same : (at : State) → Leaves at at
+left_same at = record { was_open = λ is_open. is_open; now_is = λ _. refl; committed_is = λ _. refl }
+
+-- more is allowed to be left by a stop
+pub survives_more : (old new : State) (P : Trees → Type 0) → Survives old new (λ _. ⊥) → Survives old new P
+survives_more old new P none = survives_weaker old new (λ _. ⊥) P (λ _ db never. absurd never) none
+
+pub left_unchanged : (old new : State) → IsUnchanged old new → Leaves old new
+left_unchanged old new is = record { was_open = λ _. is.0.was_open; now_is = λ _. is.0.now_is; committed_is = λ _. is.0.committed_is }
+
+pub left_later : (old mid new : State) → IsUnchanged old mid → Leaves mid new → Leaves old new
+left_later old mid new is left = record {
+  was_open = λ _. is.0.was_open;
+  now_is = λ is_open. left.now_is is_open ∙ is.0.now_is;
+  committed_is = λ is_open. left.committed_is is_open ∙ is.0.committed_is;
+}
+
+-- a read that failed may have undone a transaction, and there was none
+pub left_failed : (old new : State) → IsAsCommitted old → Keeps old new → Leaves old new
+left_failed old new settled (inl is) = left_unchanged old new is
+left_failed old new settled (inr back) = record {
+  was_open = back.was_open;
+  now_is = λ is_open. (back.undone is_open).0 ∙ sym (settled (back.was_open is_open));
+  committed_is = λ is_open. (back.undone is_open).1;
+}
+
+module _ {S : Type 0} (g : Ghosts S) (old new : Held S) where
+  -- or nothing was read
+  pub left_unread : IsAsCommitted (state g old) → Keeps (state g old) (state g new) ⊎ (new ≡ old) → Leaves (state g old) (state g new)
+  left_unread settled (inl kept) = left_failed (state g old) (state g new) settled kept
+  left_unread settled (inr same) = rw same (left_same (state g old))
+
+  -- after reads it may be written
+  module _ (same : HasCleanDisk (state g new) → IsUnchanged (state g old) (state g new)) where
+    pub room_read : Survives (state g old) (state g new) (λ _. ⊥) → HasRoomSchema g old → HasRoomSchema g new
+    room_read survives is clean =
+        let early : HasCleanDisk (state g old) = omega (arith, survives.clean) in
+        ap (λ (db : Database). db.schema) (same clean).0.now_is ∙ is early
+
+    pub settled_read : IsAsCommitted (state g old) → HasCleanDisk (state g new) → IsSettled (state g new)
+    settled_read settled clean =
+        let is = (same clean).0 in
+        record { is_open = is.is_open; committed = is.committed_is ∙ sym (settled is.was_open) ∙ sym is.now_is }

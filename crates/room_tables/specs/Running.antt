@@ -1,0 +1,60 @@
+-- What a statement that ran makes of the room, and which one makes a change.
+use Rattle.std.specs.Prelude.{◌≡◌, ℕ, List, Ok}
+use Rattle.sqlite_value.specs.Order.{Row}
+use Rattle.sqlite.specs.State.{Executes, State}
+use Rattle.room_types.specs.declared.changes.Change.{Change}
+use Rattle.room_types.specs.declared.changes.Change.TheVariants as change
+use Rattle.room_tables_sql.specs.Outcomes.{Inside}
+use Rattle.room_tables_schema.specs.Schema.{room_schema}
+use Rattle.room_tables_rows.specs.Keys.{text_cells}
+use Rattle.room_tables_rows.specs.Divisions.{division_row}
+use Rattle.room_tables_rows.specs.Incidents.{incident_row}
+use Rattle.room_tables_rows.specs.Calls.{call_row}
+use Rattle.room_tables_rows.specs.Vehicles.{vehicle_row}
+use Rattle.room_tables_rows.specs.Turns.{turn_row}
+use Rattle.room_tables_rows.specs.Assignments.{assignment_row}
+use Rattle.room_tables_rows.specs.Points.{point_row}
+use Rattle.room_tables_rows.specs.Loans.{loan_row}
+use Rattle.room_tables_rows.specs.Offers.{offer_row}
+use Rattle.room_tables_rows.specs.Reports.{report_row}
+use Rattle.room_tables_rows.specs.declared.divisions.TheConstants.{PUT_DIVISION}
+use Rattle.room_tables_rows.specs.declared.incidents.TheConstants.{PUT_INCIDENT}
+use Rattle.room_tables_rows.specs.declared.calls.TheConstants.{PUT_CALL}
+use Rattle.room_tables_rows.specs.declared.vehicles.TheConstants.{PUT_VEHICLE}
+use Rattle.room_tables_rows.specs.declared.turns.TheConstants.{PUT_TURN}
+use Rattle.room_tables_rows.specs.declared.assignments.TheConstants.{DROP_ASSIGNMENT, PUT_ASSIGNMENT}
+use Rattle.room_tables_rows.specs.declared.points.TheConstants.{PUT_POINT}
+use Rattle.room_tables_rows.specs.declared.loans.TheConstants.{DROP_LOAN, PUT_LOAN}
+use Rattle.room_tables_rows.specs.declared.offers.TheConstants.{DROP_OFFER, PUT_OFFER}
+use Rattle.room_tables_rows.specs.declared.reports.TheConstants.{PUT_REPORT}
+use Rattle.room_tables.specs.declared.changing.Way.{Way}
+use Rattle.room_tables.specs.declared.changing.Way.TheVariants.{Statement, Settling}
+
+-- A statement ran on a room's tables, in a transaction that goes on.
+pub record Ran (text : List ℕ) (params : Row) (old new : State) : Type 0 where
+  pub room : old.now.schema ≡ room_schema
+  pub inside : Inside old new
+  pub count : ℕ
+  pub ran : Executes text params old new (Ok count)
+
+-- this text, with these values, makes the change
+abbrev pub IsStatement : List ℕ → Row → Change → Type 0
+IsStatement text params (change.PutDivision row) = (text ≡ PUT_DIVISION.now) × (params ≡ division_row row)
+IsStatement text params (change.PutIncident row) = (text ≡ PUT_INCIDENT.now) × (params ≡ incident_row row)
+IsStatement text params (change.PutCall row) = (text ≡ PUT_CALL.now) × (params ≡ call_row row)
+IsStatement text params (change.PutVehicle row) = (text ≡ PUT_VEHICLE.now) × (params ≡ vehicle_row row)
+IsStatement text params (change.PutTurn row) = (text ≡ PUT_TURN.now) × (params ≡ turn_row row)
+IsStatement text params (change.PutAssignment row) = (text ≡ PUT_ASSIGNMENT.now) × (params ≡ assignment_row row)
+IsStatement text params (change.PutPoint row) = (text ≡ PUT_POINT.now) × (params ≡ point_row row)
+IsStatement text params (change.PutLoan row) = (text ≡ PUT_LOAN.now) × (params ≡ loan_row row)
+IsStatement text params (change.PutOffer row) = (text ≡ PUT_OFFER.now) × (params ≡ offer_row row)
+IsStatement text params (change.PutReport row) = (text ≡ PUT_REPORT.now) × (params ≡ report_row row)
+IsStatement text params (change.DropAssignment key) = (text ≡ DROP_ASSIGNMENT.now) × (params ≡ text_cells key)
+IsStatement text params (change.DropLoan key) = (text ≡ DROP_LOAN.now) × (params ≡ text_cells key)
+IsStatement text params (change.DropOffer key) = (text ≡ DROP_OFFER.now) × (params ≡ text_cells key)
+IsStatement text params (change.Settle callsign division) = ⊥
+
+-- the change is made this way
+abbrev pub IsWay : Way → Change → Type 0
+IsWay (Statement text params) made = IsStatement text.now params made
+IsWay (Settling callsign division) made = made ≡ change.Settle callsign.now division
