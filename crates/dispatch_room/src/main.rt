@@ -4,7 +4,7 @@
 #![tactic(auto)]
 
 use dispatch_room_commands::commands::{USAGE, command};
-use dispatch_room_endings::endings::{Failure, tell};
+use dispatch_room_endings::endings::{Failure, end};
 use dispatch_room_example::streams::run;
 use std::process::ExitCode;
 use std::{env, io};
@@ -23,7 +23,7 @@ fn main(rt: HostRuntime) -> ExitCode {
             let _ = eprintln!(rt; "error: invalid UTF-8 was detected in one or more arguments");
             USAGE
         }
-        Err(_) => tell(&rt, Failure::Memory),
+        Err(_) => end(Err(Failure::Memory), &mut rt.stderr()),
     };
     ExitCode::from(status)
 }

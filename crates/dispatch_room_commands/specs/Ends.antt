@@ -10,7 +10,7 @@ use Rattle.dispatch_room_board.specs.declared.boards.Reached.TheVariants as reac
 use Rattle.sqlite.specs.declared.error.Error.{Error}
 use Rattle.sqlite.specs.declared.error.Error.TheVariants.{SqliteFailure}
 use Rattle.sqlite.specs.declared.error.ErrorCode.TheVariants.{OutOfMemory}
-use Rattle.dispatch_room_endings.specs.Endings.{refused, status_done, status_of}
+use Rattle.dispatch_room_endings.specs.Endings.{refused, status_after}
 use Rattle.dispatch_room_endings.specs.declared.endings.Done.{Done}
 use Rattle.dispatch_room_endings.specs.declared.endings.Done.TheVariants.{InPart, Whole}
 use Rattle.dispatch_room_endings.specs.declared.endings.Failure.{Failure}
@@ -18,11 +18,6 @@ use Rattle.dispatch_room_endings.specs.declared.endings.Failure.TheVariants.{Dif
 use Rattle.dispatch_room_replaying.specs.declared.faults.ReplayFault.{ReplayFault}
 use Rattle.dispatch_room_replaying.specs.declared.faults.ReplayFault.TheVariants as replay
 use Rattle.dispatch_room_replaying.specs.declared.faults.Stopped.{Stopped}
-
--- the exit status of a command by what it did
-abbrev pub status_after : Result Done Failure → ℕ
-status_after (Ok done) = status_done done
-status_after (Err fault) = status_of fault
 
 -- what the database's errors are: want of memory, and else a file that failed
 abbrev pub fault_of : Error → Failure

@@ -1,7 +1,7 @@
 //! The commands over a room's file: what they write, and the exit status.
 ghost use Rattle.std.specs.Prelude.{◌≡◌};
 ghost use Rattle.clap.specs.Words.{kind_of};
-ghost use Rattle.dispatch_room_commands.specs.Ends.{IsExit, IsHelpDone, IsWordsStatus, is_mistake, status_after};
+ghost use Rattle.dispatch_room_commands.specs.Ends.{IsExit, IsHelpDone, IsWordsStatus, is_mistake};
 
 use crate::boarding::board;
 use crate::checking::check;
@@ -14,7 +14,7 @@ use crate::serving::serve_file;
 use crate::timing::times;
 use clap::Error;
 use clap::error::ErrorKind;
-use dispatch_room_endings::endings::{Done, Failure};
+use dispatch_room_endings::endings::{Done, Failure, end};
 use dispatch_room_words::tasks::Task;
 use dispatch_room_words::words;
 use std::alloc::Global;
@@ -56,19 +56,6 @@ fn warn<E: Write>(rt: &HostRuntime, file: &str, err: &mut E) {
             "warning: others can read or write {file}, which holds the token of each terminal: \
              chmod 600 {file}*"
         );
-    }
-}
-
-// Tells why a command failed, and gives its exit status.
-fn end<E: Write>(done: Result<Done, Failure>, err: &mut E) -> u8
-    ensures { result ≡ status_after done }
-{
-    match done {
-        Ok(done) => done.status(),
-        Err(fault) => {
-            let _ = writeln!(err, "{fault}");
-            fault.status()
-        }
     }
 }
 

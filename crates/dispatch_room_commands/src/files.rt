@@ -91,7 +91,18 @@ fn on_disk<D: Disk + Drop, W: Work, O: Write>(
     requires { conn.in_transaction ≡ false }
     ensures { IfOk result (W.says work (O.contents out.old) (O.contents out.new)) }
 {
-    match work.run(alloc, conn, out) {
+    closed(work.run(alloc, conn, out))
+}
+
+// What was done in a file, once the file is closed with all that was committed in it.
+fn closed<D: Disk + Drop, T: Drop>(worked: Worked<T, FileStore<D>>) -> Result<T, Failure>
+    ensures room { OnOk result (IsOk worked) }
+    ensures done { IfOk worked (λ worked. IfOk result (λ done. worked.0 ≡ Ok done)) }
+    ensures fault { IfOk worked (λ worked. IfErr result (λ fault. (worked.0 ≡ Err fault)
+        ⊎ IsFileFault fault)) }
+    ensures none { IfErr worked (λ fault. result ≡ Err fault) }
+{
+    match worked {
         Ok((done, conn)) => match conn.close() {
             Ok(()) => done,
             Err(error) => Err(fault_of(error)),

@@ -1,5 +1,5 @@
 -- How a program ends.
-use Rattle.std.specs.Prelude.{ℕ}
+use Rattle.std.specs.Prelude.{ℕ, Result, Ok, Err}
 use Rattle.room_types.specs.declared.refusals.Refusal.{Refusal}
 use Rattle.room_types.specs.declared.refusals.Refusal.TheVariants as refusal
 use Rattle.dispatch_room_endings.specs.declared.endings.Done.{Done}
@@ -28,6 +28,11 @@ status_of Storage = 3
 status_of Network = 4
 status_of Memory = 5
 status_of Journal = 6
+
+-- the exit status of a program, by what it did
+abbrev pub status_after : Result Done Failure → ℕ
+status_after (Ok done) = status_done done
+status_after (Err fault) = status_of fault
 
 -- a store refuses for memory or for storage
 abbrev pub refused : Refusal → Failure

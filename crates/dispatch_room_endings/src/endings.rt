@@ -1,10 +1,11 @@
 //! How a program ends: how much it did, or why it fails, what it says of that, and its exit status.
 ghost use Rattle.std.specs.Prelude.{◌≡◌};
-ghost use Rattle.dispatch_room_endings.specs.Endings.{refused, status_of};
+ghost use Rattle.dispatch_room_endings.specs.Endings.{refused, status_after};
 ghost use Rattle.dispatch_room_endings.specs.declared.endings.Failure.TheVariants.{Memory};
 
 use room_types::refusals::Refusal;
 use std::alloc::AllocFailed;
+use std::io::Write;
 use thiserror::Error;
 
 /// How much of a command was done.
@@ -124,10 +125,15 @@ pub fn refused(refusal: Refusal) -> Failure
     }
 }
 
-/// Tells on standard error why the program fails, and gives its exit status.
-pub fn tell(rt: &HostRuntime, fault: Failure) -> u8
-    ensures { result ≡ status_of fault }
+/// Tells `err` why the program failed, where it did, and gives its exit status.
+pub fn end<E: Write>(done: Result<Done, Failure>, err: &mut E) -> u8
+    ensures { result ≡ status_after done }
 {
-    let _ = eprintln!(rt; "{fault}");
-    fault.status()
+    match done {
+        Ok(done) => done.status(),
+        Err(fault) => {
+            let _ = writeln!(err, "{fault}");
+            fault.status()
+        }
+    }
 }

@@ -1,9 +1,9 @@
 //! The dry run over the standard input and output of a program.
 ghost use Rattle.std.specs.Prelude.{◌≡◌};
-ghost use Rattle.dispatch_room_example.specs.Ends.{IsStatus, ended, status_after};
+ghost use Rattle.dispatch_room_example.specs.Ends.{IsStatus, ended};
 
 use crate::dry_run::dry_run;
-use dispatch_room_endings::endings::{Failure, refused, tell};
+use dispatch_room_endings::endings::{Done, Failure, end, refused};
 use room_http::serving::ServeEnd;
 use room_http_messages::wires::Wire;
 
@@ -11,21 +11,11 @@ use room_http_messages::wires::Wire;
 pub fn run(rt: &HostRuntime) -> u8
     ensures { IsStatus result }
 {
-    end(rt, over_streams(rt))
-}
-
-// Tells why it failed, and gives the exit status.
-fn end(rt: &HostRuntime, done: Result<(), Failure>) -> u8
-    ensures { result ≡ status_after done }
-{
-    match done {
-        Ok(()) => 0,
-        Err(fault) => tell(rt, fault),
-    }
+    end(over_streams(rt), &mut rt.stderr())
 }
 
 // The dry run, and why it fails.
-fn over_streams(rt: &HostRuntime) -> Result<(), Failure> {
+fn over_streams(rt: &HostRuntime) -> Result<Done, Failure> {
     let mut reader = Wire::new(rt.stdin());
     let mut writer = Wire::new(rt.stdout());
     match dry_run(rt.alloc(), &mut reader, &mut writer) {
@@ -35,11 +25,11 @@ fn over_streams(rt: &HostRuntime) -> Result<(), Failure> {
 }
 
 // What the end of serving one connection is to a program that served no more.
-fn ended(end: ServeEnd) -> Result<(), Failure>
+fn ended(end: ServeEnd) -> Result<Done, Failure>
     ensures { result ≡ ended end }
 {
     match end {
-        ServeEnd::Closed => Ok(()),
+        ServeEnd::Closed => Ok(Done::Whole),
         ServeEnd::Cut | ServeEnd::ClockFault | ServeEnd::ReadsSpent => Err(Failure::Connection),
         ServeEnd::ReadFault | ServeEnd::WriteFault => Err(Failure::Network),
         ServeEnd::Memory => Err(Failure::Memory),

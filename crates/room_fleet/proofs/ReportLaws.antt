@@ -1,8 +1,8 @@
 -- The reported rows are what the room decides of a report.
 use Rattle.std.proofs.Common.{Bool, None, Option, Some, eq-eqb, false, refl, true, ap, ◌∙◌, subst, sym, cond, ℕ, ◌≡◌}
 use Rattle.std.specs.Prelude.{is_none, is_some, IfSome, option_map, ◌&&◌, ◌==◌}
-use Rattle.room_types.proofs.EachRow.{row_key}
-use Rattle.room_types.specs.Keyed.{keep, row_at}
+use Rattle.room_types_keyed.proofs.EachRow.{row_key}
+use Rattle.room_types_keyed.specs.Keyed.{keep, row_at}
 use Rattle.room_types.specs.Keys.{callsign_cmp, loan_key, numbered_cmp, turn_key, vehicle_key}
 use Rattle.room_types.specs.Orders.{callsigns_total, exact_callsigns}
 use Rattle.room_types.specs.Texts.{Callsign}

@@ -7,8 +7,8 @@ use Rattle.std.specs.Prelude.{Bool, List, None, Option, Some, [], cond, false, n
 use Rattle.room_place.specs.Choice.{Among, least, least_from}
 use Rattle.room_place.specs.Places.{distance}
 use Rattle.room_place.specs.Plans.{division_of}
-use Rattle.room_types.proofs.KeyedLaws.{row_filter}
-use Rattle.room_types.specs.Keyed.{keep, row_at}
+use Rattle.room_types_keyed.proofs.KeyedLaws.{row_filter}
+use Rattle.room_types_keyed.specs.Keyed.{keep, row_at}
 use Rattle.room_types.specs.Keys.{call_key, division_key, owns_call, owns_division, pair_cmp}
 use Rattle.room_types.specs.Orders.{pairs_total}
 use Rattle.room_types.specs.declared.asks.Ask.{Ask}

@@ -3,7 +3,7 @@ use Rattle.std.proofs.Common.{ap, inl, inr, subst, sym, ◌∙◌}
 use Rattle.std.specs.Prelude.{Bool, List, None, Option, Some, [], cond, false, is_some, option_map, refl, true, ℕ, ◌&&◌, ◌==◌, ◌∷◌, ◌≡◌}
 use Rattle.room_place.specs.Plans.{has_division}
 use Rattle.room_types.specs.Codes.{same_kind}
-use Rattle.room_types.specs.Keyed.{row_at}
+use Rattle.room_types_keyed.specs.Keyed.{row_at}
 use Rattle.room_types.specs.Keys.{callsign_cmp, vehicle_key}
 use Rattle.room_types.specs.Orders.{exact_callsigns}
 use Rattle.room_types.specs.Texts.{Callsign, Token}

@@ -3,8 +3,8 @@ use Rattle.std.proofs.Common.{ap, subst, sym, ◌∙◌}
 use Rattle.std.proofs.lemmas.Cmp.{nat_cmp_total}
 use Rattle.std.specs.Ordering.{nat_cmp}
 use Rattle.std.specs.Prelude.{Bool, List, None, Option, Some, [], cond, false, filter, refl, true, ℕ, ◌++◌, ◌==◌, ◌∷◌, ◌≡◌}
-use Rattle.room_types.proofs.KeyedLaws.{drop_absent, filter_put}
-use Rattle.room_types.specs.Keyed.{row_at}
+use Rattle.room_types_keyed.proofs.KeyedLaws.{drop_absent, filter_put}
+use Rattle.room_types_keyed.specs.Keyed.{row_at}
 use Rattle.room_types.specs.Keys.{assignment_key, call_key, callsign_cmp, division_key, incident_key, loan_key, numbered_cmp, offer_key, owns_assignment, owns_call, owns_division, owns_incident, owns_loan, owns_offer, owns_point, owns_report, owns_turn, owns_vehicle, pair_cmp, point_key, report_key, turn_key, vehicle_key}
 use Rattle.room_types.specs.Orders.{callsigns_total, exact_callsigns, numbered_total, pairs_total}
 use Rattle.room_types.specs.declared.changes.Change.{Change}

@@ -3,7 +3,7 @@ use Rattle.std.proofs.Common.{ap, append_assoc, subst, sym, ◌∙◌}
 use Rattle.std.specs.Prelude.{Bool, Err, List, None, Option, Some, [], cond, false, filter, filter_map, is_ok, map, refl, true, ℕ, ◌&&◌, ◌++◌, ◌==◌, ◌∷◌, ◌≡◌, ◌↔◌}
 use Rattle.room_place.specs.Choice.{Among, chosen}
 use Rattle.room_types.specs.Codes.{is_mobilised, is_offered}
-use Rattle.room_types.specs.Keyed.{keep, row_at}
+use Rattle.room_types_keyed.specs.Keyed.{keep, row_at}
 use Rattle.room_types.specs.Keys.{callsign_cmp, offer_key, owns_offer, vehicle_key}
 use Rattle.room_types.specs.Orders.{callsigns_total}
 use Rattle.room_types.specs.Texts.{Callsign}

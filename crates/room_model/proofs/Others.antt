@@ -6,8 +6,8 @@ use Rattle.std.specs.Prelude.{Bool, List, None, Option, Some, [], cond, false, f
 use Rattle.std.specs.declared.cmp.Ordering.{Ordering}
 use Rattle.std.specs.declared.cmp.Ordering.TheVariants.{Equal, Greater, Less}
 use Rattle.room_place.specs.Choice.{Among}
-use Rattle.room_types.proofs.KeyedLaws.{below_from_less, row_below, row_filter}
-use Rattle.room_types.specs.Keyed.{IsKeyed, keep, put_row, row_at}
+use Rattle.room_types_keyed.proofs.KeyedLaws.{below_from_less, row_below, row_filter}
+use Rattle.room_types_keyed.specs.Keyed.{IsKeyed, keep, put_row, row_at}
 use Rattle.room_types.specs.Keys.{assignment_key, call_key, callsign_cmp, incident_key, numbered_cmp, owns_assignment, owns_call, owns_incident, owns_point, owns_report, owns_turn, owns_vehicle, pair_cmp, point_key, report_key, turn_key, vehicle_key}
 use Rattle.room_types.specs.Orders.{callsigns_total, exact_callsigns, exact_numbered, exact_pair, numbered_total, pairs_total}
 use Rattle.room_types.specs.declared.changes.Change.TheVariants.{PutCall, PutIncident, PutPoint, PutReport, PutTurn, PutVehicle}

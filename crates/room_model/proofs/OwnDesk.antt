@@ -6,8 +6,8 @@ use Rattle.std.specs.Ordering.{nat_cmp}
 use Rattle.std.specs.Prelude.{Bool, None, Option, Some, cond, false, filter, filter_map, length, nat_lt, refl, ℕ, ℤ, ◌&&◌, ◌++◌, ◌==◌, ◌≡◌}
 use Rattle.room_place.specs.Choice.{first, least}
 use Rattle.room_place.specs.declared.places.Place.{Place}
-use Rattle.room_types.proofs.KeyedLaws.{row_filter}
-use Rattle.room_types.specs.Keyed.{keep}
+use Rattle.room_types_keyed.proofs.KeyedLaws.{row_filter}
+use Rattle.room_types_keyed.specs.Keyed.{keep}
 use Rattle.room_types.specs.Keys.{division_key, incident_key, numbered_cmp, owns_call, owns_division, owns_incident, owns_loan, owns_offer, owns_point, owns_report, owns_turn, owns_vehicle, pair_cmp, report_key}
 use Rattle.room_types.specs.Orders.{exact_pair, numbered_total, pairs_total}
 use Rattle.room_types.specs.declared.answers.Entry.{Entry}

@@ -5,7 +5,7 @@ use Rattle.std.specs.Ordering.{is_eq, nat_cmp}
 use Rattle.std.specs.Prelude.{Bool, IfSome, List, None, Option, Some, cond, false, is_some, not, refl, true, ℕ, ◌+◌, ◌≡◌, ◌≢◌, ◌⊎◌}
 use Rattle.room_place.specs.Plans.{has_division}
 use Rattle.room_place.specs.declared.plans.Area.{Area}
-use Rattle.room_types.specs.Keyed.{row_at}
+use Rattle.room_types_keyed.specs.Keyed.{row_at}
 use Rattle.room_types.specs.Keys.{incident_key, pair_cmp}
 use Rattle.room_types.specs.Orders.{exact_number}
 use Rattle.room_types.specs.declared.codes.Status.{Status}

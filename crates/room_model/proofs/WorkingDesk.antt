@@ -5,9 +5,9 @@ use Rattle.std.proofs.lemmas.Cmp.{tied_itself}
 use Rattle.std.specs.Ordering.{is_eq}
 use Rattle.std.specs.Prelude.{Bool, None, Option, Some, cond, false, is_none, is_some, length, refl, true, ℕ, ◌&&◌, ◌==◌, ◌||◌, ◌≡◌, ◌≤◌}
 use Rattle.room_place.specs.Choice.{Among, first}
-use Rattle.room_types.proofs.KeyedLaws.{row_filter}
+use Rattle.room_types_keyed.proofs.KeyedLaws.{row_filter}
 use Rattle.room_types.specs.Codes.{is_active}
-use Rattle.room_types.specs.Keyed.{keep, row_at}
+use Rattle.room_types_keyed.specs.Keyed.{keep, row_at}
 use Rattle.room_types.specs.Keys.{assignment_key, callsign_cmp, incident_key, loan_key, numbered_cmp, offer_key, owns_assignment, owns_loan, owns_offer, owns_point, owns_vehicle, pair_cmp, point_key, report_key, same_callsign, turn_key, vehicle_key}
 use Rattle.room_types.specs.Orders.{callsigns_total, exact_callsigns, exact_pair, numbered_total, pairs_total}
 use Rattle.room_types.specs.Slices.{IsActive}

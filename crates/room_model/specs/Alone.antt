@@ -1,6 +1,6 @@
 -- A division's share, by what it is handed alone.
 use Rattle.std.specs.Prelude.{List, None, Option, Result, Some, [], true, ℕ, ◌++◌, ◌∷◌}
-use Rattle.room_types.specs.Keyed.{drop_row}
+use Rattle.room_types_keyed.specs.Keyed.{drop_row}
 use Rattle.room_types.specs.Keys.{callsign_cmp, vehicle_key}
 use Rattle.room_types.specs.declared.answers.Answer.{Answer}
 use Rattle.room_types.specs.declared.changes.Change.TheVariants.{DropLoan, DropOffer, PutLoan, PutOffer, PutVehicle}

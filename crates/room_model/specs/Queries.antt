@@ -5,7 +5,7 @@ use Rattle.std.specs.Prelude.{Bool, List, None, Option, Some, false, filter, int
 use Rattle.room_place.specs.Choice.{first, least}
 use Rattle.room_place.specs.Places.{distance}
 use Rattle.room_place.specs.declared.places.Place.{Place}
-use Rattle.room_types.specs.Keyed.{keep, row_at}
+use Rattle.room_types_keyed.specs.Keyed.{keep, row_at}
 use Rattle.room_types.specs.Keys.{assignment_key, call_key, callsign_cmp, division_key, incident_key, loan_key, numbered_cmp, offer_key, owns_loan, owns_offer, pair_cmp, point_key, report_key, same_callsign, vehicle_key}
 use Rattle.room_types.specs.declared.codes.Kind.{Kind}
 use Rattle.room_types.specs.declared.tables.Assignment.{Assignment}

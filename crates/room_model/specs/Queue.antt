@@ -1,7 +1,7 @@
 -- The queue of what needs an eye.
 use Rattle.std.specs.Prelude.{Bool, Err, List, None, Option, Some, [], cond, filter_map, is_none, length, nat_le, nat_lt, not, true, ℕ, ◌&&◌, ◌++◌, ◌==◌, ◌||◌, ◌∷◌}
 use Rattle.room_place.specs.Choice.{Among}
-use Rattle.room_types.specs.Keyed.{IsKeyed, put_row}
+use Rattle.room_types_keyed.specs.Keyed.{IsKeyed, put_row}
 use Rattle.room_types.specs.Keys.{entry_cmp, entry_key, owns_loan, owns_offer}
 use Rattle.room_types.specs.declared.answers.Entry.{Entry}
 use Rattle.room_types.specs.declared.changes.Change.TheVariants.{PutReport}

@@ -6,3 +6,5 @@ pub mod Keeping
 pub mod Creating
 -- what the enrolment of fleet rows makes of the tables, and of a store
 pub mod Enrolling
+-- what a fault is told as
+pub mod Faults

@@ -17,6 +17,7 @@ ghost use Rattle.room_store_writes.specs.Writing.{Commits, Leaves};
 ghost use Rattle.room_store.specs.Acting.{IsFor};
 
 use crate::deciding::decide;
+use crate::faults::refusal_of;
 use room_core::decisions::Decision;
 use room_place::plans::Plan;
 use room_store_writes::writing::write;
@@ -61,7 +62,7 @@ pub(crate) fn act_on<S: Alter, F: FnOnce(&Result<Answer, Refusal>) -> Result<Vec
     let _ = conn.is_autocommit();
     let decision = match decide(alloc, conn, plan, event) {
         Ok(decision) => decision,
-        Err(fault) => return Err(Refusal::from(fault)),
+        Err(fault) => return Err(refusal_of(fault)),
     };
     let (changes, answer) = parts(alloc, decision);
     let rendered = render(&answer);
@@ -74,7 +75,7 @@ pub(crate) fn act_on<S: Alter, F: FnOnce(&Result<Answer, Refusal>) -> Result<Vec
     drop(changes);
     match written {
         Ok(()) => Ok(bytes),
-        Err(fault) => Err(Refusal::from(fault)),
+        Err(fault) => Err(refusal_of(fault)),
     }
 }
 

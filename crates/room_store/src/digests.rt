@@ -9,6 +9,7 @@ ghost use Rattle.room_service.specs.Rooms.{IsWant};
 ghost use Rattle.room_store_digest.specs.Texts.{digest_text};
 ghost use Rattle.room_store.specs.Keeping.{IsKept, IsReady, IsRoom, LeavesOneOf};
 
+use crate::faults::refusal_of;
 use crate::store::Store;
 use room_service::digests::Digested;
 use room_store_digest::digests::digest_in;
@@ -53,7 +54,7 @@ pub fn digest_of_room<S: Alter>(store: &mut Store<S>) -> Result<[u8; 32], Refusa
         Ok(digest) => Ok(digest),
         Err(fault) => {
             store.test_file();
-            Err(Refusal::from(fault))
+            Err(refusal_of(fault))
         }
     }
 }

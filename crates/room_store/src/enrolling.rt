@@ -17,6 +17,7 @@ ghost use Rattle.room_store.specs.Enrolling.{HasEnrolled, MayBeEnrolled, StandsI
 ghost use Rattle.room_store.specs.Keeping.{IsReady, IsRoom};
 ghost use Rattle.room_store_writes.specs.Houses.{house_of};
 
+use crate::faults::refusal_of;
 use crate::store::Store;
 use room_place::plans::Plan;
 use room_store_writes::enrolling::write;
@@ -94,7 +95,7 @@ impl<S: Alter> Store<S> {
             Ok(()) => Ok(()),
             Err(fault) => {
                 self.test_file();
-                Err(Refusal::from(fault))
+                Err(refusal_of(fault))
             }
         }
     }

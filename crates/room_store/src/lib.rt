@@ -6,6 +6,7 @@ pub mod creating;
 mod deciding;
 pub mod digests;
 mod enrolling;
+mod faults;
 pub mod migrating;
 pub mod opening;
 mod serving;

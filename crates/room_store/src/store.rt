@@ -18,6 +18,7 @@ ghost use Rattle.room_store.specs.Keeping.{IsReady, IsRoom};
 ghost use Rattle.room_store_writes.specs.Houses.{house_of};
 
 use crate::acting::{act_on, know_number};
+use crate::faults::refusal_of;
 use room_place::plans::Plan;
 use room_tables::terminals::terminal_at;
 use room_tables_schema::testing::is_room;
@@ -96,7 +97,7 @@ impl<S: Alter> Store<S> {
             Ok(terminal) => Ok(who_of(terminal)),
             Err(fault) => {
                 self.test_file();
-                Err(Refusal::from(fault))
+                Err(refusal_of(fault))
             }
         }
     }

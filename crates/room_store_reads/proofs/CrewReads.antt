@@ -1,6 +1,6 @@
 -- The turn of a vehicle's last order.
 use Rattle.std.proofs.Common.{None, Option, Some, ap, arith, is_none, refl, sym, ℕ, ◌∙◌, ◌≡◌}
-use Rattle.room_types.specs.Keyed.{keep, row_at}
+use Rattle.room_types_keyed.specs.Keyed.{keep, row_at}
 use Rattle.room_types.specs.Keys.{callsign_cmp, numbered_cmp, turn_key, vehicle_key}
 use Rattle.room_types.specs.Texts.{Callsign}
 use Rattle.room_types.specs.declared.tables.Turn.{Turn}

@@ -6,8 +6,8 @@ use Rattle.std.specs.Ordering.{is_eq, ordering_reverse}
 use Rattle.std.specs.Prelude.{filter}
 use Rattle.std.specs.declared.cmp.Ordering.{Ordering}
 use Rattle.std.specs.declared.cmp.Ordering.TheVariants.{Equal, Greater, Less}
-use Rattle.room_types.proofs.KeyedLaws.{below_filter, keyed_filter, put_below, row_filter}
-use Rattle.room_types.specs.Keyed.{IsBelowAll, IsKeyed, keep, put_row, row_at}
+use Rattle.room_types_keyed.proofs.KeyedLaws.{below_filter, keyed_filter, put_below, row_filter}
+use Rattle.room_types_keyed.specs.Keyed.{IsBelowAll, IsKeyed, keep, put_row, row_at}
 use Rattle.room_store_reads.specs.Reading.{listed}
 use Rattle.room_store_reads.proofs.RoomReads.{filter_and}
 

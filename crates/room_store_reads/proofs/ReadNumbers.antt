@@ -3,8 +3,8 @@ use Rattle.std.proofs.Common.{Bool, List, None, Option, Some, [], ap, arith, con
 use Rattle.std.proofs.lemmas.Bool.Decides.{nat_tests}
 use Rattle.std.specs.Ordering.{is_eq}
 use Rattle.std.specs.Prelude.{filter, ◌==◌}
-use Rattle.room_types.proofs.KeyedLaws.{row_below}
-use Rattle.room_types.specs.Keyed.{IsBelowAll, IsKeyed, keep, row_at}
+use Rattle.room_types_keyed.proofs.KeyedLaws.{row_below}
+use Rattle.room_types_keyed.specs.Keyed.{IsBelowAll, IsKeyed, keep, row_at}
 use Rattle.room_types.specs.Keys.{incident_key, pair_cmp}
 use Rattle.room_types.specs.Orders.{exact_pair, pairs_total}
 use Rattle.room_types.specs.Codes.{is_active}

@@ -1,6 +1,6 @@
 -- Parts of a vehicle's rows, as they stand in the room.
 use Rattle.std.specs.Prelude.{None, Option, Some, is_none, ℕ, ◌≡◌}
-use Rattle.room_types.specs.Keyed.{keep, row_at}
+use Rattle.room_types_keyed.specs.Keyed.{keep, row_at}
 use Rattle.room_types.specs.Keys.{assignment_key, callsign_cmp, loan_key, numbered_cmp, turn_key, vehicle_key}
 use Rattle.room_types.specs.Texts.{Callsign}
 use Rattle.room_types.specs.declared.crews.CrewRows.{CrewRows}

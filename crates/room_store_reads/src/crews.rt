@@ -5,7 +5,7 @@ ghost use Rattle.sqlite.specs.State.{HasCleanDisk};
 ghost use Rattle.room_tables.specs.Finding.{Finds};
 ghost use Rattle.room_tables_schema.specs.Connections.{HasRoomSchema};
 ghost use Rattle.room_tables_sql.specs.Outcomes.{ReadsOnly};
-ghost use Rattle.room_types.specs.Keyed.{keep};
+ghost use Rattle.room_types_keyed.specs.Keyed.{keep};
 ghost use Rattle.room_model.specs.WellFormed.{IsWellFormed};
 ghost use Rattle.room_store_reads.specs.CrewParts.{IsLoanOf, IsSent, IsCrewOf};
 

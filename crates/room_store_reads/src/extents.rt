@@ -3,7 +3,7 @@ ghost use Rattle.std.specs.Prelude.{◌≡◌, ◌&&◌, filter, IsTrue};
 ghost use Rattle.std.specs.Ordering.{is_eq};
 ghost use Rattle.sqlite.specs.Held.{state};
 ghost use Rattle.sqlite.specs.State.{HasCleanDisk};
-ghost use Rattle.room_types.specs.Keyed.{IsKeyed, keep};
+ghost use Rattle.room_types_keyed.specs.Keyed.{IsKeyed, keep};
 ghost use Rattle.room_tables.specs.Finding.{Finds};
 ghost use Rattle.room_tables_schema.specs.Connections.{HasRoomSchema};
 ghost use Rattle.room_tables_sql.specs.Outcomes.{ReadsOnly};

@@ -3,7 +3,7 @@ ghost use Rattle.std.specs.Prelude.{◌≡◌, ◌==◌, ◌&&◌, ℕ, Bool, fi
 ghost use Rattle.sqlite.specs.Held.{state};
 ghost use Rattle.sqlite.specs.State.{HasCleanDisk};
 ghost use Rattle.room_types.specs.Codes.{outcome_number};
-ghost use Rattle.room_types.specs.Keyed.{IsKeyed};
+ghost use Rattle.room_types_keyed.specs.Keyed.{IsKeyed};
 ghost use Rattle.room_tables.specs.Finding.{Finds};
 ghost use Rattle.room_tables_schema.specs.Connections.{HasRoomSchema};
 ghost use Rattle.room_tables_sql.specs.Outcomes.{ReadsOnly};

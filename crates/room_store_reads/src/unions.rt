@@ -1,7 +1,7 @@
 //! Rows of one table that were loaded by several reads.
 ghost use Rattle.std.specs.Prelude.{◌≡◌, ◌||◌, Bool, List, filter, OnOk, IfErr, IfOk};
 ghost use Rattle.room_tables_schema.specs.declared.faults.Fault.TheVariants.{Memory};
-ghost use Rattle.room_types.specs.Keyed.{IsKeyed, put_row};
+ghost use Rattle.room_types_keyed.specs.Keyed.{IsKeyed, put_row};
 ghost use Rattle.room_store_reads.specs.Reading.{listed};
 
 use room_tables_schema::faults::Fault;

@@ -5,7 +5,7 @@ ghost use Rattle.sqlite.specs.State.{HasCleanDisk};
 ghost use Rattle.room_tables.specs.Finding.{Finds};
 ghost use Rattle.room_tables_sql.specs.Outcomes.{ReadsOnly};
 ghost use Rattle.room_types.specs.Codes.{is_active};
-ghost use Rattle.room_types.specs.Keyed.{keep};
+ghost use Rattle.room_types_keyed.specs.Keyed.{keep};
 ghost use Rattle.room_types.specs.declared.tables.Turn.{Turn};
 ghost use Rattle.room_model.specs.Queries.{held, incident_of};
 ghost use Rattle.room_model.specs.Room.{IsInOrder, Room};

@@ -6,7 +6,7 @@ use Rattle.std.proofs.lemmas.Grind.{common_steps}
 use Rattle.sqlite_value.specs.Order.{Row}
 use Rattle.room_place.specs.declared.plans.Area.{Area}
 use Rattle.room_tables_rows.specs.Areas.{area_row}
-use Rattle.room_types.specs.Keyed.{IsBelowAll, IsKeyed}
+use Rattle.room_types_keyed.specs.Keyed.{IsBelowAll, IsKeyed}
 use Rattle.room_tables.specs.Failures.{AreOutOfOrder, HasMisnumbered, HasStranger}
 
 module _ (shown : List Row) (i : ℕ) (r : Row) (within : i < length shown) (is : r ≡ get_or shown i r) where

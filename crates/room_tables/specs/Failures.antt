@@ -7,7 +7,7 @@ use Rattle.sqlite_trees.specs.declared.store.Store.{Ghosts}
 use Rattle.sqlite.specs.State.{HasCleanDisk, ExecutesInside, FailsToQuery, Shown, State}
 use Rattle.sqlite.specs.declared.error.Error.{Error}
 use Rattle.room_place.specs.declared.plans.Area.{Area}
-use Rattle.room_types.specs.Keyed.{IsKeyed}
+use Rattle.room_types_keyed.specs.Keyed.{IsKeyed}
 use Rattle.room_tables_rows.specs.Areas.{is_area_row, area_row}
 use Rattle.room_tables_schema.specs.Faults.{fault_of}
 use Rattle.room_tables_schema.specs.declared.faults.Fault.{Fault}

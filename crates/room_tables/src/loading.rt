@@ -7,7 +7,7 @@ ghost use Rattle.room_tables_schema.specs.Connections.{HasRoomSchema};
 ghost use Rattle.room_tables_sql.specs.Tables.{AreNumbered};
 ghost use Rattle.room_tables_sql.specs.Typed.{number};
 ghost use Rattle.room_tables_sql.specs.Outcomes.{ReadsInside, ReadsOnly};
-ghost use Rattle.room_types.specs.Keyed.{row_at};
+ghost use Rattle.room_types_keyed.specs.Keyed.{row_at};
 ghost use Rattle.room_tables_rows.specs.Stands.{StandsFor};
 ghost use Rattle.room_tables.specs.Failures.{AreMoreThanOne, AreNoRows, TellsWhy};
 ghost use Rattle.room_tables.specs.Finding.{Finds};

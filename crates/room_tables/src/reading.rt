@@ -7,7 +7,7 @@ ghost use Rattle.sqlite.specs.Listing.{understood};
 ghost use Rattle.sqlite.specs.State.{HasCleanDisk, Shown};
 ghost use Rattle.sqlite.specs.Values.{bound};
 ghost use Rattle.room_tables_sql.specs.Outcomes.{ReadsOnly};
-ghost use Rattle.room_types.specs.Keyed.{IsKeyed, put_row};
+ghost use Rattle.room_types_keyed.specs.Keyed.{IsKeyed, put_row};
 ghost use Rattle.room_tables_rows.specs.Finds.{listed};
 ghost use Rattle.room_tables.specs.Failures.{AreMoreThanOne, AreNoRows, IfStorage, TellsWhy};
 

@@ -6,7 +6,7 @@ ghost use Rattle.sqlite.specs.Held.{state};
 ghost use Rattle.sqlite.specs.State.{HasCleanDisk};
 ghost use Rattle.room_tables_sql.specs.Tables.{AreNumbered};
 ghost use Rattle.room_tables_sql.specs.Outcomes.{ReadsInside, ReadsOnly, WritesInside};
-ghost use Rattle.room_types.specs.Keyed.{IsKeyed, put_row};
+ghost use Rattle.room_types_keyed.specs.Keyed.{IsKeyed, put_row};
 ghost use Rattle.room_model.specs.Enrol.{terminal_at as found_terminal, terminal_key, token_cmp};
 ghost use Rattle.room_tables_rows.specs.Terminals.{terminal_row, is_terminal_row};
 ghost use Rattle.room_tables_schema.specs.Schema.{terminals_table};

@@ -3,7 +3,7 @@ use Rattle.std.proofs.Common.{◌≡◌, ◌++◌, ◌-◌, ℕ, zero, suc, List
 use Rattle.std.specs.Cmp.{IsTotalOrder}
 use Rattle.std.specs.List.{slice_get}
 use Rattle.std.proofs.lemmas.Option.{slice_get_within}
-use Rattle.room_types.specs.Keyed.{IsKeyed, IsBelowAll, put_row, row_at}
+use Rattle.room_types_keyed.specs.Keyed.{IsKeyed, IsBelowAll, put_row, row_at}
 use Rattle.room_tables_rows.specs.Finds.{listed}
 
 -- the first row that passes a test of its key is the row of the key

@@ -4,7 +4,7 @@ use Rattle.sqlite_value.specs.Order.{Row}
 use Rattle.sqlite_schema.specs.declared.schema.Table.{Table}
 use Rattle.sqlite.specs.Effect.{Database}
 use Rattle.sqlite.specs.State.{State, Executes}
-use Rattle.room_types.specs.Keyed.{put_row, drop_row}
+use Rattle.room_types_keyed.specs.Keyed.{put_row, drop_row}
 use Rattle.room_types.specs.declared.changes.Change.{Change}
 use Rattle.room_tables_sql.specs.Outcomes.{Inside, Only}
 use Rattle.room_tables_sql.specs.Statements.{StandsAlone}

@@ -11,7 +11,7 @@ use Rattle.room_tables_sql.specs.Outcomes.{Only}
 use Rattle.room_tables_sql.specs.Statements.{passes, Selects, StandsAlone, Deletes, Upserts, Stores}
 use Rattle.room_tables_sql.specs.Tables.{cells}
 use Rattle.room_tables_sql.specs.Typed.{IsFaithful}
-use Rattle.room_types.specs.Keyed.{put_row, drop_row}
+use Rattle.room_types_keyed.specs.Keyed.{put_row, drop_row}
 use Rattle.room_types.specs.declared.changes.Change.{Change}
 use Rattle.room_model.specs.Room.{Room, apply_one}
 use Rattle.room_tables_schema.specs.Schema.{room_schema}

@@ -1,9 +1,7 @@
--- What an error of the database is to the room.
+-- What an error of the database is to the room: a fault.
 use Rattle.sqlite.specs.declared.error.Error.{Error}
 use Rattle.sqlite.specs.declared.error.Error.TheVariants.{SqliteFailure}
 use Rattle.sqlite.specs.declared.error.ErrorCode.TheVariants.{OutOfMemory}
-use Rattle.room_types.specs.declared.refusals.Refusal.{Refusal}
-use Rattle.room_types.specs.declared.refusals.Refusal.TheVariants as refusal
 use Rattle.room_tables_schema.specs.declared.faults.Fault.{Fault}
 use Rattle.room_tables_schema.specs.declared.faults.Fault.TheVariants.{Memory, Storage}
 
@@ -11,7 +9,3 @@ use Rattle.room_tables_schema.specs.declared.faults.Fault.TheVariants.{Memory, S
 abbrev pub fault_of : Error → Fault
 fault_of (SqliteFailure OutOfMemory) = Memory
 fault_of _ = Storage
-
-abbrev pub refusal_of : Fault → Refusal
-refusal_of Memory = refusal.Memory
-refusal_of Storage = refusal.Storage

@@ -10,5 +10,5 @@ pub mod Definitions
 -- what a schema is tested for
 pub mod Forms
 pub mod Bare
--- the errors of the database, as faults and as refusals
+-- the errors of the database, as faults
 pub mod Faults

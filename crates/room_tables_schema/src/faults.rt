@@ -1,10 +1,9 @@
 //! Why a call of the database fails.
 
 ghost use Rattle.std.specs.Prelude.{◌≡◌};
-ghost use Rattle.room_tables_schema.specs.Faults.{fault_of, refusal_of};
+ghost use Rattle.room_tables_schema.specs.Faults.{fault_of};
 ghost use Rattle.room_tables_schema.specs.declared.faults.Fault.TheVariants.{Memory};
 
-use room_types::refusals::Refusal;
 use sqlite::ErrorCode;
 use std::alloc::{AllocError, AllocFailed};
 use thiserror::Error;
@@ -44,16 +43,5 @@ impl<T: Drop> From<AllocFailed<T>> for Fault {
 
     fn from(_: AllocFailed<T>) -> Fault {
         Fault::Memory
-    }
-}
-
-impl From<Fault> for Refusal {
-    ghost from_gives = { λ fault refusal. refusal ≡ refusal_of fault };
-
-    fn from(fault: Fault) -> Refusal {
-        match fault {
-            Fault::Memory => Refusal::Memory,
-            Fault::Storage => Refusal::Storage,
-        }
     }
 }

@@ -10,7 +10,7 @@ use Rattle.sqlite_schema.specs.declared.schema.Table.{Table}
 use Rattle.sqlite_schema.specs.declared.schema.Index.{Index}
 use Rattle.sqlite_schema.specs.declared.schema.Schema.{Schema}
 use Rattle.sqlite.specs.State.{State, Shown, Executes}
-use Rattle.room_types.specs.Keyed.{IsKeyed, put_row, drop_row}
+use Rattle.room_types_keyed.specs.Keyed.{IsKeyed, put_row, drop_row}
 use Rattle.room_tables_sql.specs.Tables.{cells, keys, AreNumbered, RowidsRise, Holds}
 use Rattle.room_tables_sql.specs.Outcomes.{Only, MakesTable, MakesIndex}
 use Rattle.room_tables_sql.specs.Statements.{passes, Selects, StandsAlone, Deletes, Upserts, Stores, Creates, Indexes}

@@ -1,6 +1,5 @@
 pub mod Codes
 pub mod Crews
-pub mod Keyed
 pub mod Keys
 pub mod Needs
 pub mod Orders

@@ -3,7 +3,7 @@ use Rattle.std.specs.Prelude.{◌≡◌, ℕ, ◌≤◌, Bool, true, false, cond
 use Rattle.std.specs.List.{list_all}
 use Rattle.std.specs.Ordering.{nat_cmp}
 use Rattle.room_types.specs.Codes.{is_active}
-use Rattle.room_types.specs.Keyed.{row_at, keep}
+use Rattle.room_types_keyed.specs.Keyed.{row_at, keep}
 use Rattle.room_types.specs.Keys.{callsign_cmp, pair_cmp, numbered_cmp, division_key, incident_key, vehicle_key, turn_key, assignment_key, owns_division, owns_incident, owns_call, owns_vehicle, owns_turn, owns_assignment, owns_point, owns_loan, owns_offer, owns_report}
 use Rattle.room_types.specs.Texts.{Callsign}
 use Rattle.room_types.specs.Sent.{PartsAgree, parts_agree}

@@ -1,7 +1,7 @@
 //! The rows of one division that its requests are decided on.
 ghost use Rattle.std.specs.Prelude.{◌≡◌, true, option_copied};
 ghost use Rattle.std.specs.List.{list_all};
-ghost use Rattle.room_types.specs.Keyed.{IsKeyed};
+ghost use Rattle.room_types_keyed.specs.Keyed.{IsKeyed};
 ghost use Rattle.room_types.specs.Keys.{callsign_cmp, numbered_cmp, vehicle_key, assignment_key, turn_key};
 ghost use Rattle.room_types.specs.Slices.{is_share, are_owned, vehicle_agrees, assignment_agrees, turn_agrees, open_turn};
 

@@ -3,7 +3,7 @@ use Rattle.std.proofs.lemmas.Result.{IfOk-weaker}
 use Rattle.std.specs.Prelude.{◌==◌}
 use Rattle.sqlite.specs.Held.{state}
 use Rattle.sqlite.specs.State.{HasCleanDisk}
-use Rattle.room_types.specs.Keyed.{keep}
+use Rattle.room_types_keyed.specs.Keyed.{keep}
 use Rattle.room_types.specs.Keys.{owns_turn}
 use Rattle.room_model.specs.Queries.{held}
 use Rattle.room_model.specs.Working.{is_last_turn}

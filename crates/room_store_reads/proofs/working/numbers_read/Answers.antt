@@ -1,6 +1,6 @@
 use Rattle.std.proofs.Common.{ap, is_some, sym, ◌&&◌, ◌∙◌, ◌||◌}
 use Rattle.room_types.specs.Codes.{is_active}
-use Rattle.room_types.specs.Keyed.{keep}
+use Rattle.room_types_keyed.specs.Keyed.{keep}
 use Rattle.room_model.specs.Queries.{incident_of}
 use Rattle.room_model.specs.Working.{reads_active}
 use Rattle.room_store_reads.specs.Reading.{is_number}

@@ -4,7 +4,7 @@ use Rattle.sqlite.specs.Held.{state}
 use Rattle.sqlite.specs.State.{HasCleanDisk}
 use Rattle.room_tables.specs.Stands.{Stands}
 use Rattle.std.proofs.lemmas.List.Sums.{fold-append}
-use Rattle.room_types.specs.Keyed.{put_row}
+use Rattle.room_types_keyed.specs.Keyed.{put_row}
 use Rattle.room_model.specs.Enrol.{terminal_key, token_cmp}
 use Rattle.room_tables_sql.proofs.WriteLaws.{commits_more}
 use Rattle.room_store_writes.specs.Filling.{put_all}

@@ -1,7 +1,7 @@
 use Rattle.std.proofs.Common.{[], ◌∷◌, ◌++◌, inl, inr, sym, true≢false, arith}
 use Rattle.std.proofs.lemmas.Grind.{common_steps}
-use Rattle.room_types.specs.Keyed.{IsKeyed}
-use Rattle.room_types.proofs.KeyedLaws.{keyed_put}
+use Rattle.room_types_keyed.specs.Keyed.{IsKeyed}
+use Rattle.room_types_keyed.proofs.KeyedLaws.{keyed_put}
 use Rattle.room_tables.proofs.Unread.{out_of_order_at, stranger_at}
 use Rattle.room_tables.proofs.reading.rows_of.Goals as goal
 

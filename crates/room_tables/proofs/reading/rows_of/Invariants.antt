@@ -1,5 +1,5 @@
 use Rattle.std.proofs.Common.{◌≡◌, map, take}
-use Rattle.room_types.specs.Keyed.{IsKeyed}
+use Rattle.room_types_keyed.specs.Keyed.{IsKeyed}
 use Rattle.room_tables.proofs.reading.rows_of.Given as goal
 
 abbrev pub invariant-loop-columns : goal.invariant-loop-columns

@@ -9,8 +9,8 @@ use Rattle.std.specs.Cmp.{IsTotalOrder, Equal-is}
 use Rattle.std.proofs.lemmas.Bool.{and_parts}
 use Rattle.std.proofs.lemmas.Cmp.{tied_itself}
 use Rattle.std.proofs.lemmas.Map.Lookups.{CmpEqualImpliesEq}
-use Rattle.room_types.specs.Keyed.{IsBelowAll, IsKeyed, row_at}
-use Rattle.room_types.proofs.KeyedLaws.{row_below}
+use Rattle.room_types_keyed.specs.Keyed.{IsBelowAll, IsKeyed, row_at}
+use Rattle.room_types_keyed.proofs.KeyedLaws.{row_below}
 
 module _ {R K : Type 0} (cmp : K → K → Ordering) (key : R → K) (total : IsTotalOrder cmp) (exact : CmpEqualImpliesEq cmp) where
   same_key : (k : K) (x : R) → is_eq (cmp k (key x)) ≡ true → k ≡ key x

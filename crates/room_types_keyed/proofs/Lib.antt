@@ -1,0 +1,3 @@
+pub mod EachRow
+pub mod KeyedLaws
+pub mod Search
