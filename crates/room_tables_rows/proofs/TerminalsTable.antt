@@ -17,9 +17,9 @@ use Rattle.room_tables_sql.proofs.Comparisons.{and_last, conflict_of_one, tie-te
 use Rattle.room_tables_sql.proofs.StoredRows.{stores_row}
 use Rattle.room_tables_sql.specs.Outcomes.{Inside}
 use Rattle.room_tables_sql.specs.Statements.{Selects, StandsAlone, Stores, Upserts, equals, row_update, row_values}
-use Rattle.room_types_keyed.specs.Keyed.{put_row, row_at}
 use Rattle.room_types.specs.Texts.{Token}
 use Rattle.room_types.specs.declared.fleet.Terminal.{Terminal}
+use Rattle.room_types_keyed.specs.Keyed.{put_row, row_at}
 use Rattle.sqlite.specs.Listing.{understood}
 use Rattle.sqlite.specs.State.{Executes, State}
 use Rattle.sqlite_schema.specs.Rules.{equal}
