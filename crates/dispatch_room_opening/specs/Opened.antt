@@ -10,7 +10,8 @@ use Rattle.room_tables.specs.Stands.{House, Stands}
 use Rattle.room_tables_schema.specs.Versions.{HasTables}
 use Rattle.room_store.specs.Keeping.{IsKept, IsRoom}
 use Rattle.room_store.specs.declared.store.Store.{Store}
-use Rattle.room_store_opening.specs.Opening.{HoldsRoom, IsOldRoom, KeepsFile, MayBeIndexed, WritesNothing}
+use Rattle.room_store_opening.specs.Opening.{IsOldRoom, KeepsFile, MayBeIndexed}
+use Rattle.room_store_judging.specs.Holding.{HoldsRoom, WritesNothing}
 use Rattle.room_store_opening.specs.declared.opening.OpenFault.{OpenFault}
 use Rattle.room_store_opening.specs.declared.opening.OpenFault.TheVariants.{NotARoom, OldRoom}
 use Rattle.room_store_writes.specs.Writing.{Leaves}

@@ -10,7 +10,8 @@ use Rattle.room_model.specs.Room.{Room}
 use Rattle.room_model.specs.WellFormed.{IsWellFormed}
 use Rattle.room_tables_schema.specs.Versions.{HasFirstTables}
 use Rattle.room_tables.specs.Stands.{House, Stands, StandsInFirst}
-use Rattle.room_store_opening.specs.Opening.{HoldsFirstRoom, IsNewRoom, IsOldRoom, MayBeMoved, WritesNothing}
+use Rattle.room_store_opening.specs.Opening.{HoldsFirstRoom, IsNewRoom, IsOldRoom, MayBeMoved}
+use Rattle.room_store_judging.specs.Holding.{WritesNothing}
 use Rattle.room_store_opening.specs.declared.migrating.MigrateFault.{MigrateFault}
 use Rattle.room_store_opening.specs.declared.migrating.MigrateFault.TheVariants.{NotARoom, NotOld}
 use Rattle.room_store_writes.specs.Writing.{Leaves}

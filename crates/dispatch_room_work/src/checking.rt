@@ -3,7 +3,7 @@ ghost use Rattle.std.specs.Prelude.{◌≡◌, ◌⊎◌, Err, IsSome, false, If
 ghost use Rattle.std.specs.Io.KnownBytes.{Appends};
 ghost use Rattle.jiff.specs.Words.{read_whole};
 ghost use Rattle.sqlite.specs.Held.{state};
-ghost use Rattle.room_store_opening.specs.Opening.{WritesNothing};
+ghost use Rattle.room_store_judging.specs.Holding.{WritesNothing};
 ghost use Rattle.dispatch_room_endings.specs.declared.endings.Done.TheVariants.{Whole};
 ghost use Rattle.dispatch_room_endings.specs.declared.endings.Failure.TheVariants.{File, Network};
 ghost use Rattle.dispatch_room_work.specs.Checked.{

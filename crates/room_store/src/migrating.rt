@@ -10,13 +10,8 @@ ghost use Rattle.room_tables.specs.Stands.{StandsInFirst};
 ghost use Rattle.room_store.specs.Keeping.{IsKept, IsReady, IsRoom};
 ghost use Rattle.room_store_writes.specs.Houses.{house_of};
 ghost use Rattle.room_store_writes.specs.Writing.{Leaves};
-ghost use Rattle.room_store_opening.specs.Opening.{
-  HoldsFirstRoom,
-  IsNewRoom,
-  IsOldRoom,
-  MayBeMoved,
-  WritesNothing,
-};
+ghost use Rattle.room_store_opening.specs.Opening.{HoldsFirstRoom, IsNewRoom, IsOldRoom, MayBeMoved};
+ghost use Rattle.room_store_judging.specs.Holding.{WritesNothing};
 ghost use Rattle.room_store_opening.specs.declared.migrating.MigrateFault.TheVariants.{
   NotARoom,
   NotOld,

@@ -8,13 +8,8 @@ ghost use Rattle.room_tables_schema.specs.Schema.{room_schema};
 ghost use Rattle.room_tables_schema.specs.Versions.{HasTables};
 ghost use Rattle.room_store.specs.Keeping.{IsKept, IsReady, IsRoom};
 ghost use Rattle.room_store_writes.specs.Writing.{Leaves};
-ghost use Rattle.room_store_opening.specs.Opening.{
-  HoldsRoom,
-  IsOldRoom,
-  KeepsFile,
-  MayBeIndexed,
-  WritesNothing,
-};
+ghost use Rattle.room_store_opening.specs.Opening.{IsOldRoom, KeepsFile, MayBeIndexed};
+ghost use Rattle.room_store_judging.specs.Holding.{HoldsRoom, WritesNothing};
 ghost use Rattle.room_store_opening.specs.declared.opening.OpenFault.TheVariants.{
   NotARoom,
   OldRoom,

@@ -51,9 +51,9 @@ pub regrouped : (x y z : Bool) → ((x && y) && z) ≡ (x && (y && z))
 regrouped true y z = refl
 regrouped false y z = refl
 
-pub first_alike : {R X : Type 0} (f g : R → Option X) (rows : List R) → ((x : R) → f x ≡ g x) → first_of f rows ≡ first_of g rows
+pub first_alike : {R X : Type 0} (f g : R → Option X) (rows : List R) → ((x : R) → Among x rows → f x ≡ g x) → first_of f rows ≡ first_of g rows
 first_alike f g [] same = refl
-first_alike f g (x ∷ xs) same = rw (same x, first_alike f g xs same) refl
+first_alike f g (x ∷ xs) same = rw (same x (inl refl), first_alike f g xs (λ y there. same y (inr there))) refl
 
 -- a test that fails
 pub not_so : {P : Type 0} (b : Bool) → Decides b P → b ≡ false → ¬ P

@@ -2,6 +2,7 @@ mod Agreements
 mod AtEachKey
 mod CrewLaws
 mod FaultLaws
+mod HistoryLaws
 mod OpeningLaws
 mod PassingRows
 mod RoomLaws

@@ -138,16 +138,22 @@ abbrev pub told_fault : BTreeSet (ℕ × ℕ × ℕ) → Incident → Option Dis
 told_fault told i = unless (is_merged i.state || contains told_cmp told (i.division, i.number, i.opened)) (wrong.Incident i.division i.number incident.NoCall)
 
 -- ---- all tables, one after another
-abbrev pub rows_disagreement : List Area → DivisionRows → Option Disagreement
-rows_disagreement plan s =
-    option_or (option_or (option_or (option_or (option_or (option_or (option_or (option_or (option_or (option_or
+-- divisions and points, and vehicles with what stands beside them
+abbrev pub standing_disagreement : List Area → DivisionRows → Option Disagreement
+standing_disagreement plan s =
+    option_or (option_or (option_or (option_or (option_or (option_or
     (first_of (area_disagreement s) plan)
     (first_of (division_disagreement plan) s.divisions))
     (first_of (point_disagreement plan) s.points))
     (first_of (vehicle_disagreement plan s) s.vehicles))
     (first_of (loan_disagreement s) s.loans))
     (first_of (offer_disagreement s) s.offers))
-    (first_of (assignment_disagreement s) s.assignments))
+    (first_of (assignment_disagreement s) s.assignments)
+
+abbrev pub rows_disagreement : List Area → DivisionRows → Option Disagreement
+rows_disagreement plan s =
+    option_or (option_or (option_or (option_or
+    (standing_disagreement plan s)
     (first_of (turn_disagreement plan s) s.turns))
     (first_of (report_disagreement plan s) s.reports))
     (first_of (call_disagreement s) s.calls))

@@ -10,7 +10,7 @@ use crate::rooms::RoomRows;
 use room_place::plans::Plan;
 
 /// A row that the others are asked about.
-pub(crate) trait Judged {
+pub trait Judged {
     ghost disagreement: { List Area → DivisionRows → Self → Option Disagreement };
 
     // What it disagrees in first; nothing where it agrees.

@@ -4,8 +4,9 @@
 
 pub mod disagreements;
 pub(crate) mod divisions;
+pub mod histories;
 pub(crate) mod incidents;
-pub(crate) mod judging;
+pub mod judging;
 pub(crate) mod openings;
 pub mod rooms;
 pub mod summaries;

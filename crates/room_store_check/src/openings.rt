@@ -1,24 +1,19 @@
 //! The first incident that is not merged and has no call of the moment at which it was opened.
-ghost use Rattle.std.specs.Prelude.{◌≡◌, ◌||◌, IfErr, IfOk, map};
-ghost use Rattle.std.specs.BTreeSet.{IsFromIterResult, contains};
+ghost use Rattle.std.specs.Prelude.{◌≡◌, ◌||◌, IfErr, IfOk};
+ghost use Rattle.std.specs.BTreeSet.{contains};
 ghost use Rattle.room_types.specs.Codes.{is_merged};
 ghost use Rattle.room_types.specs.declared.refusals.Refusal.TheVariants.{Memory};
-ghost use Rattle.room_store_check.specs.Fits.{told_cmp, told_of};
+ghost use Rattle.room_store_check.specs.Fits.{told_cmp};
 ghost use Rattle.room_store_check.specs.Faults.{first_of, opening_fault, told_fault};
+ghost use Rattle.room_store_check.specs.Histories.{Tell};
 
 use crate::disagreements::{Disagreement, IncidentFault};
+use crate::histories::Openings;
 use crate::incidents::is_merged;
 use crate::rooms::RoomRows;
-use room_place::plans::DivisionNumber;
-use room_types::numbers::{Moment, Number};
 use room_types::refusals::Refusal;
-use room_types::rows::Rows;
 use room_types::tables::{Call, Incident};
 use std::alloc::{AllocError, Global};
-use std::collections::BTreeSet;
-
-// The incident that a call is of, and the call's moment.
-type Told = (DivisionNumber, Number, Moment);
 
 // The first incident that no call opened. The one refusal is `Memory`.
 pub(crate) fn unopened(alloc: Global, rows: &RoomRows) -> Result<Option<Disagreement>, Refusal>
@@ -26,15 +21,16 @@ pub(crate) fn unopened(alloc: Global, rows: &RoomRows) -> Result<Option<Disagree
         found ≡ first_of (opening_fault rows.now) rows.now.incidents) }
     ensures memory { IfErr result (λ refusal. refusal ≡ Memory) }
 {
-    let told = told_by(alloc, &rows.calls)?;
-    Ok(first_untold(&told, rows.incidents.as_slice()))
+    let openings = told_by(alloc, rows.calls.as_slice())?;
+    Ok(first_untold(&openings, rows.incidents.as_slice()))
 }
 
-fn first_untold(told: &BTreeSet<Told>, incidents: &[Incident]) -> Option<Disagreement>
-    ensures { result ≡ first_of (told_fault told.now) incidents.now }
+// The first incident of which no opening is told.
+pub(crate) fn first_untold(openings: &Openings, incidents: &[Incident]) -> Option<Disagreement>
+    ensures { result ≡ first_of (told_fault openings.now) incidents.now }
 {
     for incident in incidents {
-        if !is_opened(told, incident) {
+        if !is_opened(openings, incident) {
             return Some(Disagreement::Incident(
                 incident.division,
                 incident.number,
@@ -45,21 +41,20 @@ fn first_untold(told: &BTreeSet<Told>, incidents: &[Incident]) -> Option<Disagre
     None
 }
 
-fn is_opened(told: &BTreeSet<Told>, incident: &Incident) -> bool
+fn is_opened(openings: &Openings, incident: &Incident) -> bool
     ensures { let i = incident.now in result ≡
-        (is_merged i.state || contains told_cmp told.now (i.division, i.number, i.opened)) }
+        (is_merged i.state || contains told_cmp openings.now (i.division, i.number, i.opened)) }
 {
-    is_merged(incident.state)
-        || told.contains(&(incident.division, incident.number, incident.opened))
+    is_merged(incident.state) || openings.has(incident)
 }
 
-// What the calls tell, in order, so that an opening is found at once.
-fn told_by(alloc: Global, calls: &Rows<Call>) -> Result<BTreeSet<Told>, AllocError>
-    ensures { IfOk result (IsFromIterResult told_cmp (map told_of calls.now)) }
+// What the calls tell, so that an opening is found at once.
+fn told_by(alloc: Global, calls: &[Call]) -> Result<Openings, AllocError>
+    ensures { IfOk result (Tell calls.now) }
 {
-    calls
-        .as_slice()
-        .iter()
-        .map(|call| (call.division, call.incident, call.at))
-        .collect(alloc)
+    let mut openings = Openings::new(alloc);
+    for call in calls {
+        openings.add(call)?;
+    }
+    Ok(openings)
 }

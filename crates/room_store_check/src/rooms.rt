@@ -4,7 +4,7 @@ ghost use Rattle.room_types.specs.declared.refusals.Refusal.TheVariants.{Memory}
 ghost use Rattle.room_model.specs.Room.{IsInOrder};
 ghost use Rattle.room_model.specs.Slices.{room_of};
 ghost use Rattle.room_model.specs.WellFormed.{IsWellFormed};
-ghost use Rattle.room_store_check.specs.Faults.{first_disagreement, rows_disagreement};
+ghost use Rattle.room_store_check.specs.Faults.{first_disagreement, rows_disagreement, standing_disagreement};
 ghost use Rattle.room_store_check.specs.Wrong.{Tells};
 
 use crate::disagreements::Disagreement;
@@ -66,6 +66,18 @@ fn are_in_order(plan: &Plan, rows: &RoomRows)
 fn rows_disagreement(plan: &Plan, rows: &RoomRows) -> Option<Disagreement>
     ensures { result ≡ rows_disagreement plan.now.areas rows.now }
 {
+    standing_disagreement(plan, rows)
+        .or(first_of(plan, rows, rows.turns.as_slice()))
+        .or(first_of(plan, rows, rows.reports.as_slice()))
+        .or(first_of(plan, rows, rows.calls.as_slice()))
+        .or(first_of(plan, rows, rows.incidents.as_slice()))
+}
+
+// The first that disagrees of the plan's areas, divisions, points, and vehicles with what stands
+// beside them.
+pub(crate) fn standing_disagreement(plan: &Plan, rows: &RoomRows) -> Option<Disagreement>
+    ensures { result ≡ standing_disagreement plan.now.areas rows.now }
+{
     first_of(plan, rows, plan.areas())
         .or(first_of(plan, rows, rows.divisions.as_slice()))
         .or(first_of(plan, rows, rows.points.as_slice()))
@@ -73,8 +85,4 @@ fn rows_disagreement(plan: &Plan, rows: &RoomRows) -> Option<Disagreement>
         .or(first_of(plan, rows, rows.loans.as_slice()))
         .or(first_of(plan, rows, rows.offers.as_slice()))
         .or(first_of(plan, rows, rows.assignments.as_slice()))
-        .or(first_of(plan, rows, rows.turns.as_slice()))
-        .or(first_of(plan, rows, rows.reports.as_slice()))
-        .or(first_of(plan, rows, rows.calls.as_slice()))
-        .or(first_of(plan, rows, rows.incidents.as_slice()))
 }

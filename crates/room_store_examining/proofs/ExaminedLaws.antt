@@ -12,13 +12,14 @@ use Rattle.room_tables_schema.specs.declared.faults.Fault.{Fault}
 use Rattle.room_tables_schema.specs.declared.faults.Fault.TheVariants as fault
 use Rattle.room_store_writes.specs.Houses.{house_of}
 use Rattle.room_store_examining.specs.Examined.{Explains, Weighs, wrong_of}
-use Rattle.room_store_opening.specs.Opening.{HoldsRoom, StandsBy, take_fault}
+use Rattle.room_store_opening.specs.Opening.{StandsBy}
+use Rattle.room_store_judging.specs.Holding.{HoldsRoom, take_fault}
 use Rattle.room_store_examining.specs.declared.examining.Wrong.{Wrong}
 use Rattle.room_store_examining.specs.declared.examining.Wrong.TheVariants as wrong
 use Rattle.room_store_opening.specs.declared.taking.Tables.{Tables}
 use Rattle.room_store_opening.specs.declared.taking.Tables.TheVariants.{Unindexed, Whole}
-use Rattle.room_store_opening.specs.declared.taking.TakeFault.{TakeFault}
-use Rattle.room_store_opening.specs.declared.taking.TakeFault.TheVariants.{Memory, NotARoom, Storage}
+use Rattle.room_store_judging.specs.declared.faults.TakeFault.{TakeFault}
+use Rattle.room_store_judging.specs.declared.faults.TakeFault.TheVariants.{Memory, NotARoom, Storage}
 
 pub weighed : (now : Database) (plan : Layout) (rows : DivisionRows) (terminals : List Terminal) → Stands now.trees (house_of plan terminals) (room_of plan.areas rows) → (e : Wrong) → Weighs plan.areas rows terminals e → Explains now e
 weighed now plan rows terminals stands (wrong.Rows x) h = (plan, record { rows = rows; terminals = terminals; stands = stands; says = h })

@@ -19,11 +19,12 @@ use Rattle.room_store_check.specs.declared.summaries.Summary.{Summary}
 use Rattle.room_tables_schema.specs.Versions.{HasTables}
 use Rattle.room_tables.specs.Stands.{Stands}
 use Rattle.room_store_writes.specs.Houses.{house_of}
-use Rattle.room_store_opening.specs.Opening.{HoldsRoom, IsOldRoom}
+use Rattle.room_store_opening.specs.Opening.{IsOldRoom}
+use Rattle.room_store_judging.specs.Holding.{HoldsRoom}
 use Rattle.room_store_examining.specs.declared.examining.Wrong.{Wrong}
 use Rattle.room_store_examining.specs.declared.examining.Wrong.TheVariants as wrong
-use Rattle.room_store_opening.specs.declared.taking.TakeFault.{TakeFault}
-use Rattle.room_store_opening.specs.declared.taking.TakeFault.TheVariants as fault
+use Rattle.room_store_judging.specs.declared.faults.TakeFault.{TakeFault}
+use Rattle.room_store_judging.specs.declared.faults.TakeFault.TheVariants as fault
 
 -- how a fault of reading is told
 abbrev pub wrong_of : TakeFault → Wrong

@@ -2,7 +2,8 @@
 ghost use Rattle.std.specs.Prelude.{◌≡◌, ◌⊎◌, false, IfErr, IfOk, IsTrue};
 ghost use Rattle.sqlite.specs.Held.{state};
 ghost use Rattle.sqlite.specs.State.{HasCleanDisk};
-ghost use Rattle.room_store_opening.specs.Opening.{WritesNothing, schema_of};
+ghost use Rattle.room_store_opening.specs.Opening.{schema_of};
+ghost use Rattle.room_store_judging.specs.Holding.{WritesNothing};
 ghost use Rattle.room_store_opening.specs.declared.taking.Tables.TheVariants.{Unindexed, Whole};
 ghost use Rattle.room_store_examining.specs.Examined.{Explains, IsAmount, IsSummaryOf, Weighs};
 
@@ -11,9 +12,10 @@ use room_store_check::disagreements::{Disagreement, TerminalFault};
 use room_store_check::rooms::disagreement;
 use room_store_check::summaries::{Summary, summary_of};
 use room_store_check::terminals::terminals_fault;
+use room_store_judging::faults::TakeFault;
+use room_store_judging::whole::RoomFile;
 use room_store_opening::opening::{is_room_of, room_tables_of};
-use room_store_opening::taking::{Tables, TakeFault, read_file};
-use room_store_opening::whole::RoomFile;
+use room_store_opening::taking::{Tables, read_file};
 use room_tables_rows::meta::FIRST_VERSION;
 use sqlite::{Alter, Connection};
 use std::alloc::Global;

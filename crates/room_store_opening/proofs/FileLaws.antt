@@ -18,7 +18,8 @@ use Rattle.room_tables_rows.proofs.OneRoom.{one_house, one_room}
 use Rattle.room_tables.specs.Stands.{House, Stands}
 use Rattle.room_store_writes.specs.Houses.{house_of}
 use Rattle.room_store_writes.specs.Writing.{Leaves}
-use Rattle.room_store_opening.specs.Opening.{Becomes, HoldsRoom, KeepsAllRows, KeepsFile, MayBeIndexed, MayBeMoved, MayBecome, Moves, Opens, Takes, WritesNothing, schema_of}
+use Rattle.room_store_opening.specs.Opening.{Becomes, KeepsAllRows, KeepsFile, MayBeIndexed, MayBeMoved, MayBecome, Moves, Opens, Takes, schema_of}
+use Rattle.room_store_judging.specs.Holding.{HoldsRoom, WritesNothing}
 use Rattle.room_store_opening.specs.declared.taking.Tables.{Tables}
 use Rattle.room_store_opening.specs.declared.taking.Tables.TheVariants.{First, FirstUnindexed, Unindexed, Whole}
 
@@ -136,21 +137,6 @@ module _ (old mid new : State) where
   pub moves_before : mid.now ≡ old.now → Moves mid new → Moves old new
   moves_before same it = record { settled = it.settled; schema = it.schema; moved = subst (λ (db : Database). MayBeMoved db new.now.trees) same it.moved }
 
-  -- one call after another that write nothing
-  pub nothing_then : WritesNothing old mid → WritesNothing mid new → WritesNothing old new
-  nothing_then one two = record {
-    left = λ clean. let early : HasCleanDisk mid = omega (arith, two.survives.clean) in left_left (one.left early) (two.left clean);
-    survives = survives_then old mid new _ _ (λ _. ⊥) (λ _ db none. none) (λ _ db none. none) one.survives two.survives;
-  }
-
-  -- and one look after another, the tables are as they were
+  -- after one look and another the tables are as they were
   pub looked_on : WritesNothing mid new → (HasCleanDisk mid → mid.now ≡ old.now) → (HasCleanDisk new → new.now ≡ mid.now) → HasCleanDisk new → new.now ≡ old.now
   looked_on nothing one two clean = let early : HasCleanDisk mid = omega (arith, nothing.survives.clean) in two clean ∙ one early
-
--- a room that some tables hold is the one that they were read as
-pub held_is : (trees : Trees) (plan : Layout) (terminals : List Terminal) (room : Room) → Stands trees (house_of plan terminals) room → HoldsRoom trees → IsWellFormed room × AreTerminals room terminals
-held_is trees plan terminals room stands h =
-    let same = one_room trees (house_of h.layout h.terminals) (house_of plan terminals) h.room room h.stands stands in
-    let house = one_house trees (house_of h.layout h.terminals) (house_of plan terminals) h.room room h.stands stands in
-    let theirs : h.terminals ≡ terminals = ap (λ (x : House). x.terminals) house in
-    (subst IsWellFormed same h.formed, subst (λ r. AreTerminals r terminals) same (subst (AreTerminals h.room) theirs h.fits))

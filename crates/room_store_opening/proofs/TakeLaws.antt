@@ -25,20 +25,16 @@ use Rattle.room_tables.specs.Stands.{House, Stands}
 use Rattle.room_tables.specs.Writes.{Renews}
 use Rattle.room_store_writes.specs.Writing.{Leaves}
 use Rattle.room_store_opening.proofs.FileLaws.{rows_kept}
-use Rattle.room_store_opening.specs.Opening.{Becomes, Holds, HoldsBy, HoldsFirstRoom, HoldsRoom, IsMoved, IsRoomOf, MayBecome, StandsBy, Takes, migrate_fault, open_fault, schema_of, take_fault}
+use Rattle.room_store_opening.specs.Opening.{Becomes, HoldsBy, HoldsFirstRoom, IsMoved, IsRoomOf, MayBecome, StandsBy, Takes, migrate_fault, open_fault, schema_of}
+use Rattle.room_store_judging.specs.Holding.{Holds, HoldsRoom, take_fault}
 use Rattle.room_store_opening.specs.declared.migrating.MigrateFault.{MigrateFault}
 use Rattle.room_store_opening.specs.declared.migrating.MigrateFault.TheVariants as migrated
 use Rattle.room_store_opening.specs.declared.opening.OpenFault.{OpenFault}
 use Rattle.room_store_opening.specs.declared.opening.OpenFault.TheVariants as opened
-use Rattle.room_store_opening.specs.declared.taking.TakeFault.{TakeFault}
-use Rattle.room_store_opening.specs.declared.taking.TakeFault.TheVariants.{Memory, NotARoom, Storage}
+use Rattle.room_store_judging.specs.declared.faults.TakeFault.{TakeFault}
+use Rattle.room_store_judging.specs.declared.faults.TakeFault.TheVariants.{Memory, NotARoom, Storage}
 use Rattle.room_store_opening.specs.declared.taking.Tables.{Tables}
 use Rattle.room_store_opening.specs.declared.taking.Tables.TheVariants.{First, FirstUnindexed, Unindexed, Whole}
-
--- a read in a transaction commits nothing
-pub reads_commit : {S T E : Type 0} {g : Ghosts S} {a b : Held S} (r : Result T E) → ReadsInside g a b r → CommitsNothing g a b
-reads_commit (Ok x) h = record { kept = λ clean. keeps_commit _ _ (inl (h.ok clean)); survives = h.survives }
-reads_commit (Err e) h = record { kept = λ clean. keeps_commit _ _ (h.err clean); survives = h.survives }
 
 -- the last table was made, and then the version told: a room of the first version is moved
 pub is_moved : (old : Trees) (mid new : State) → AddsLast old mid.now.trees → Renews mid new → IsMoved old new.now.trees
@@ -124,21 +120,6 @@ under (Err e) A P h = h
 pub any_fault : {T E : Type 0} (r : Result T E) (P : E → Type 0) → ((e : E) → P e) → IfErr r P
 any_fault (Ok x) P p = tt
 any_fault (Err e) P p = p e
-
--- what failed gave nothing
-pub none_found : {T E : Type 0} (r : Result T E) (P : T → Type 0) → IsErr r → IfOk r P
-none_found (Ok x) P is = absurd cc
-none_found (Err e) P is = tt
-
-pub none_ok : {T E : Type 0} (r : Result T E) (P : Type 0) → IsErr r → OnOk r P
-none_ok (Ok x) P is = absurd cc
-none_ok (Err e) P is = tt
-
--- and a fault of the database tells of no room
-pub not_told : {T : Type 0} (r : Result T TakeFault) (fault : Fault) (P : Type 0) → IsErrAnd r (λ why. why ≡ take_fault fault) → IfErr r (λ e. e ≡ NotARoom → P)
-not_told (Ok x) fault P is = tt
-not_told (Err e) faults.Memory P is = λ none. cc
-not_told (Err e) faults.Storage P is = λ none. cc
 
 pub none_moved : {T : Type 0} (r : Result T MigrateFault) (fault : Fault) → IsErrAnd r (λ why. why ≡ migrate_fault (take_fault fault)) → IfErr r (λ e. (e ≢ migrated.NotOld) × (e ≢ migrated.NotARoom))
 none_moved (Ok x) fault is = tt

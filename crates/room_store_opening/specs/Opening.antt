@@ -1,49 +1,25 @@
 -- What a file holds that is opened, or moved from the first version to this.
-use Rattle.std.specs.Prelude.{IsTrue, List, OnErr, OnOk, Result, drop, ℕ, ◌↔◌, ◌≡◌, ◌≢◌, ◌∷◌, []}
+use Rattle.std.specs.Prelude.{IsTrue, drop, ℕ, ◌↔◌, ◌≡◌, ◌≢◌}
 use Rattle.sqlite.specs.Effect.{Database}
-use Rattle.sqlite.specs.Held.{Held, state}
-use Rattle.sqlite.specs.State.{HasCleanDisk, State, Survives}
+use Rattle.sqlite.specs.State.{State}
 use Rattle.sqlite_catalog.specs.Change.{KeepsRows}
 use Rattle.sqlite_schema.specs.declared.schema.Schema.{Schema}
 use Rattle.sqlite_trees.specs.Tree.{Trees}
-use Rattle.sqlite_trees.specs.declared.store.Store.{Ghosts}
-use Rattle.room_place.specs.Plans.{Layout}
-use Rattle.room_place.specs.declared.plans.Area.{Area}
-use Rattle.room_types.specs.declared.fleet.Terminal.{Terminal}
-use Rattle.room_types.specs.declared.slices.DivisionRows.{DivisionRows}
-use Rattle.room_model.specs.Enrol.{AreTerminals}
 use Rattle.room_model.specs.Room.{Room}
-use Rattle.room_model.specs.WellFormed.{IsWellFormed}
-use Rattle.room_tables_rows.specs.Areas.{area_row}
-use Rattle.room_tables_rows.specs.Assignments.{assignment_row}
-use Rattle.room_tables_rows.specs.Calls.{call_row}
-use Rattle.room_tables_rows.specs.Divisions.{division_row}
-use Rattle.room_tables_rows.specs.Incidents.{incident_row}
-use Rattle.room_tables_rows.specs.Loans.{loan_row}
-use Rattle.room_tables_rows.specs.Meta.{meta_row}
-use Rattle.room_tables_rows.specs.Offers.{offer_row}
-use Rattle.room_tables_rows.specs.Points.{point_row}
-use Rattle.room_tables_rows.specs.Reports.{report_row}
-use Rattle.room_tables_rows.specs.Terminals.{terminal_row}
-use Rattle.room_tables_rows.specs.Turns.{turn_row}
-use Rattle.room_tables_rows.specs.Vehicles.{vehicle_row}
-use Rattle.room_tables_sql.specs.Outcomes.{ReadsInside}
-use Rattle.room_tables_schema.specs.Schema.{areas_table, assignments_table, calls_table, divisions_table, first_schema, first_tables, first_tables_schema, incidents_table, loans_table, meta_table, offers_table, points_table, reports_table, room_schema, room_tables, tables_schema, terminals_table, turns_table, vehicles_table}
+use Rattle.room_tables_schema.specs.Schema.{first_schema, first_tables, first_tables_schema, room_schema, room_tables, tables_schema}
 use Rattle.room_tables_schema.specs.Versions.{BeginsAsRoom, HasFirstTables}
-use Rattle.room_tables_schema.specs.declared.faults.Fault.{Fault}
-use Rattle.room_tables_schema.specs.declared.faults.Fault.TheVariants as fault
-use Rattle.room_tables.specs.Stands.{House, Stands, StandsFor, StandsInFirst, numbered}
+use Rattle.room_tables.specs.Stands.{House, Stands, StandsInFirst}
 use Rattle.room_tables.specs.Versions.{IsOfVersion}
-use Rattle.room_store_writes.specs.Houses.{house_of}
 use Rattle.room_store_writes.specs.Writing.{IsSettled, Leaves}
 use Rattle.room_store_opening.specs.declared.opening.OpenFault.{OpenFault}
 use Rattle.room_store_opening.specs.declared.opening.OpenFault.TheVariants as opened
 use Rattle.room_store_opening.specs.declared.migrating.MigrateFault.{MigrateFault}
 use Rattle.room_store_opening.specs.declared.migrating.MigrateFault.TheVariants as migrated
-use Rattle.room_store_opening.specs.declared.taking.TakeFault.{TakeFault}
-use Rattle.room_store_opening.specs.declared.taking.TakeFault.TheVariants.{Memory, NotARoom, Storage}
+use Rattle.room_store_judging.specs.declared.faults.TakeFault.{TakeFault}
+use Rattle.room_store_judging.specs.declared.faults.TakeFault.TheVariants.{Memory, NotARoom, Storage}
 use Rattle.room_store_opening.specs.declared.taking.Tables.{Tables}
 use Rattle.room_store_opening.specs.declared.taking.Tables.TheVariants.{First, FirstUnindexed, Unindexed, Whole}
+use Rattle.room_store_judging.specs.Holding.{Holds}
 
 -- The file holds a room of a version, whatever its other tables are.
 abbrev pub IsRoomOf : ℕ → Database → Type 0
@@ -57,27 +33,9 @@ IsOldRoom = IsRoomOf 1
 abbrev pub IsNewRoom : Database → Type 0
 IsNewRoom = IsRoomOf 2
 
--- Some well-formed room with terminals that fit it is stood for.
-pub record Holds (AreFor : House → Room → Type 0) : Type 0 where
-  pub layout : Layout
-  pub terminals : List Terminal
-  pub room : Room
-  pub planned : room.plan ≡ layout.areas
-  pub stands : AreFor (house_of layout terminals) room
-  pub formed : IsWellFormed room
-  pub fits : AreTerminals room terminals
-
--- by the tables of a room
-abbrev pub HoldsRoom : Trees → Type 0
-HoldsRoom trees = Holds (Stands trees)
-
 -- by those of the first version
 abbrev pub HoldsFirstRoom : Trees → Type 0
 HoldsFirstRoom trees = Holds (StandsInFirst trees)
-
--- The tables stand for a well-formed room of this plan, with terminals that fit it.
-abbrev pub IsPlanOf : Trees → Layout → Type 0
-IsPlanOf trees plan = (terminals : List Terminal) × (room : Room) × IsWellFormed room × AreTerminals room terminals × (room.plan ≡ plan.areas) × Stands trees (house_of plan terminals) room
 
 -- Every table that the file had is there, with all the rows that it had.
 pub record KeepsAllRows (before after : Database) : Type 0 where
@@ -155,16 +113,7 @@ pub record Moves (old new : State) : Type 0 where
   pub schema : new.now.schema ≡ room_schema
   pub moved : MayBeMoved old.now new.now.trees
 
--- The call wrote nothing: all is as it was, unless the connection is shut, and a stop leaves what it could before.
-pub record WritesNothing (old new : State) : Type 0 where
-  pub left : HasCleanDisk new → Leaves old new
-  pub survives : Survives old new (λ _. ⊥)
-
 -- ---- how a fault is told
-
-abbrev pub take_fault : Fault → TakeFault
-take_fault fault.Memory = Memory
-take_fault fault.Storage = Storage
 
 abbrev pub open_fault : TakeFault → OpenFault
 open_fault NotARoom = opened.NotARoom
@@ -175,28 +124,3 @@ abbrev pub migrate_fault : TakeFault → MigrateFault
 migrate_fault NotARoom = migrated.NotARoom
 migrate_fault Memory = migrated.Memory
 migrate_fault Storage = migrated.Storage
-
--- the tables of all rows but the plan's and the terminals' hold these rows
-pub record HasRows (trees : Trees) (x : DivisionRows) : Type 0 where
-  pub divisions : StandsFor trees divisions_table division_row x.divisions
-  pub incidents : StandsFor trees incidents_table incident_row x.incidents
-  pub calls : StandsFor trees calls_table call_row x.calls
-  pub vehicles : StandsFor trees vehicles_table vehicle_row x.vehicles
-  pub turns : StandsFor trees turns_table turn_row x.turns
-  pub assignments : StandsFor trees assignments_table assignment_row x.assignments
-  pub points : StandsFor trees points_table point_row x.points
-  pub loans : StandsFor trees loans_table loan_row x.loans
-  pub offers : StandsFor trees offers_table offer_row x.offers
-  pub reports : StandsFor trees reports_table report_row x.reports
-
--- the tables of the plan, the zone and the terminals do
-pub record HasHouse (trees : Trees) (areas : List Area) (zone : List ℕ) (terminals : List Terminal) : Type 0 where
-  pub meta : StandsFor trees meta_table meta_row (zone ∷ [])
-  pub areas_are : StandsFor trees areas_table area_row (numbered 1 areas)
-  pub terminals_are : StandsFor trees terminals_table terminal_row terminals
-
--- The next of some reads in a transaction: one where all before it went well, and none where not. `Is` holds of the tables where it went well.
-pub record ReadsNext {S : Type 0} (g : Ghosts S) (old new : Held S) (before after : Result (Unit {0}) Fault) (Is : Trees → Type 0) : Type 0 where
-  pub found : HasCleanDisk (state g new) → OnOk after (Is (state g old).now.trees)
-  pub reads : OnOk before (ReadsInside g old new after)
-  pub stays : OnErr before ((new ≡ old) × (after ≡ before))

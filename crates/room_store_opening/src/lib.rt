@@ -1,7 +1,6 @@
-//! A file's tables read whole, and told to be a room or none.
+//! A file's tables told to be a room or none; those of version 1 moved to this one.
 #![tactic(auto)]
 
 pub mod migrating;
 pub mod opening;
 pub mod taking;
-pub mod whole;

@@ -4,16 +4,8 @@ ghost use Rattle.sqlite.specs.Held.{state};
 ghost use Rattle.sqlite.specs.State.{HasCleanDisk, Survives};
 ghost use Rattle.room_tables_schema.specs.Versions.{HasFirstTables};
 ghost use Rattle.room_store_writes.specs.Writing.{Leaves};
-ghost use Rattle.room_store_opening.specs.Opening.{
-  HoldsFirstRoom,
-  IsNewRoom,
-  IsOldRoom,
-  IsPlanOf,
-  MayBeMoved,
-  Moves,
-  WritesNothing,
-  schema_of,
-};
+ghost use Rattle.room_store_opening.specs.Opening.{HoldsFirstRoom, IsNewRoom, IsOldRoom, MayBeMoved, Moves, schema_of};
+ghost use Rattle.room_store_judging.specs.Holding.{IsPlanOf, WritesNothing};
 ghost use Rattle.room_store_opening.specs.declared.migrating.MigrateFault.TheVariants.{
   NotARoom,
   NotOld,
@@ -21,8 +13,9 @@ ghost use Rattle.room_store_opening.specs.declared.migrating.MigrateFault.TheVar
 ghost use Rattle.room_store_opening.specs.declared.taking.Tables.TheVariants.{First, FirstUnindexed};
 
 use crate::opening::is_room_of;
-use crate::taking::{Tables, TakeFault, take_in};
+use crate::taking::{Tables, take_in};
 use room_place::plans::Plan;
+use room_store_judging::faults::TakeFault;
 use room_tables_rows::meta::{FIRST_VERSION, VERSION};
 use room_tables_schema::faults::Fault;
 use room_tables_schema::testing::{has_first_tables_alone, is_first};
@@ -50,7 +43,8 @@ pub enum MigrateFault {
 }
 
 impl From<Fault> for MigrateFault {
-    ghost use Rattle.room_store_opening.specs.Opening.{migrate_fault, take_fault};
+    ghost use Rattle.room_store_opening.specs.Opening.{migrate_fault};
+    ghost use Rattle.room_store_judging.specs.Holding.{take_fault};
 
     ghost from_gives = { λ fault why. why ≡ migrate_fault (take_fault fault) };
 

@@ -5,25 +5,17 @@ ghost use Rattle.sqlite.specs.State.{HasCleanDisk, Survives};
 ghost use Rattle.room_tables_schema.specs.Schema.{room_schema};
 ghost use Rattle.room_tables_schema.specs.Versions.{HasTables};
 ghost use Rattle.room_store_writes.specs.Writing.{IsSettled, Leaves};
-ghost use Rattle.room_store_opening.specs.Opening.{
-  HoldsRoom,
-  IsOldRoom,
-  IsPlanOf,
-  IsRoomOf,
-  KeepsFile,
-  MayBeIndexed,
-  Opens,
-  WritesNothing,
-  schema_of,
-};
+ghost use Rattle.room_store_opening.specs.Opening.{IsOldRoom, IsRoomOf, KeepsFile, MayBeIndexed, Opens, schema_of};
+ghost use Rattle.room_store_judging.specs.Holding.{HoldsRoom, IsPlanOf, WritesNothing};
 ghost use Rattle.room_store_opening.specs.declared.opening.OpenFault.TheVariants.{
   NotARoom,
   OldRoom,
 };
 ghost use Rattle.room_store_opening.specs.declared.taking.Tables.TheVariants.{Unindexed, Whole};
 
-use crate::taking::{Tables, TakeFault, take};
+use crate::taking::{Tables, take};
 use room_place::plans::Plan;
+use room_store_judging::faults::TakeFault;
 use room_tables::meta::is_of_version;
 use room_tables_rows::meta::FIRST_VERSION;
 use room_tables_schema::faults::Fault;
@@ -51,7 +43,8 @@ pub enum OpenFault {
 }
 
 impl From<Fault> for OpenFault {
-    ghost use Rattle.room_store_opening.specs.Opening.{open_fault, take_fault};
+    ghost use Rattle.room_store_opening.specs.Opening.{open_fault};
+    ghost use Rattle.room_store_judging.specs.Holding.{take_fault};
 
     ghost from_gives = { λ fault why. why ≡ open_fault (take_fault fault) };
 

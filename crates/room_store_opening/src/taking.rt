@@ -1,37 +1,26 @@
 //! A file's tables taken as a room: what they lack is made, all is read and judged, in one
 //! transaction. It is committed where they hold a well-formed room, and undone where they don't, or
 //! where nothing lacked.
-ghost use Rattle.std.specs.Prelude.{◌≡◌, ◌↔◌, Err, Ok, cond, false, IsOk, IsTrue, IfErr, IfOk, OnErr, OnOk};
+ghost use Rattle.std.specs.Prelude.{◌≡◌, Err, Ok, cond, false, IsOk, IsTrue, IfErr, IfOk, OnErr, OnOk};
 ghost use Rattle.sqlite.specs.Held.{state};
 ghost use Rattle.sqlite.specs.State.{HasCleanDisk, IsRolledBack, Shows, Survives};
 ghost use Rattle.room_tables_sql.specs.Outcomes.{CommitsNothing};
-ghost use Rattle.room_model.specs.Enrol.{AreTerminals};
 ghost use Rattle.room_model.specs.Slices.{room_of};
-ghost use Rattle.room_model.specs.WellFormed.{IsWellFormed};
 ghost use Rattle.room_tables_schema.specs.Connections.{MayWrite};
-ghost use Rattle.room_tables_schema.specs.Schema.{first_schema, first_tables_schema, room_schema};
+ghost use Rattle.room_tables_schema.specs.Schema.{first_schema, first_tables_schema};
 ghost use Rattle.room_tables.specs.Stands.{Stands};
 ghost use Rattle.room_store_writes.specs.Houses.{house_of};
 ghost use Rattle.room_store_writes.specs.Writing.{Leaves};
-ghost use Rattle.room_store_opening.specs.Opening.{
-  Becomes,
-  HoldsBy,
-  HoldsRoom,
-  IsMoved,
-  IsPlanOf,
-  MayBecome,
-  StandsBy,
-  Takes,
-  WritesNothing,
-  schema_of,
-};
-ghost use Rattle.room_store_opening.specs.declared.taking.TakeFault.TheVariants.{Memory, NotARoom};
+ghost use Rattle.room_store_opening.specs.Opening.{Becomes, HoldsBy, IsMoved, MayBecome, StandsBy, Takes, schema_of};
+ghost use Rattle.room_store_judging.specs.Holding.{IsPlanOf, WritesNothing};
+ghost use Rattle.room_store_judging.specs.declared.faults.TakeFault.TheVariants.{NotARoom};
 
 use crate::opening::is_room_of;
-use crate::whole::{RoomFile, read_whole};
 use room_place::plans::Plan;
-use room_store_check::rooms::is_well_formed;
-use room_store_check::terminals::do_terminals_fit;
+use room_store_judging::faults::TakeFault;
+use room_store_judging::sound::sound_plan;
+use room_store_judging::streaming::stream_plan;
+use room_store_judging::whole::{RoomFile, read_whole};
 use room_tables::meta::tell_version;
 use room_tables_rows::meta::VERSION;
 use room_tables_schema::faults::Fault;
@@ -50,28 +39,6 @@ pub enum Tables {
     First,
     /// The first version's tables without these indexes.
     FirstUnindexed,
-}
-
-/// Why a file is not taken as a room.
-#[derive(Clone, Copy)]
-pub enum TakeFault {
-    /// The tables stand for no well-formed room.
-    NotARoom,
-    Memory,
-    Storage,
-}
-
-impl From<Fault> for TakeFault {
-    ghost use Rattle.room_store_opening.specs.Opening.{take_fault};
-
-    ghost from_gives = { λ fault why. why ≡ take_fault fault };
-
-    fn from(fault: Fault) -> TakeFault {
-        match fault {
-            Fault::Memory => TakeFault::Memory,
-            Fault::Storage => TakeFault::Storage,
-        }
-    }
 }
 
 /// The plan of the room that a file's tables hold. A fault leaves the file as it was.
@@ -103,27 +70,8 @@ pub(crate) fn take<S: Alter>(
     };
     // Whole tables are looked at alone: not even nothing is committed, since a commit would write
     // the head of a file that another program kept otherwise.
-    let found = look(alloc, conn);
+    let found = stream_plan(alloc, conn);
     if_open(conn, found)
-}
-
-// The plan of the room that a room's tables hold.
-fn look<S: Alter>(alloc: Global, conn: &mut Connection<S>) -> Result<Plan, TakeFault>
-    requires schema { (state S.Store conn.old).now.schema ≡ room_schema }
-    requires outside { conn.old.in_transaction ≡ false }
-    requires committed { IsTrue (state S.Store conn.old).is_open
-        → (state S.Store conn.old).now ≡ (state S.Store conn.old).committed }
-    ensures room { HasCleanDisk (state S.Store conn.new)
-        → IfOk result (IsPlanOf (state S.Store conn.old).now.trees) }
-    ensures no_room { HasCleanDisk (state S.Store conn.new)
-        → IfErr result (λ e. e ≡ NotARoom → ¬ HoldsRoom (state S.Store conn.old).now.trees) }
-    ensures nothing { WritesNothing (state S.Store conn.old) (state S.Store conn.new) }
-    ensures ended { conn.new.in_transaction ≡ false }
-{
-    match read_file(alloc, conn, Tables::Whole) {
-        Ok(whole) => sound_plan(alloc, whole),
-        Err(fault) => Err(fault),
-    }
 }
 
 /// All that a file's tables hold, read in a transaction that is undone. What they lack is made for
@@ -336,42 +284,4 @@ fn renew<S: Alter>(
 {
     make_last(tx, is_indexed)?;
     tell_version(alloc, tx)
-}
-
-// The plan of a file whose rows make a well-formed room that the terminals fit.
-fn sound_plan(alloc: Global, whole: RoomFile) -> Result<Plan, TakeFault>
-    ensures sound { IfOk result (λ plan. (plan ≡ whole.house.plan)
-        × IsWellFormed (room_of whole.house.plan.areas whole.rows)
-        × AreTerminals (room_of whole.house.plan.areas whole.rows) whole.house.terminals.items) }
-    ensures no_room { IfErr result (λ e. e ≡ NotARoom
-        → ¬ (IsWellFormed (room_of whole.house.plan.areas whole.rows)
-        × AreTerminals (room_of whole.house.plan.areas whole.rows) whole.house.terminals.items)) }
-{
-    let test = is_sound(alloc, &whole);
-    let RoomFile { house, rows } = whole;
-    drop(rows);
-    match test {
-        Ok(true) => Ok(house.plan),
-        Ok(false) => Err(TakeFault::NotARoom),
-        Err(fault) => Err(fault),
-    }
-}
-
-// Whether the rows make a well-formed room that the terminals fit.
-fn is_sound(alloc: Global, whole: &RoomFile) -> Result<bool, TakeFault>
-    ensures test { IfOk result (λ yes. IsTrue yes
-        ↔ (IsWellFormed (room_of whole.now.house.plan.areas whole.now.rows)
-        × AreTerminals
-        (room_of whole.now.house.plan.areas whole.now.rows) whole.now.house.terminals.items)) }
-    ensures memory { IfErr result (λ e. e ≡ Memory) }
-{
-    let plan = &whole.house.plan;
-    let Ok(formed) = is_well_formed(alloc, plan, &whole.rows) else {
-        return Err(TakeFault::Memory);
-    };
-    let Ok(fit) = do_terminals_fit(alloc, plan, &whole.rows, whole.house.terminals.as_slice())
-    else {
-        return Err(TakeFault::Memory);
-    };
-    Ok(formed && fit)
 }

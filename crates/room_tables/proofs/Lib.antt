@@ -15,3 +15,5 @@ pub mod Rowids
 pub mod Unread
 -- want of memory, and a query whose rows are none of what is read
 pub mod Told
+-- a table whose rows are read one at a time
+pub mod Streams

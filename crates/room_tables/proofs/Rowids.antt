@@ -1,7 +1,6 @@
 -- The rowids of all tables, and whether they rise from row to row.
-use Rattle.std.proofs.Common.{◌≡◌, ◌+◌, ◌<◌, ◌≤◌, ℕ, ℤ, List, [], ◌∷◌, map, length, drop, get_or, Option, Some, None, Less, Bool, true, false, IsTrue, refl, sym, ap, subst, ◌∙◌, true≢false, arith}
+use Rattle.std.proofs.Common.{◌≡◌, ◌++◌, ℕ, ℤ, List, [], ◌∷◌, map, Option, Some, None, Less, Bool, true, false, IsTrue, refl, sym, subst, ◌∙◌, true≢false, arith}
 use Rattle.std.proofs.lemmas.Int.{ints}
-use Rattle.std.proofs.lemmas.List.{drop_more, at_drop_all}
 use Rattle.std.specs.Option.{option_partial_cmp}
 use Rattle.std.specs.Ordering.{int_cmp, partial_le}
 use Rattle.std.specs.Prelude.{◌↔◌, ⊤}
@@ -23,7 +22,7 @@ use Rattle.room_tables_sql.specs.Statements.{table_query}
 use Rattle.sqlite.specs.Values.{or_null}
 use Rattle.room_tables_sql.specs.Tables.{AreNumbered, RowidsRise}
 use Rattle.room_tables_schema.specs.Schema.{room_schema, room_tables}
-use Rattle.room_tables.specs.Numbering.{SelectsRowids, SelectEach, AreAllNumbered, integer_in}
+use Rattle.room_tables.specs.Numbering.{SelectsRowids, SelectEach, AreAllNumbered, TellsRise, integer_in, last_rowid}
 use Rattle.room_tables.specs.declared.numbering.TheConstants.{ROWIDS}
 
 -- ---- from row to row
@@ -72,28 +71,41 @@ not_above None (Int n) h int up = absurd (true≢false (sym h))
 not_above (Some m) (Int n) h int up = let below : int_cmp m n ≡ Less = sym (value_cmp-Int m n) ∙ up in grind (arith, ints)
 not_above last v h int up = absurd (true≢false (sym int))
 
-module _ (shown : List Row) (i : ℕ) (last : Option ℤ) (r : Row) (within : i < length shown) (is : r ≡ get_or shown i r) (so_far : RiseFrom (or_null Int last) (drop i shown) ↔ RowidsRise shown) where
-  from_here : drop i shown ≡ r ∷ drop (i + 1) shown
-  from_here = drop_more shown i r within ∙ ap (λ x. x ∷ drop (i + 1) shown) (sym is)
+-- ---- one rowid more
 
-  -- a row whose rowid is above the last leaves the question to the rows after it
-  pub rise_after : is_at_most (integer_in (rowid r)) last ≡ false → RiseFrom (or_null Int (integer_in (rowid r))) (drop (i + 1) shown) ↔ RowidsRise shown
-  rise_after h =
-      let up = above last (rowid r) h in
-      rw (up.2) (
-        λ k. so_far.0 (subst (RiseFrom (or_null Int last)) (sym from_here) (up.0, up.1, k)),
-        λ k. let all : RiseFrom (or_null Int last) (r ∷ drop (i + 1) shown) = subst (RiseFrom (or_null Int last)) from_here (so_far.1 k) in all.2,
-      )
+end_more : (v : Value) (rows : List Row) (r : Row) → last_rowid v (rows ++ r ∷ []) ≡ rowid r
+end_more v [] r = refl
+end_more v (x ∷ rows) r = end_more (rowid x) rows r
 
-  -- and any other row answers it
-  pub rise_ends : is_at_most (integer_in (rowid r)) last ≡ true → RowidsRise shown → ⊥
-  rise_ends h k =
-      let all : RiseFrom (or_null Int last) (r ∷ drop (i + 1) shown) = subst (RiseFrom (or_null Int last)) from_here (so_far.1 k) in
-      not_above last (rowid r) h all.0 all.1
+rise_more : (v : Value) (rows : List Row) (r : Row) → RiseFrom v rows → is_int (rowid r) ≡ true → value_cmp (last_rowid v rows) (rowid r) ≡ Less → RiseFrom v (rows ++ r ∷ [])
+rise_more v [] r h int up = (int, up, tt)
+rise_more v (x ∷ rows) r h int up = (h.0, h.1, rise_more (rowid x) rows r h.2 int up)
 
--- past the last row they have risen
-pub rise_through : (shown : List Row) (i : ℕ) (last : Option ℤ) → length shown ≤ i → RiseFrom (or_null Int last) (drop i shown) ↔ RowidsRise shown → RowidsRise shown
-rise_through shown i last past so_far = let none = at_drop_all (λ l. l) shown i past in so_far.0 (subst (RiseFrom (or_null Int last)) (sym none) tt)
+rise_less : (v : Value) (rows : List Row) (r : Row) → RiseFrom v (rows ++ r ∷ []) → RiseFrom v rows × (is_int (rowid r) ≡ true) × (value_cmp (last_rowid v rows) (rowid r) ≡ Less)
+rise_less v [] r h = (tt, h.0, h.1)
+rise_less v (x ∷ rows) r h = let rest = rise_less (rowid x) rows r h.2 in ((h.0, h.1, rest.0), rest.1, rest.2)
+
+module _ (shown : List Row) (r : Row) where
+  -- a rowid that is not at most the last goes on rising
+  pub goes_on : (rise : Bool) (last : Option ℤ) → TellsRise shown rise last → is_at_most (integer_in (rowid r)) last ≡ false → TellsRise (shown ++ r ∷ []) rise (integer_in (rowid r))
+  goes_on true last h up =
+      let is = above last (rowid r) up in
+      let before = (rise_from_Null shown).1 h.0 in
+      let rest = rise_more Null shown r before is.0 (subst (λ v. value_cmp v (rowid r) ≡ Less) h.1 is.1) in
+      ((rise_from_Null (shown ++ r ∷ [])).0 rest, is.2 ∙ sym (end_more Null shown r))
+  goes_on false last h up = λ all. h ((rise_from_Null shown).0 (rise_less Null shown r ((rise_from_Null (shown ++ r ∷ [])).1 all)).0)
+
+  -- and one that is ends it
+  pub ends : (rise : Bool) (last : Option ℤ) → TellsRise shown rise last → is_at_most (integer_in (rowid r)) last ≡ true → RowidsRise (shown ++ r ∷ []) → ⊥
+  ends true last h down all =
+      let rest = rise_less Null shown r ((rise_from_Null (shown ++ r ∷ [])).1 all) in
+      not_above last (rowid r) down rest.1 (subst (λ v. value_cmp v (rowid r) ≡ Less) (sym h.1) rest.2)
+  ends false last h down all = h ((rise_from_Null shown).0 (rise_less Null shown r ((rise_from_Null (shown ++ r ∷ [])).1 all)).0)
+
+-- whether all rise
+pub tells : (shown : List Row) (rise : Bool) (last : Option ℤ) → TellsRise shown rise last → IsTrue rise ↔ RowidsRise shown
+tells shown true last h = (λ yes. h.0, λ all. refl)
+tells shown false last h = (λ yes. absurd (true≢false (sym yes)), λ all. absurd (h all))
 
 -- ---- from table to table
 

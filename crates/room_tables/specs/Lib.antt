@@ -5,6 +5,8 @@ pub mod Numbering
 pub mod Finding
 -- what a fault tells
 pub mod Failures
+-- rows that are read one at a time
+pub mod Streams
 -- a statement that ran
 pub mod Running
 pub use Rattle.room_tables_rows.specs.Stands

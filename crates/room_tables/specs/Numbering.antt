@@ -1,18 +1,30 @@
 -- Whether the tables of a room number their rows.
-use Rattle.std.specs.Prelude.{ℕ, ℤ, List, [], ◌∷◌, Option, Some, None, ⊤}
+use Rattle.std.specs.Prelude.{◌≡◌, ℕ, ℤ, Bool, true, false, List, [], ◌∷◌, Option, Some, None, ⊤}
 use Rattle.std.specs.List.{AllByRecursion}
 use Rattle.sqlite_value.specs.declared.value.Value.{Value}
-use Rattle.sqlite_value.specs.declared.value.Value.TheVariants.{Int}
+use Rattle.sqlite_value.specs.declared.value.Value.TheVariants.{Int, Null}
 use Rattle.sqlite_schema.specs.declared.schema.Table.{Table}
-use Rattle.sqlite_trees.specs.Tree.{Trees}
+use Rattle.sqlite_value.specs.Order.{Row}
+use Rattle.sqlite.specs.Values.{or_null}
+use Rattle.sqlite_trees.specs.Tree.{Trees, rowid}
 use Rattle.room_tables_sql.specs.Statements.{Selects}
-use Rattle.room_tables_sql.specs.Tables.{AreNumbered}
+use Rattle.room_tables_sql.specs.Tables.{AreNumbered, RowidsRise}
 use Rattle.room_tables_schema.specs.Schema.{room_schema, room_tables}
 
 -- the integer that a value is
 abbrev pub integer_in : Value → Option ℤ
 integer_in (Int n) = Some n
 integer_in _ = None
+
+-- the rowid of the last row, or this value where there is none
+abbrev pub last_rowid : Value → List Row → Value
+last_rowid v [] = v
+last_rowid v (r ∷ rows) = last_rowid (rowid r) rows
+
+-- what is told of the rowids that were shown so far: they rise, and which was the last; or they don't
+abbrev pub TellsRise : List Row → Bool → Option ℤ → Type 0
+TellsRise shown true last = RowidsRise shown × (or_null Int last ≡ last_rowid Null shown)
+TellsRise shown false last = ¬ (RowidsRise shown)
 
 -- the text selects the rowids of a tree, in their order
 abbrev pub SelectsRowids : List ℕ → ℕ → Type 0

@@ -21,6 +21,7 @@ pub mod points;
 mod reading;
 pub mod reports;
 mod running;
+pub mod streaming;
 pub mod tables;
 pub mod terminals;
 pub mod turns;

@@ -1,19 +1,21 @@
 //! Whether the tables of a file number their rows. Tables that this program made do; of a file from
 //! elsewhere no clause says so, and it is tested.
 
-ghost use Rattle.std.specs.Prelude.{◌≡◌, ◌↔◌, ℕ, false, map, IsTrue, IfOk};
+ghost use Rattle.std.specs.Prelude.{◌≡◌, ◌↔◌, ℕ, None, map, true, IsTrue, IfOk};
+ghost use Rattle.sqlite_value.specs.declared.value.Value.TheVariants.{Null};
 ghost use Rattle.sqlite_trees.specs.Tree.{rowid};
 ghost use Rattle.sqlite.specs.Held.{state};
 ghost use Rattle.sqlite.specs.State.{HasCleanDisk};
 ghost use Rattle.room_tables_sql.specs.Tables.{AreNumbered, RowidsRise};
-ghost use Rattle.room_tables_sql.specs.Outcomes.{ReadsInside};
+ghost use Rattle.room_tables_sql.specs.Outcomes.{ReadsInside, ReadsOnly};
 ghost use Rattle.room_tables_schema.specs.Schema.{room_tables};
 ghost use Rattle.room_tables_schema.specs.Connections.{HasRoomSchema};
-ghost use Rattle.room_tables.specs.Numbering.{SelectsRowids, SelectEach, AreAllNumbered, integer_in};
+ghost use Rattle.room_tables.specs.Numbering.{SelectsRowids, SelectEach, AreAllNumbered, TellsRise, integer_in};
 
 use room_tables_schema::faults::Fault;
 use room_tables_sql::reading::select_inside;
-use sqlite::{Alter, Row, Transaction};
+use room_tables_sql::streaming::{Taker, stream};
+use sqlite::{Alter, Connection, Row, Transaction};
 use sqlite_value::value::ValueRef;
 
 // The rowids of each table in their order, the tables in the order in which they are made.
@@ -43,6 +45,47 @@ pub fn are_numbered<S: Alter>(tx: &mut Transaction<'_, S>) -> Result<bool, Fault
     ensures same_reference { tx.new.conn.ghost_name ≡ tx.old.conn.ghost_name }
 {
     are_all_numbered(tx, &ROWIDS)
+}
+
+/// The same outside a transaction, with the rowids read one at a time.
+pub fn are_numbered_streamed<S: Alter>(conn: &mut Connection<S>) -> Result<bool, Fault>
+    requires room { HasRoomSchema S.Store conn.old }
+    ensures numbered { HasCleanDisk (state S.Store conn.new)
+        → IfOk result (λ yes. IsTrue yes ↔ AreAllNumbered (state S.Store conn.old).now.trees) }
+    ensures reads { ReadsOnly S.Store conn.old conn.new result }
+{
+    are_all_streamed(conn, &ROWIDS)
+}
+
+// Whether every table numbers its rows, by the texts that select their rowids.
+fn are_all_streamed<S: Alter>(conn: &mut Connection<S>, texts: &[&str]) -> Result<bool, Fault>
+    requires room { HasRoomSchema S.Store conn.old }
+    requires texts { SelectEach (map (λ text. text.now) texts.now) room_tables }
+    ensures numbered { HasCleanDisk (state S.Store conn.new)
+        → IfOk result (λ yes. IsTrue yes ↔ AreAllNumbered (state S.Store conn.old).now.trees) }
+    ensures reads { ReadsOnly S.Store conn.old conn.new result }
+{
+    for text in texts {
+        if !is_streamed_numbered(conn, text)? {
+            return Ok(false);
+        }
+    }
+    Ok(true)
+}
+
+// Whether a table numbers its rows, by the text that selects its rowids.
+fn is_streamed_numbered<S: Alter>(conn: &mut Connection<S>, text: &str) -> Result<bool, Fault>
+    requires room { HasRoomSchema S.Store conn.old }
+    requires selects { HasCleanDisk (state S.Store conn.old) → (tree : ℕ)
+        × SelectsRowids text.now tree }
+    ensures numbered { HasCleanDisk (state S.Store conn.new)
+        → IfOk result (λ yes. (tree : ℕ) → SelectsRowids text.now tree
+        → (IsTrue yes ↔ AreNumbered ((state S.Store conn.old).now.trees tree))) }
+    ensures reads { ReadsOnly S.Store conn.old conn.new result }
+{
+    let mut rowids = Rowids::new();
+    stream(conn, text, &[], &mut rowids)?;
+    Ok(rowids.rise)
 }
 
 // Whether every table numbers its rows, by the texts that select their rowids.
@@ -82,15 +125,47 @@ fn is_numbered<S: Alter>(tx: &mut Transaction<'_, S>, text: &str) -> Result<bool
 fn rise(shown: &[Row]) -> bool
     ensures { IsTrue result ↔ RowidsRise shown.now }
 {
-    let mut last = None;
+    let mut rowids = Rowids::new();
     for row in shown {
-        let id = rowid_of(row);
-        if id <= last {
-            return false;
-        }
-        last = id;
+        rowids.take(row);
     }
-    true
+    rowids.rise
+}
+
+// What the rowids that were shown so far tell: whether they are integers, each above the one before
+// it, and which was the last.
+#[derive(Drop)]
+struct Rowids {
+    rise: bool,
+    last: Option<i64>,
+}
+
+impl Rowids {
+    // Of none yet.
+    fn new() -> Rowids
+        ensures rise { result.rise ≡ true }
+        ensures none { result.last ≡ None }
+    {
+        Rowids {
+            rise: true,
+            last: None,
+        }
+    }
+}
+
+impl Taker for Rowids {
+    ghost takes = { λ first shown now. first.rise ≡ true → first.last ≡ None
+        → TellsRise shown now.rise now.last };
+
+    fn take(&mut self, row: &Row) {
+        let id = rowid_of(row);
+        if id <= self.last {
+            self.rise = false;
+        }
+        self.last = id;
+    }
+
+    ghost begins = { λ x rise none. rw (rise, none) ((tt, tt), λ _. Null) };
 }
 
 // The rowid, which is shown first; none where it is no integer.

@@ -1,27 +1,30 @@
 //! Selections, read as rows of the room.
 
-ghost use Rattle.std.specs.Prelude.{◌≡◌, ◌++◌, ◌⊎◌, [], ◌∷◌, map, IsTrue, IfOk, IfErr};
+ghost use Rattle.std.specs.Prelude.{◌≡◌, map, IfOk, IfErr};
 ghost use Rattle.sqlite.specs.Given.{IsPlain};
 ghost use Rattle.sqlite.specs.Held.{state};
 ghost use Rattle.sqlite.specs.Listing.{understood};
 ghost use Rattle.sqlite.specs.State.{HasCleanDisk, Shown};
 ghost use Rattle.sqlite.specs.Values.{bound};
 ghost use Rattle.room_tables_sql.specs.Outcomes.{ReadsOnly};
-ghost use Rattle.room_types_keyed.specs.Keyed.{IsKeyed, put_row};
+ghost use Rattle.room_types_keyed.specs.Keyed.{IsKeyed};
 ghost use Rattle.room_tables_rows.specs.Finds.{listed};
 ghost use Rattle.room_tables.specs.Failures.{AreMoreThanOne, AreNoRows, IfStorage, TellsWhy};
 
+use crate::streaming::Reader;
+use crate::tables::Table;
 use room_tables_rows::columns::Stored;
 use room_tables_schema::faults::Fault;
 use room_tables_sql::reading::select;
-use room_types::rows::{Row, Rows};
+use room_tables_sql::streaming::Taker;
+use room_types::rows::Rows;
 use sqlite::{Alter, Connection};
 use sqlite_value::value::ValueRef;
 use std::alloc::Global;
 
 /// The rows that a selection shows. A row that is none of its table is `Storage`, and so are rows
 /// whose keys don't rise.
-pub(crate) fn load<X: Stored + Row, S: Alter>(
+pub(crate) fn load<X: Table, S: Alter>(
     alloc: Global,
     conn: &mut Connection<S>,
     text: &str,
@@ -61,40 +64,17 @@ pub(crate) fn find<X: Stored, S: Alter>(
 }
 
 /// The rows that stand in columns, in the order of their keys.
-pub(crate) fn rows_of<X: Stored + Row>(
-    alloc: Global,
-    shown: &[sqlite::Row],
-) -> Result<Rows<X>, Fault>
+pub(crate) fn rows_of<X: Table>(alloc: Global, shown: &[sqlite::Row]) -> Result<Rows<X>, Fault>
     ensures shown { IfOk result (λ rows. map X.cells rows ≡ shown.now) }
     ensures keyed { IfOk result (IsKeyed X.Key.cmp X.key_of) }
     ensures why { IfErr result (IfStorage
         (AreNoRows X.is_row X.Key.cmp X.key_of X.cells shown.now)) }
 {
-    let mut rows = Rows::new(alloc);
+    let mut reader = Reader::new(Rows::new(alloc));
     for columns in shown {
-        let Some(row) = X::read(columns) else {
-            return Err(Fault::Storage);
-        };
-        if !is_next(&rows, &row) {
-            return Err(Fault::Storage);
-        }
-        let Ok(_) = rows.put(row) else {
-            return Err(Fault::Memory);
-        };
+        reader.take(columns);
     }
-    Ok(rows)
-}
-
-// Whether the key of a row is above those of these.
-fn is_next<X: Row>(rows: &Rows<X>, row: &X) -> bool
-    ensures next { IsTrue result
-        → put_row X.Key.cmp X.key_of rows.now row.now ≡ rows.now ++ row.now ∷ [] }
-    ensures not { IsTrue result ⊎ ¬ (IsKeyed X.Key.cmp X.key_of (rows.now ++ row.now ∷ [])) }
-{
-    match rows.as_slice().last() {
-        Some(last) => last.key().cmp(&row.key()).is_lt(),
-        None => true,
-    }
+    reader.end()
 }
 
 /// The one row that stands in columns, or none.

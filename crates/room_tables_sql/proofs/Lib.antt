@@ -24,3 +24,5 @@ pub mod WriteLaws
 pub mod TypedRows
 pub mod TypedTables
 pub mod Openings
+-- rows that are read one at a time
+pub mod Streams

@@ -9,3 +9,5 @@ pub mod Outcomes
 pub mod Typed
 -- what the statements make of what a table stands for
 pub mod Laws
+-- what is made of rows that are shown one at a time
+pub mod Streams

@@ -21,4 +21,5 @@
 
 pub mod laws;
 pub mod reading;
+pub mod streaming;
 pub mod writing;

@@ -3,4 +3,4 @@ use Rattle.room_store_check.specs.Faults.{first_of, told_fault}
 use Rattle.room_store_check.proofs.openings.first_untold.Given as goal
 
 abbrev pub invariant-loop-incident : goal.invariant-loop-incident
-invariant-loop-incident l = first_of (told_fault l.told) l.incidents ≡ first_of (told_fault l.told) (drop l.incident-index l.incidents)
+invariant-loop-incident l = first_of (told_fault l.openings) l.incidents ≡ first_of (told_fault l.openings) (drop l.incident-index l.incidents)

@@ -7,8 +7,10 @@ use Rattle.sqlite.proofs.StateLemmas.{survives_then}
 use Rattle.room_tables_sql.proofs.ReadLaws.{any_err}
 use Rattle.room_tables_schema.specs.Versions.{HasFirstTables}
 use Rattle.room_store_writes.proofs.CommitLaws.{on_ok, ok_then}
-use Rattle.room_store_opening.proofs.FileLaws.{left_left, looked_on, moves_before, nothing_then}
-use Rattle.room_store_opening.proofs.TakeLaws.{any_fault, both_errs, first_is_old, none_found, none_moved, none_ok, survives_less}
+use Rattle.room_store_opening.proofs.FileLaws.{left_left, looked_on, moves_before}
+use Rattle.room_store_judging.proofs.StreamLaws.{nothing_then}
+use Rattle.room_store_opening.proofs.TakeLaws.{any_fault, both_errs, first_is_old, none_moved, survives_less}
+use Rattle.room_store_judging.proofs.Findings.{none_found, none_ok}
 use Rattle.room_store_opening.specs.Opening.{HoldsFirstRoom, IsNewRoom, IsOldRoom, MayBeMoved}
 use Rattle.room_store_opening.proofs.migrating.migrate_in.Goals as goal
 

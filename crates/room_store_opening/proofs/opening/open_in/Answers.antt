@@ -7,9 +7,12 @@ use Rattle.sqlite.proofs.StateLemmas.{survives_then}
 use Rattle.room_tables_sql.proofs.ReadLaws.{any_err}
 use Rattle.room_tables_schema.specs.Versions.{HasTables}
 use Rattle.room_store_writes.proofs.CommitLaws.{on_ok, ok_then}
-use Rattle.room_store_opening.proofs.FileLaws.{left_left, left_then_opens, nothing_then}
-use Rattle.room_store_opening.proofs.TakeLaws.{any_fault, both_errs, none_found, none_ok, none_opened, survives_less}
-use Rattle.room_store_opening.specs.Opening.{HoldsRoom, IsOldRoom, MayBeIndexed}
+use Rattle.room_store_opening.proofs.FileLaws.{left_left, left_then_opens}
+use Rattle.room_store_judging.proofs.StreamLaws.{nothing_then}
+use Rattle.room_store_opening.proofs.TakeLaws.{any_fault, both_errs, none_opened, survives_less}
+use Rattle.room_store_judging.proofs.Findings.{none_found, none_ok}
+use Rattle.room_store_opening.specs.Opening.{IsOldRoom, MayBeIndexed}
+use Rattle.room_store_judging.specs.Holding.{HoldsRoom}
 use Rattle.room_store_opening.proofs.opening.open_in.Goals as goal
 
 pub returns-clause-schema : goal.returns-clause-schema

@@ -3,7 +3,7 @@ use Rattle.std.proofs.lemmas.Result.{IfErr-weaker, IfOk-weaker}
 use Rattle.sqlite.specs.Held.{state}
 use Rattle.room_model.specs.Slices.{room_of}
 use Rattle.room_store_writes.proofs.CommitLaws.{on_ok}
-use Rattle.room_store_opening.proofs.FileLaws.{held_is}
+use Rattle.room_store_judging.proofs.Findings.{held_is}
 use Rattle.room_store_opening.proofs.TakeLaws.{becomes_holds}
 use Rattle.room_store_opening.proofs.taking.find_room.Goals as goal
 

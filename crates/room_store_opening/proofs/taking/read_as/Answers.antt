@@ -8,7 +8,8 @@ use Rattle.room_tables.proofs.RoomReads.{kept}
 use Rattle.room_tables_sql.proofs.WriteLaws.{commits_more}
 use Rattle.room_store_writes.proofs.CommitLaws.{ok_then}
 use Rattle.room_store_writes.specs.Houses.{house_of}
-use Rattle.room_store_opening.proofs.TakeLaws.{becomes_holds, may_write_on, ok_holds, reads_commit}
+use Rattle.room_store_opening.proofs.TakeLaws.{becomes_holds, may_write_on, ok_holds}
+use Rattle.room_store_judging.proofs.StreamLaws.{reads_commit}
 use Rattle.room_store_opening.specs.Opening.{Becomes}
 use Rattle.room_store_opening.proofs.taking.read_as.Goals as goal
 

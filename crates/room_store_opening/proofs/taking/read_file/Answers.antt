@@ -8,8 +8,9 @@ use Rattle.room_tables_sql.proofs.ReadLaws.{still}
 use Rattle.room_store_writes.proofs.CommitLaws.{undone_leaves}
 use Rattle.room_store_writes.specs.Houses.{house_of}
 use Rattle.room_store_opening.proofs.TakeLaws.{becomes_back, ok_holds}
-use Rattle.room_store_opening.specs.Opening.{HoldsBy, StandsBy, WritesNothing}
-use Rattle.room_store_opening.specs.declared.taking.TakeFault.TheVariants.{NotARoom}
+use Rattle.room_store_opening.specs.Opening.{HoldsBy, StandsBy}
+use Rattle.room_store_judging.specs.Holding.{WritesNothing}
+use Rattle.room_store_judging.specs.declared.faults.TakeFault.TheVariants.{NotARoom}
 use Rattle.room_store_opening.proofs.taking.read_file.Goals as goal
 
 pub returns-clause-stands : goal.returns-clause-stands

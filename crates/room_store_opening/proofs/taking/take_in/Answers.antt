@@ -7,8 +7,9 @@ use Rattle.sqlite.specs.State.{HasCleanDisk, Survives}
 use Rattle.sqlite_rules.proofs.ViewLemmas.{on_ok_both}
 use Rattle.room_store_writes.proofs.CommitLaws.{ended_survives, ok_both, ok_then, undone_leaves, when_ok}
 use Rattle.room_store_opening.proofs.TakeLaws.{both_errs, found_holds, found_ok, may_become, refused, survives_less, under}
-use Rattle.room_store_opening.specs.Opening.{Becomes, HoldsBy, IsPlanOf, MayBecome, Takes, WritesNothing}
-use Rattle.room_store_opening.specs.declared.taking.TakeFault.TheVariants.{NotARoom}
+use Rattle.room_store_opening.specs.Opening.{Becomes, HoldsBy, MayBecome, Takes}
+use Rattle.room_store_judging.specs.Holding.{IsPlanOf, WritesNothing}
+use Rattle.room_store_judging.specs.declared.faults.TakeFault.TheVariants.{NotARoom}
 use Rattle.room_store_opening.proofs.taking.take_in.Goals as goal
 
 pub finish-requires : goal.finish-requires

@@ -1,23 +1,19 @@
-use Rattle.std.proofs.Common.{◌≡◌, true, false, sym, ◌∙◌, refl, true≢false}
-use Rattle.sqlite_trees.specs.Tree.{rowid}
-use Rattle.room_tables.specs.Numbering.{integer_in}
-use Rattle.room_tables.proofs.Rowids.{is_at_most, rise_from_Null, rise_after, rise_ends, rise_through}
+use Rattle.std.proofs.Common.{◌∙◌, ◌++◌, ◌∷◌, [], None, true, ap, refl, subst, sym, take, take_all}
+use Rattle.std.proofs.lemmas.List.{take_more}
+use Rattle.room_tables.specs.Numbering.{TellsRise}
+use Rattle.room_tables.proofs.Rowids.{tells}
 use Rattle.room_tables.proofs.numbering.rise.Goals as goal
-
-pub loop-row-init : goal.loop-row-init
-loop-row-init c = rise_from_Null c.args.shown.now
 
 pub loop-row-preserved : goal.loop-row-preserved
 loop-row-preserved c =
-    let above : is_at_most (integer_in (rowid c.row-item.result)) c.loop-row.last ≡ false = rw c.rowid_of-id.ensures at (sym c.le.ensures ∙ c.if-le.false) in
-    rw c.rowid_of-id.ensures (rise_after c.args.shown.now c.loop-row.row-index c.loop-row.last c.row-item.result c.loop-row-test.true c.row-item.is c.loop-row.invariant above)
-
-pub returns-then-le : goal.returns-then-le
-returns-then-le c =
-    let below : is_at_most (integer_in (rowid c.row-item.result)) c.loop-row.last ≡ true = rw c.rowid_of-id.ensures at (sym c.le.ensures ∙ c.if-le.true) in (
-      λ no. absurd (true≢false (sym no)),
-      λ rise. absurd (rise_ends c.args.shown.now c.loop-row.row-index c.loop-row.last c.row-item.result c.loop-row-test.true c.row-item.is c.loop-row.invariant below rise),
-    )
+    let shown = c.args.shown.now in
+    let i = c.loop-row.row-index in
+    let row = c.row-item.result in
+    let new = c.take.new.self in
+    let more = take_more shown i row c.loop-row-test.true ∙ ap (λ r. take i shown ++ r ∷ []) (sym c.row-item.is) in
+    subst (λ rows. TellsRise rows new.rise new.last) (sym more) (c.take.ensures (record { rise = true; last = None }) (take i shown) (λ rise none. c.loop-row.invariant) refl refl)
 
 pub returns : goal.returns
-returns c = (λ yes. rise_through c.args.shown.now c.loop-row.row-index c.loop-row.last c.loop-row-test.false c.loop-row.invariant, λ rise. refl)
+returns c =
+    let all = take_all c.loop-row.row-index c.args.shown.now c.loop-row-test.false in
+    tells c.args.shown.now c.loop-row.rowids.rise c.loop-row.rowids.last (subst (λ rows. TellsRise rows c.loop-row.rowids.rise c.loop-row.rowids.last) all c.loop-row.invariant)

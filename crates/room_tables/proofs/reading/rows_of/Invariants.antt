@@ -1,9 +1,6 @@
-use Rattle.std.proofs.Common.{◌≡◌, map, take}
-use Rattle.room_types_keyed.specs.Keyed.{IsKeyed}
+use Rattle.std.proofs.Common.{◌≡◌, [], take}
+use Rattle.room_tables.specs.Streams.{AreTaken}
 use Rattle.room_tables.proofs.reading.rows_of.Given as goal
 
 abbrev pub invariant-loop-columns : goal.invariant-loop-columns
-invariant-loop-columns g l = record {
-  shown : map g.X.Stored.cells l.rows ≡ take l.columns-index l.shown;
-  keyed : IsKeyed g.X.Key.Ord.cmp g.X.Row.key_of l.rows;
-}
+invariant-loop-columns g l = AreTaken g.X.Stored.is_row g.X.Key.Ord.cmp g.X.Row.key_of g.X.Stored.cells (λ first rows now. first ≡ [] → now ≡ rows) [] (take l.columns-index l.shown) l.reader.taker l.reader.last l.reader.taken

@@ -1,0 +1,61 @@
+-- What was found of a file, and what a fault tells of it.
+use Rattle.std.proofs.Common.{Err, List, Ok, Result, ap, subst, ◌≡◌}
+use Rattle.std.specs.Prelude.{IfErr, IfOk, OnOk}
+use Rattle.std.specs.Result.{IsErr, IsErrAnd}
+use Rattle.sqlite_trees.specs.Tree.{Trees}
+use Rattle.room_model.specs.Room.{Room}
+use Rattle.room_tables_schema.specs.declared.faults.Fault.{Fault}
+use Rattle.room_tables_schema.specs.declared.faults.Fault.TheVariants as faults
+use Rattle.room_tables.specs.Stands.{House, Stands}
+use Rattle.room_store_judging.specs.Holding.{HasHouse, HasRows, HoldsRoom, take_fault}
+use Rattle.room_store_judging.specs.declared.faults.TakeFault.{TakeFault}
+use Rattle.room_store_judging.specs.declared.faults.TakeFault.TheVariants.{NotARoom}
+use Rattle.room_place.specs.Plans.{Layout}
+use Rattle.room_types.specs.declared.fleet.Terminal.{Terminal}
+use Rattle.room_types.specs.declared.slices.DivisionRows.{DivisionRows}
+use Rattle.room_model.specs.Enrol.{AreTerminals}
+use Rattle.room_model.specs.Slices.{room_of}
+use Rattle.room_model.specs.WellFormed.{IsWellFormed}
+use Rattle.room_tables_rows.proofs.OneRoom.{one_house, one_room}
+use Rattle.room_store_writes.specs.Houses.{house_of}
+
+-- what failed gave nothing
+pub none_found : {T E : Type 0} (r : Result T E) (P : T → Type 0) → IsErr r → IfOk r P
+none_found (Ok x) P is = absurd cc
+none_found (Err e) P is = tt
+
+pub none_ok : {T E : Type 0} (r : Result T E) (P : Type 0) → IsErr r → OnOk r P
+none_ok (Ok x) P is = absurd cc
+none_ok (Err e) P is = tt
+
+-- and a fault of the database tells of no room
+pub not_told : {T : Type 0} (r : Result T TakeFault) (fault : Fault) (P : Type 0) → IsErrAnd r (λ why. why ≡ take_fault fault) → IfErr r (λ e. e ≡ NotARoom → P)
+not_told (Ok x) fault P is = tt
+not_told (Err e) faults.Memory P is = λ none. cc
+not_told (Err e) faults.Storage P is = λ none. cc
+
+-- a room that some tables hold is the one that they were read as
+pub held_is : (trees : Trees) (plan : Layout) (terminals : List Terminal) (room : Room) → Stands trees (house_of plan terminals) room → HoldsRoom trees → IsWellFormed room × AreTerminals room terminals
+held_is trees plan terminals room stands h =
+    let same = one_room trees (house_of h.layout h.terminals) (house_of plan terminals) h.room room h.stands stands in
+    let house = one_house trees (house_of h.layout h.terminals) (house_of plan terminals) h.room room h.stands stands in
+    let theirs : h.terminals ≡ terminals = ap (λ (x : House). x.terminals) house in
+    (subst IsWellFormed same h.formed, subst (λ r. AreTerminals r terminals) same (subst (AreTerminals h.room) theirs h.fits))
+
+-- a house and rows that tables hold are the room that the tables stand for
+pub stands_with : (trees : Trees) (layout : Layout) (terminals : List Terminal) (x : DivisionRows) → HasHouse trees layout.areas layout.zone terminals → HasRows trees x → Stands trees (house_of layout terminals) (room_of layout.areas x)
+stands_with trees layout terminals x house rows = record {
+  meta = house.meta;
+  areas = house.areas_are;
+  terminals = house.terminals_are;
+  divisions = rows.divisions;
+  incidents = rows.incidents;
+  calls = rows.calls;
+  vehicles = rows.vehicles;
+  turns = rows.turns;
+  assignments = rows.assignments;
+  points = rows.points;
+  loans = rows.loans;
+  reports = rows.reports;
+  offers = rows.offers;
+}

@@ -1,0 +1,49 @@
+use Rattle.std.proofs.Common.{arith, rules, ◌≡◌}
+use Rattle.std.specs.Prelude.{IfErr, IfOk}
+use Rattle.sqlite.specs.Held.{state}
+use Rattle.sqlite.specs.State.{HasCleanDisk}
+use Rattle.sqlite.proofs.Callers.{survives_begin}
+use Rattle.room_tables.specs.Numbering.{AreAllNumbered}
+use Rattle.room_tables_sql.proofs.ReadLaws.{still}
+use Rattle.room_store_writes.proofs.CommitLaws.{undone_leaves}
+use Rattle.room_store_judging.proofs.StreamLaws.{reads_commit}
+use Rattle.room_store_judging.specs.Holding.{HasHouse, HoldsRoom, WritesNothing}
+use Rattle.room_store_judging.specs.declared.faults.TakeFault.TheVariants.{NotARoom}
+use Rattle.room_store_judging.proofs.streaming.house_of_file.Goals as goal
+
+pub returns-clause-found : goal.returns-clause-found
+returns-clause-found g c =
+    let old = state g.S.Store c.args.conn.now in
+    let last = state g.S.Store c.read_house-house.new.tx.conn.now in
+    let end = state g.S.Store c.rollback.new.self.0 in
+    let begun = c.transaction-tx.ensures.begun in
+    let all : HasCleanDisk end → IfOk c.read_house-house.result (λ x. AreAllNumbered old.now.trees → HasHouse old.now.trees x.plan.areas x.plan.zone x.terminals.items) = λ clean.
+    let early : HasCleanDisk last = omega (arith, c.rollback.ensures.survives.clean) in
+    rw begun at c.read_house-house.ensures.found early in
+    search rules
+
+pub returns-clause-no_room : goal.returns-clause-no_room
+returns-clause-no_room g c =
+    let old = state g.S.Store c.args.conn.now in
+    let last = state g.S.Store c.read_house-house.new.tx.conn.now in
+    let end = state g.S.Store c.rollback.new.self.0 in
+    let begun = c.transaction-tx.ensures.begun in
+    let all : HasCleanDisk end → IfErr c.read_house-house.result (λ e. e ≡ NotARoom → ¬ HoldsRoom old.now.trees) = λ clean.
+    let early : HasCleanDisk last = omega (arith, c.rollback.ensures.survives.clean) in
+    rw begun at c.read_house-house.ensures.no_room early in
+    search rules
+
+pub returns-clause-nothing : goal.returns-clause-nothing
+returns-clause-nothing g c =
+    let old = c.args.conn.now in
+    let last = c.read_house-house.new.tx.conn.now in
+    let end = c.rollback.new.self.0 in
+    let begun = c.transaction-tx.ensures.begun in
+    let commits = rw begun at (reads_commit c.read_house-house.result c.read_house-house.ensures.reads) in
+    let all : WritesNothing (state g.S.Store old) (state g.S.Store end) = record {
+      left = λ clean.
+          let early : HasCleanDisk (state g.S.Store last) = omega (arith, c.rollback.ensures.survives.clean) in
+          undone_leaves g.S.Store old last end (commits.kept early) (c.rollback.ensures.undone clean) c.requires.committed;
+      survives = still (survives_begin g.S.Store old (state g.S.Store last) (λ _. ⊥) commits.survives) c.rollback.ensures.survives;
+    } in
+    search rules

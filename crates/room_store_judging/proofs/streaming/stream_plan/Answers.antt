@@ -1,0 +1,41 @@
+use Rattle.std.proofs.Common.{arith, subst, sym}
+use Rattle.std.proofs.lemmas.Result.{IfErr-weaker, IfOk-weaker}
+use Rattle.sqlite.specs.Effect.{Database}
+use Rattle.sqlite.specs.Held.{state}
+use Rattle.sqlite.specs.State.{HasCleanDisk}
+use Rattle.room_store_judging.proofs.StreamLaws.{held_numbered, is_no_room, is_plan, nothing_then}
+use Rattle.room_store_judging.specs.Holding.{HoldsRoom}
+use Rattle.room_store_judging.proofs.streaming.stream_plan.Goals as goal
+
+pub returns-in-Ok-clause-room : goal.returns-in-Ok-clause-room
+returns-in-Ok-clause-room g c clean =
+    let old = state g.S.Store c.args.conn.now in
+    let mid = state g.S.Store c.house_of_file.new.conn in
+    let early : HasCleanDisk mid = omega (arith, c.in-Ok.ensures.nothing.survives.clean) in
+    let house = c.in_ok-house.house in
+    let left = c.in_ok-house.ensures.nothing.left early in
+    IfOk-weaker c.plan_of_judged.result _ _ (λ plan is. rw is.0 (is_plan old mid left.now_is house.plan house.terminals.items (c.in_ok-house.ensures.found early) c.in-Ok.judged (c.in-Ok.ensures.found clean) is.1)) c.plan_of_judged.ensures.sound
+
+pub returns-in-Ok-clause-no_room : goal.returns-in-Ok-clause-no_room
+returns-in-Ok-clause-no_room g c clean =
+    let old = state g.S.Store c.args.conn.now in
+    let mid = state g.S.Store c.house_of_file.new.conn in
+    let early : HasCleanDisk mid = omega (arith, c.in-Ok.ensures.nothing.survives.clean) in
+    let house = c.in_ok-house.house in
+    let left = c.in_ok-house.ensures.nothing.left early in
+    IfErr-weaker c.plan_of_judged.result _ _ (λ e tells is. is_no_room old mid left.now_is house.plan house.terminals.items (c.in_ok-house.ensures.found early) c.in-Ok.judged (c.in-Ok.ensures.found clean) (tells is)) c.plan_of_judged.ensures.no_room
+
+pub returns-in-Ok-clause-nothing : goal.returns-in-Ok-clause-nothing
+returns-in-Ok-clause-nothing g c = nothing_then _ _ _ c.in_ok-house.ensures.nothing c.in-Ok.ensures.nothing
+
+pub returns-in-Err-clause-no_room : goal.returns-in-Err-clause-no_room
+returns-in-Err-clause-no_room g c clean none holds =
+    let old = state g.S.Store c.args.conn.now in
+    let mid = state g.S.Store c.house_of_file.new.conn in
+    let early : HasCleanDisk mid = omega (arith, c.in-Err.ensures.nothing.survives.clean) in
+    let un = c.in-Err.ensures.unnumbered clean none in
+    let same = (c.in_ok-house.ensures.nothing.left early).now_is un.0 in
+    un.1 (held_numbered mid.now.trees (subst (λ (db : Database). HoldsRoom db.trees) (sym same) holds))
+
+pub returns-in-Err-clause-nothing : goal.returns-in-Err-clause-nothing
+returns-in-Err-clause-nothing g c = nothing_then _ _ _ c.in_ok-house.ensures.nothing c.in-Err.ensures.nothing

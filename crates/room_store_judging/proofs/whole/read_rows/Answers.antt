@@ -1,0 +1,23 @@
+use Rattle.std.proofs.Common.{refl}
+use Rattle.sqlite.specs.Held.{state}
+use Rattle.room_tables_sql.proofs.ReadLaws.{fails_inside, told_inside}
+use Rattle.room_store_judging.proofs.RowLaws.{and_read, became, first_read, found_rows}
+use Rattle.room_store_judging.proofs.whole.read_rows.Goals as goal
+
+pub returns-in-Ok-clause-found : goal.returns-in-Ok-clause-found
+returns-in-Ok-clause-found g c clean all =
+    let five = and_read (and_read (and_read (and_read (first_read c.next_rows.ensures.next) c.next_rows-2.ensures.next) c.next_rows-3.ensures.next) c.next_rows-4.ensures.next) c.next_rows-5.ensures.next in
+    let ten = and_read (and_read (and_read (and_read (and_read five c.next_rows-6.ensures.next) c.next_rows-7.ensures.next) c.next_rows-8.ensures.next) c.next_rows-9.ensures.next) c.next_rows-10.ensures.next in
+    found_rows (state g.S.Store c.args.tx.now.conn.now).now.trees _ all ((became c.in-Ok.is ten).found clean)
+
+pub returns-in-Ok-clause-reads : goal.returns-in-Ok-clause-reads
+returns-in-Ok-clause-reads g c =
+    let five = and_read (and_read (and_read (and_read (first_read c.next_rows.ensures.next) c.next_rows-2.ensures.next) c.next_rows-3.ensures.next) c.next_rows-4.ensures.next) c.next_rows-5.ensures.next in
+    let ten = and_read (and_read (and_read (and_read (and_read five c.next_rows-6.ensures.next) c.next_rows-7.ensures.next) c.next_rows-8.ensures.next) c.next_rows-9.ensures.next) c.next_rows-10.ensures.next in
+    told_inside _ (became c.in-Ok.is ten).reads
+
+pub returns-in-Err-clause-reads : goal.returns-in-Err-clause-reads
+returns-in-Err-clause-reads g c =
+    let five = and_read (and_read (and_read (and_read (first_read c.next_rows.ensures.next) c.next_rows-2.ensures.next) c.next_rows-3.ensures.next) c.next_rows-4.ensures.next) c.next_rows-5.ensures.next in
+    let ten = and_read (and_read (and_read (and_read (and_read five c.next_rows-6.ensures.next) c.next_rows-7.ensures.next) c.next_rows-8.ensures.next) c.next_rows-9.ensures.next) c.next_rows-10.ensures.next in
+    fails_inside refl (became c.in-Err.is ten).reads

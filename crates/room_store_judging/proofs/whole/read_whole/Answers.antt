@@ -1,0 +1,53 @@
+use Rattle.std.proofs.Common.{arith, subst, ◌∙◌}
+use Rattle.sqlite.specs.Effect.{Database}
+use Rattle.sqlite.specs.Held.{state}
+use Rattle.sqlite.specs.State.{HasCleanDisk}
+use Rattle.room_tables.specs.Numbering.{AreAllNumbered}
+use Rattle.room_tables.proofs.Inside.{inside_then}
+use Rattle.room_tables_sql.proofs.ReadLaws.{fails_inside, told_inside}
+use Rattle.room_store_judging.proofs.Findings.{none_found, not_told, stands_with}
+use Rattle.room_store_judging.specs.Holding.{HasHouse, HasRows}
+use Rattle.room_store_judging.proofs.whole.read_whole.Goals as goal
+
+pub returns-clause-stands : goal.returns-clause-stands
+returns-clause-stands g c clean =
+    let second = state g.S.Store c.are_numbered.new.tx.conn.now in
+    let third = state g.S.Store c.read_house.new.tx.conn.now in
+    let clean_third : HasCleanDisk third = omega (arith, c.read_rows.ensures.reads.survives.clean) in
+    let clean_second : HasCleanDisk second = omega (arith, clean_third, c.read_house.ensures.reads.survives.clean) in
+    let to_second = (c.in_ok-are_numbered.ensures.reads.ok clean_second).0.now_is in
+    let to_third = (c.in_ok-house.ensures.reads.ok clean_third).0.now_is ∙ to_second in
+    let all = (c.in_ok-are_numbered.ensures.numbered clean_second).0 c.if-not-branch.false in
+    let plan = c.in_ok-house.house.plan in
+    let terminals = c.in_ok-house.house.terminals.items in
+    let house = subst (λ (db : Database). AreAllNumbered db.trees → HasHouse db.trees plan.areas plan.zone terminals) to_second (c.in_ok-house.ensures.found clean_third) all in
+    let rows = subst (λ (db : Database). AreAllNumbered db.trees → HasRows db.trees c.in_ok-rows.rows) to_third (c.in_ok-rows.ensures.found clean) all in
+    stands_with (state g.S.Store c.args.tx.now.conn.now).now.trees plan terminals c.in_ok-rows.rows house rows
+
+pub returns-in_err-are_numbered : goal.returns-in_err-are_numbered
+returns-in_err-are_numbered g c = record {
+  stands = λ clean. none_found _ _ c.from_residual.ensures.0;
+  no_room = λ clean. not_told _ c.in_err-are_numbered.field-0.0 _ c.from_residual.ensures.1;
+  reads = fails_inside c.from_residual.ensures.0 c.in_err-are_numbered.ensures.reads;
+  same_reference = c.are_numbered.ensures.same_reference;
+}
+
+pub returns-then-not-branch-clause-reads : goal.returns-then-not-branch-clause-reads
+returns-then-not-branch-clause-reads g c = told_inside _ c.in_ok-are_numbered.ensures.reads
+
+pub returns-in_err-house-clause-reads : goal.returns-in_err-house-clause-reads
+returns-in_err-house-clause-reads g c = inside_then c.in_ok-are_numbered.ensures.reads _ (fails_inside c.from_residual-in_err-house.ensures.0 c.in_err-house.ensures.reads)
+
+pub returns-in_err-rows : goal.returns-in_err-rows
+returns-in_err-rows g c =
+    let failed = c.from_residual-in_err-rows.ensures in
+    record {
+      stands = λ clean. none_found _ _ failed.0;
+      no_room = λ clean. not_told _ c.in_err-rows.field-0.0 _ failed.1;
+      reads = inside_then c.in_ok-are_numbered.ensures.reads _ (inside_then c.in_ok-house.ensures.reads _ (fails_inside failed.0 c.in_err-rows.ensures.reads));
+      same_reference = c.read_rows.ensures.same_reference ∙ c.read_house.ensures.same_reference ∙ c.are_numbered.ensures.same_reference;
+    }
+
+pub returns-clause-reads : goal.returns-clause-reads
+returns-clause-reads g c =
+    inside_then c.in_ok-are_numbered.ensures.reads _ (inside_then c.in_ok-house.ensures.reads _ (told_inside _ c.in_ok-rows.ensures.reads))

@@ -1,0 +1,164 @@
+//! All that the tables of a file hold, read inside a transaction.
+ghost use Rattle.std.specs.Prelude.{◌≡◌, IfErr, IfOk, OnOk, string_bytes};
+ghost use Rattle.sqlite.specs.Held.{state};
+ghost use Rattle.sqlite.specs.State.{HasCleanDisk};
+ghost use Rattle.room_tables_schema.specs.Connections.{HasRoomSchema};
+ghost use Rattle.room_tables_sql.specs.Tables.{AreNumbered};
+ghost use Rattle.room_tables_sql.specs.Outcomes.{ReadsInside};
+ghost use Rattle.room_place.specs.Plans.{Layout};
+ghost use Rattle.room_model.specs.Slices.{room_of};
+ghost use Rattle.room_tables.specs.Numbering.{AreAllNumbered};
+ghost use Rattle.room_tables.specs.Stands.{Stands, StandsFor};
+ghost use Rattle.room_store_writes.specs.Houses.{house_of};
+ghost use Rattle.room_store_judging.specs.Holding.{HasHouse, HasRows, HoldsRoom, ReadsNext};
+ghost use Rattle.room_store_judging.specs.declared.faults.TakeFault.TheVariants.{NotARoom};
+
+use crate::faults::TakeFault;
+use room_place::plans::{Area, Plan, PlanFault};
+use room_tables::areas::all_areas;
+use room_tables::loading::all_rows;
+use room_tables::meta::zone;
+use room_tables::numbering::are_numbered;
+use room_tables::tables::Table;
+use room_tables::terminals::all_terminals;
+use room_tables_rows::meta::VERSION;
+use room_tables_schema::faults::Fault;
+use room_types::fleet::Terminal;
+use room_types::rows::Rows;
+use room_types::slices::DivisionRows;
+use room_types::tables::{
+    Assignment, Call, Division, Incident, Loan, Offer, Point, Report, Turn, Vehicle,
+};
+use sqlite::{Alter, Transaction};
+use std::alloc::Global;
+
+/// The plan, the terminals and the rows of a file.
+#[derive(Drop)]
+pub struct RoomFile {
+    pub house: House,
+    pub rows: DivisionRows,
+}
+
+/// Reads the whole file. It is no room where a table doesn't number its rows, or where its areas or
+/// its zone make no plan.
+pub fn read_whole<S: Alter>(
+    alloc: Global,
+    tx: &mut Transaction<'_, S>,
+) -> Result<RoomFile, TakeFault>
+    requires room { HasRoomSchema S.Store tx.old.conn.now }
+    ensures stands { HasCleanDisk (state S.Store tx.new.conn.now)
+        → IfOk result (λ x. Stands (state S.Store tx.old.conn.now).now.trees
+        (house_of x.house.plan x.house.terminals.items) (room_of x.house.plan.areas x.rows)) }
+    ensures no_room { HasCleanDisk (state S.Store tx.new.conn.now)
+        → IfErr result (λ e. e ≡ NotARoom → ¬ HoldsRoom (state S.Store tx.old.conn.now).now.trees) }
+    ensures reads { ReadsInside S.Store tx.old.conn.now tx.new.conn.now result }
+    ensures same_reference { tx.new.conn.ghost_name ≡ tx.old.conn.ghost_name }
+{
+    if !are_numbered(tx)? {
+        return Err(TakeFault::NotARoom);
+    }
+    let house = read_house(alloc, tx)?;
+    let rows = read_rows(alloc, tx)?;
+    Ok(RoomFile { house, rows })
+}
+
+/// The plan and the terminals.
+#[derive(Drop)]
+pub struct House {
+    pub plan: Plan,
+    pub terminals: Vec<Terminal>,
+}
+
+pub(crate) fn read_house<S: Alter>(
+    alloc: Global,
+    tx: &mut Transaction<'_, S>,
+) -> Result<House, TakeFault>
+    requires room { HasRoomSchema S.Store tx.old.conn.now }
+    ensures found { HasCleanDisk (state S.Store tx.new.conn.now)
+        → IfOk result (λ x. AreAllNumbered (state S.Store tx.old.conn.now).now.trees
+        → HasHouse (state S.Store tx.old.conn.now).now.trees x.plan.areas x.plan.zone
+        x.terminals.items) }
+    ensures no_room { HasCleanDisk (state S.Store tx.new.conn.now)
+        → IfErr result (λ e. e ≡ NotARoom → ¬ HoldsRoom (state S.Store tx.old.conn.now).now.trees) }
+    ensures reads { ReadsInside S.Store tx.old.conn.now tx.new.conn.now result }
+    ensures same_reference { tx.new.conn.ghost_name ≡ tx.old.conn.ghost_name }
+{
+    let terminals = all_terminals(alloc, tx)?;
+    let zone = zone(alloc, tx, VERSION)?;
+    let areas = all_areas(alloc, tx)?;
+    planned_house(alloc, areas, zone, terminals)
+}
+
+// The terminals, and the plan of these areas and this zone; a file is no room where they make none.
+fn planned_house(
+    alloc: Global,
+    areas: Vec<Area>,
+    zone: String,
+    terminals: Vec<Terminal>,
+) -> Result<House, TakeFault>
+    ensures house { IfOk result (λ x. (x.plan.areas ≡ areas.items)
+        × (x.plan.zone ≡ string_bytes zone) × (x.terminals.items ≡ terminals.items)) }
+    ensures no_plan { IfErr result (λ e. e ≡ NotARoom → (layout : Layout)
+        → layout.areas ≡ areas.items → layout.zone ≡ string_bytes zone → ⊥) }
+{
+    match Plan::new(alloc, areas, zone.as_str()) {
+        Ok(plan) => Ok(House { plan, terminals }),
+        Err(PlanFault::Memory) => Err(TakeFault::Memory),
+        Err(_) => Err(TakeFault::NotARoom),
+    }
+}
+
+fn read_rows<S: Alter>(alloc: Global, tx: &mut Transaction<'_, S>) -> Result<DivisionRows, Fault>
+    requires room { HasRoomSchema S.Store tx.old.conn.now }
+    ensures found { HasCleanDisk (state S.Store tx.new.conn.now)
+        → IfOk result (λ x. AreAllNumbered (state S.Store tx.old.conn.now).now.trees
+        → HasRows (state S.Store tx.old.conn.now).now.trees x) }
+    ensures reads { ReadsInside S.Store tx.old.conn.now tx.new.conn.now result }
+    ensures same_reference { tx.new.conn.ghost_name ≡ tx.old.conn.ghost_name }
+{
+    let mut done = Ok(());
+    // The longest table is read first: a query's rows stay in memory beside what was read before.
+    let rows = DivisionRows {
+        reports: next_rows::<Report, S>(alloc, tx, &mut done),
+        divisions: next_rows::<Division, S>(alloc, tx, &mut done),
+        incidents: next_rows::<Incident, S>(alloc, tx, &mut done),
+        calls: next_rows::<Call, S>(alloc, tx, &mut done),
+        vehicles: next_rows::<Vehicle, S>(alloc, tx, &mut done),
+        turns: next_rows::<Turn, S>(alloc, tx, &mut done),
+        assignments: next_rows::<Assignment, S>(alloc, tx, &mut done),
+        points: next_rows::<Point, S>(alloc, tx, &mut done),
+        loans: next_rows::<Loan, S>(alloc, tx, &mut done),
+        offers: next_rows::<Offer, S>(alloc, tx, &mut done),
+    };
+    match done {
+        Ok(()) => Ok(rows),
+        Err(fault) => {
+            drop(rows);
+            Err(fault)
+        }
+    }
+}
+
+// The rows of a table, read if all reads before it went well. So a fault is looked at once.
+fn next_rows<X: Table, S: Alter>(
+    alloc: Global,
+    tx: &mut Transaction<'_, S>,
+    done: &mut Result<(), Fault>,
+) -> Rows<X>
+    requires room { OnOk done.old (HasRoomSchema S.Store tx.old.conn.now) }
+    ensures room { OnOk done.new (HasRoomSchema S.Store tx.new.conn.now) }
+    ensures next { ReadsNext S.Store tx.old.conn.now tx.new.conn.now done.old done.new (λ trees.
+        AreNumbered (trees X.table.tree) → StandsFor trees X.table X.cells result) }
+    ensures same_reference { tx.new.conn.ghost_name ≡ tx.old.conn.ghost_name }
+{
+    match done {
+        Ok(()) => match all_rows::<X, S>(alloc, tx) {
+            Ok(rows) => rows,
+            Err(fault) => {
+                *done = Err(fault);
+                Rows::new(alloc)
+            }
+        },
+        Err(_) => Rows::new(alloc),
+    }
+}

@@ -1,0 +1,44 @@
+use Rattle.std.proofs.Common.{map, inr, refl, sym, subst, ◌∙◌, true≢false, arith}
+use Rattle.std.proofs.lemmas.List.{at_drop_more, at_drop_all}
+use Rattle.sqlite.specs.Held.{state}
+use Rattle.sqlite.specs.State.{HasCleanDisk}
+use Rattle.sqlite.proofs.StateLemmas.{survives_then}
+use Rattle.room_tables.proofs.Repeats.{trees_stay, unchanged_after}
+use Rattle.room_tables.proofs.Rowids.{Left, none_left, next_selects, less_left, one_numbered}
+use Rattle.room_tables.proofs.numbering.are_all_streamed.Goals as goal
+
+pub is_streamed_numbered-requires-clause-selects : goal.is_streamed_numbered-requires-clause-selects
+is_streamed_numbered-requires-clause-selects g c clean =
+    let left = subst (Left (state g.S.Store c.args.conn.now).now.trees) (at_drop_more (map (λ text. text.now)) c.args.texts.now c.loop-text.text-index _ c.loop-text-test.true) (c.loop-text.invariant.left clean) in
+    next_selects _ _ _ left
+
+pub loop-text-preserved : goal.loop-text-preserved
+loop-text-preserved g c =
+    let old = state g.S.Store c.args.conn.now in
+    let mid = state g.S.Store c.loop-text.conn in
+    let new = state g.S.Store c.is_streamed_numbered.new.conn in
+    let before = c.loop-text.invariant in
+    let early = λ (clean : HasCleanDisk new). let e : HasCleanDisk mid = omega (arith, c.is_streamed_numbered.ensures.reads.survives.clean) in e in
+    record {
+      survives = survives_then old mid new (λ _. ⊥) (λ _. ⊥) (λ _. ⊥) (λ _ db none. none) (λ _ db none. none) before.survives c.is_streamed_numbered.ensures.reads.survives;
+      stays = λ clean. record { so_far = inr (unchanged_after (before.stays (early clean)) c.is_streamed_numbered.new.conn (c.in_ok-is_streamed_numbered.ensures.reads.ok clean)) };
+      mode = λ outside. c.is_streamed_numbered.ensures.reads.mode (before.mode outside);
+      left = λ clean.
+          less_left old.now.trees _ _ _ (rw (trees_stay (before.stays (early clean))) at (c.in_ok-is_streamed_numbered.ensures.numbered clean))
+          (subst (Left old.now.trees) (at_drop_more (map (λ text. text.now)) c.args.texts.now c.loop-text.text-index _ c.loop-text-test.true) (before.left (early clean))) c.if-not-branch.false;
+    }
+
+pub returns-then-not-branch-clause-numbered : goal.returns-then-not-branch-clause-numbered
+returns-then-not-branch-clause-numbered g c clean =
+    let old = state g.S.Store c.args.conn.now in
+    let before = c.loop-text.invariant in
+    let early : HasCleanDisk (state g.S.Store c.loop-text.conn) = omega (arith, c.is_streamed_numbered.ensures.reads.survives.clean) in
+    let one = one_numbered old.now.trees _ _ _ (rw (trees_stay (before.stays early)) at (c.in_ok-is_streamed_numbered.ensures.numbered clean))
+    (subst (Left old.now.trees) (at_drop_more (map (λ text. text.now)) c.args.texts.now c.loop-text.text-index _ c.loop-text-test.true) (before.left early)) in
+    (λ yes. absurd (true≢false (sym yes)), λ numbered. sym c.if-not-branch.true ∙ one numbered)
+
+pub returns-clause-numbered : goal.returns-clause-numbered
+returns-clause-numbered g c clean =
+    let trees = (state g.S.Store c.args.conn.now).now.trees in
+    let none = at_drop_all (map (λ text. text.now)) c.args.texts.now c.loop-text.text-index c.loop-text-test.false in
+    (λ yes. none_left trees (subst (Left trees) none (c.loop-text.invariant.left clean)), λ numbered. refl)
