@@ -1,8 +1,9 @@
 //! What the room in the tables decides of an event. Nothing is written.
-ghost use Rattle.std.specs.Prelude.{◌≡◌, ◌⊎◌, false, IfOk, OnOk, OnErr};
+ghost use Rattle.std.specs.Prelude.{◌≡◌, ◌⊎◌, false, IfErr, IfOk, OnOk, OnErr};
 ghost use Rattle.sqlite.specs.Held.{state};
 ghost use Rattle.sqlite.specs.State.{HasCleanDisk, IsUnchanged, Survives};
 ghost use Rattle.room_tables_schema.specs.Connections.{HasRoomSchema};
+ghost use Rattle.room_tables_schema.specs.declared.faults.Fault.TheVariants.{Memory};
 ghost use Rattle.room_tables_sql.specs.Outcomes.{Keeps, ReadsOnly};
 ghost use Rattle.room_core.specs.Deciding.{AreRead, Decides};
 ghost use Rattle.room_types.specs.declared.asks.Ask.TheVariants.{Call as CallAsk};
@@ -178,7 +179,8 @@ fn new_call(position: PositionNumber, form: &CallForm, at: Moment) -> NewCall
 
 // Want of memory is no decision of the machine.
 fn machines(decision: Result<Decision, Refusal>) -> Result<Result<Decision, Refusal>, Fault>
-    ensures { IfOk result (λ x. (wanted : Verdict) → Decides wanted decision → x ≡ wanted) }
+    ensures decided { IfOk result (λ x. (wanted : Verdict) → Decides wanted decision → x ≡ wanted) }
+    ensures memory { IfErr result (λ fault. fault ≡ Memory) }
 {
     match decision {
         Err(Refusal::Memory) => Err(Fault::Memory),

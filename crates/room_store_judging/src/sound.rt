@@ -1,5 +1,5 @@
 //! Whether what was read makes a well-formed room that the terminals fit.
-ghost use Rattle.std.specs.Prelude.{◌≡◌, ◌↔◌, IsTrue, IfErr, IfOk};
+ghost use Rattle.std.specs.Prelude.{◌≡◌, ◌↔◌, ◌⊎◌, IsTrue, IfErr, IfOk};
 ghost use Rattle.room_model.specs.Enrol.{AreTerminals};
 ghost use Rattle.room_model.specs.Slices.{room_of};
 ghost use Rattle.room_model.specs.WellFormed.{IsWellFormed};
@@ -20,6 +20,7 @@ pub fn sound_plan(alloc: Global, whole: RoomFile) -> Result<Plan, TakeFault>
     ensures no_room { IfErr result (λ e. e ≡ NotARoom
         → ¬ (IsWellFormed (room_of whole.house.plan.areas whole.rows)
         × AreTerminals (room_of whole.house.plan.areas whole.rows) whole.house.terminals.items)) }
+    ensures cause { IfErr result (λ e. (e ≡ Memory) ⊎ (e ≡ NotARoom)) }
 {
     let test = is_sound(alloc, &whole);
     let RoomFile { house, rows } = whole;

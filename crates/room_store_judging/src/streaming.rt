@@ -1,5 +1,5 @@
 //! The plan of the room that a file holds, judged with its history read one row at a time.
-ghost use Rattle.std.specs.Prelude.{◌≡◌, false, true, IfErr, IfOk, IsTrue, OnOk};
+ghost use Rattle.std.specs.Prelude.{◌≡◌, ◌⊎◌, false, true, IfErr, IfOk, IsTrue, OnOk};
 ghost use Rattle.sqlite.specs.Held.{state};
 ghost use Rattle.sqlite.specs.State.{HasCleanDisk};
 ghost use Rattle.room_tables_schema.specs.Connections.{HasRoomSchema};
@@ -237,6 +237,7 @@ fn plan_of_judged(alloc: Global, house: House, judged: JudgedRows) -> Result<Pla
         × TellsSound house.plan.areas house.terminals.items judged true) }
     ensures no_room { IfErr result (λ e. e ≡ NotARoom
         → TellsSound house.plan.areas house.terminals.items judged false) }
+    ensures cause { IfErr result (λ e. (e ≡ Memory) ⊎ (e ≡ NotARoom)) }
 {
     let test = is_sound(alloc, &house, &judged);
     drop(judged);

@@ -1,5 +1,5 @@
 //! All that the tables of a file hold, read inside a transaction.
-ghost use Rattle.std.specs.Prelude.{◌≡◌, IfErr, IfOk, OnOk, string_bytes};
+ghost use Rattle.std.specs.Prelude.{◌≡◌, ◌⊎◌, IfErr, IfOk, OnOk, string_bytes};
 ghost use Rattle.sqlite.specs.Held.{state};
 ghost use Rattle.sqlite.specs.State.{HasCleanDisk};
 ghost use Rattle.room_tables_schema.specs.Connections.{HasRoomSchema};
@@ -11,7 +11,7 @@ ghost use Rattle.room_tables.specs.Numbering.{AreAllNumbered};
 ghost use Rattle.room_tables.specs.Stands.{Stands, StandsFor};
 ghost use Rattle.room_store_writes.specs.Houses.{house_of};
 ghost use Rattle.room_store_judging.specs.Holding.{HasHouse, HasRows, HoldsRoom, ReadsNext};
-ghost use Rattle.room_store_judging.specs.declared.faults.TakeFault.TheVariants.{NotARoom};
+ghost use Rattle.room_store_judging.specs.declared.faults.TakeFault.TheVariants.{Memory, NotARoom};
 
 use crate::faults::TakeFault;
 use room_place::plans::{Area, Plan, PlanFault};
@@ -100,6 +100,7 @@ fn planned_house(
         × (x.plan.zone ≡ string_bytes zone) × (x.terminals.items ≡ terminals.items)) }
     ensures no_plan { IfErr result (λ e. e ≡ NotARoom → (layout : Layout)
         → layout.areas ≡ areas.items → layout.zone ≡ string_bytes zone → ⊥) }
+    ensures cause { IfErr result (λ e. (e ≡ Memory) ⊎ (e ≡ NotARoom)) }
 {
     match Plan::new(alloc, areas, zone.as_str()) {
         Ok(plan) => Ok(House { plan, terminals }),

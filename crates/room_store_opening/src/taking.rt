@@ -1,6 +1,6 @@
-//! A file's tables taken as a room: what they lack is made, all is read and judged, in one
-//! transaction. It is committed where they hold a well-formed room, and undone where they don't, or
-//! where nothing lacked.
+//! A file's tables taken as a room. Where nothing lacks they are looked at alone. Else what they
+//! lack is made, and all is read and judged, in one transaction: it is committed where they hold a
+//! well-formed room, and undone where they don't.
 ghost use Rattle.std.specs.Prelude.{◌≡◌, Err, Ok, cond, false, IsOk, IsTrue, IfErr, IfOk, OnErr, OnOk};
 ghost use Rattle.sqlite.specs.Held.{state};
 ghost use Rattle.sqlite.specs.State.{HasCleanDisk, IsRolledBack, Shows, Survives};

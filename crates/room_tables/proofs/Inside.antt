@@ -1,10 +1,9 @@
 -- Reads in a transaction, one after another.
-use Rattle.std.proofs.Common.{Err, Ok, Result, ap, ◌∙◌}
+use Rattle.std.proofs.Common.{Err, Ok, Result, ◌∙◌}
 use Rattle.sqlite.specs.Held.{Held}
 use Rattle.sqlite.specs.State.{IsUnchanged, State}
 use Rattle.sqlite.proofs.Callers.{unchanged_then}
 use Rattle.sqlite_trees.specs.declared.store.Store.{Ghosts}
-use Rattle.room_tables_schema.specs.Connections.{MayWrite}
 use Rattle.room_tables_sql.proofs.ReadLaws.{still}
 use Rattle.room_tables_sql.proofs.Refusals.{keeps_then}
 use Rattle.room_tables.proofs.RoomReads.{was_clean}
@@ -24,13 +23,6 @@ module _ {S : Type 0} {g : Ghosts S} {a b c : Held S} {T E U F : Type 0} {x : T}
     err = λ clean. let early = was_clean next.survives clean in keeps_then _ _ _ (before.ok early) (next.err clean);
     survives = still before.survives next.survives;
   }
-
--- what was read leaves a room that may be written
-pub may_still_write : {S T E : Type 0} {g : Ghosts S} {a b : Held S} {x : T} → ReadsInside {T = T} {E = E} g a b (Ok x) → MayWrite g a → MayWrite g b
-may_still_write {g = g} {a = a} before may = record {
-  room = λ clean. let early = was_clean before.survives clean in ap (λ db. db.schema) (before.ok clean).0.now_is ∙ may.room early;
-  inside = λ clean. let early = was_clean before.survives clean in (before.ok clean).0.mode ∙ may.inside early;
-}
 
 -- what was read leaves a room that is renewed after it
 pub read_renews : (old mid new : State) → IsUnchanged old mid → Renews mid new → Renews old new

@@ -1,5 +1,5 @@
 -- A table whose rows are read one at a time.
-use Rattle.std.proofs.Common.{◌≡◌, ◌++◌, ◌-◌, ◌⊎◌, inl, inr, suc, List, [], ◌∷◌, map, length, Bool, true, false, IsTrue, Option, Some, None, Result, Ok, Err, IfOk, IfErr, refl, sym, ap, subst, ◌∙◌, true≢false, Ordering, Less, append-nil, arith}
+use Rattle.std.proofs.Common.{◌≡◌, ◌++◌, ◌-◌, ◌⊎◌, inl, inr, suc, List, [], ◌∷◌, map, length, Bool, true, false, IsTrue, Option, Some, None, Result, Ok, Err, IfOk, IfErr, refl, sym, ap, subst, ◌∙◌, true≢false, Ordering, Less, arith}
 use Rattle.std.proofs.lemmas.List.{map-append, append_assoc}
 use Rattle.std.specs.Cmp.{IsTotalOrder}
 use Rattle.std.specs.List.{slice_get}
@@ -33,16 +33,7 @@ module _ {X K T : Type 0} (is_row : Row → Bool) (order : K → K → Ordering)
   abbrev Taken : T → List Row → T → Option X → Result (Unit {0}) Fault → Type 0
   Taken = AreTaken is_row order key row takes
 
-  -- one more is shown, which is none of the table's
-  pub stranger : (first now : T) (shown : List Row) (r : Row) (last : Option X) → is_row r ≡ false → Taken first (shown ++ r ∷ []) now last (Err Storage)
-  stranger first now shown r last none = inl (shown, r, [], refl, none)
-
-  -- or is not above the last
-  pub falls : (first now : T) (shown : List Row) (r : Row) (last : Option X) (x : X) (rows : List X) → map row rows ≡ shown → row x ≡ r → ¬ (IsKeyed order key (rows ++ x ∷ [])) → Taken first (shown ++ r ∷ []) now last (Err Storage)
-  falls first now shown r last x rows are is none =
-      inr (rows ++ x ∷ [], [], append-nil (map row (rows ++ x ∷ [])) ∙ map-append row rows (x ∷ []) ∙ ap (λ l. l ++ row x ∷ []) are ∙ ap (λ y. shown ++ y ∷ []) is, none)
-
-  -- or is taken
+  -- one more is shown, and is taken
   pub taken_next : IsTotalOrder order → (first now : T) (shown : List Row) (r : Row) (x : X) (rows : List X) → map row rows ≡ shown → row x ≡ r → IsKeyed order key rows → put_row order key rows x ≡ rows ++ x ∷ [] → takes first (rows ++ x ∷ []) now → Taken first (shown ++ r ∷ []) now (Some x) (Ok tt)
   taken_next total first now shown r x rows are is keyed put takes_it =
       (rows ++ x ∷ [], map-append row rows (x ∷ []) ∙ ap (λ l. l ++ row x ∷ []) are ∙ ap (λ y. shown ++ y ∷ []) is, subst (IsKeyed order key) put (keyed_put order key total rows x keyed), sym (last_end rows x), takes_it)
@@ -65,7 +56,7 @@ module _ {X K T : Type 0} (is_row : Row → Bool) (order : K → K → Ordering)
 
   -- what holds of all rows holds of those that were taken
   pub all_of : (first : T) (shown : List Row) (P : List X → Type 0) (result : Result T Fault) → AreRead is_row order key row takes first shown result → ((rows : List X) → map row rows ≡ shown → IsKeyed order key rows → P rows) → IfOk result (λ now. (rows : List X) × P rows × takes first rows now)
-  all_of first shown P (Ok now) h all = (h.0, all h.0 h.1 h.2, h.3)
+  all_of first shown P (Ok now) (last, (rows, are, keyed, is, taken)) all = (rows, all rows are keyed, taken)
   all_of first shown P (Err fault) h all = tt
 
   -- and a fault tells of what was shown
@@ -76,7 +67,9 @@ module _ {X K T : Type 0} (is_row : Row → Bool) (order : K → K → Ordering)
 module _ {X K : Type 0} (is_row : Row → Bool) (order : K → K → Ordering) (key : X → K) (row : X → Row) where
   -- rows that keep all are what was shown
   pub of_rows : (shown : List Row) (result : Result (List X) Fault) → AreRead is_row order key row (λ first rows now. first ≡ [] → now ≡ rows) [] shown result → IfOk result (λ rows. map row rows ≡ shown) × IfOk result (IsKeyed order key) × IfErr result (IfStorage (AreNoRows is_row order key row shown))
-  of_rows shown (Ok now) h = let is : now ≡ h.0 = h.3 refl in (subst (λ xs. map row xs ≡ shown) (sym is) h.1, subst (IsKeyed order key) (sym is) h.2, tt)
+  of_rows shown (Ok now) (last, (rows, are, keyed, is, taken)) =
+      let all : now ≡ rows = taken refl in
+      (subst (λ xs. map row xs ≡ shown) (sym all) are, subst (IsKeyed order key) (sym all) keyed, tt)
   of_rows shown (Err fault) h = (tt, tt, h)
 
 pub well : (taken : Result (Unit {0}) Fault) → is_ok taken ≡ true → taken ≡ Ok tt

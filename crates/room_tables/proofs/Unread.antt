@@ -1,13 +1,12 @@
--- What was shown and is read, or not: one of the rows is none of the table's, or they are out of order.
+-- What was shown and is read, or not: one of the rows is none of the table's, or is out of its place.
 use Rattle.std.proofs.Common.{◌≡◌, ◌+◌, ◌++◌, ◌<◌, ◌⊎◌, inl, inr, IsTrue, ℕ, zero, suc, List, [], ◌∷◌, map, take, drop, length, get_or, Bool, true, false, Some, refl, sym, ap, ◌∙◌, true≢false, Ordering, Less, is_lt, arith}
 use Rattle.std.specs.List.{slice_get}
 use Rattle.std.proofs.lemmas.List.{drop_more, length-take-le, map-append, take_more, take-append-drop}
-use Rattle.std.proofs.lemmas.Grind.{common_steps}
 use Rattle.sqlite_value.specs.Order.{Row}
 use Rattle.room_place.specs.declared.plans.Area.{Area}
 use Rattle.room_tables_rows.specs.Areas.{area_row}
 use Rattle.room_types_keyed.specs.Keyed.{IsBelowAll, IsKeyed}
-use Rattle.room_tables.specs.Failures.{AreOutOfOrder, HasMisnumbered, HasStranger}
+use Rattle.room_tables.specs.Failures.{HasMisnumbered, HasStranger}
 
 module _ (shown : List Row) (i : ℕ) (r : Row) (within : i < length shown) (is : r ≡ get_or shown i r) where
   parts : take i shown ++ r ∷ drop (i + 1) shown ≡ shown
@@ -28,13 +27,6 @@ module _ (shown : List Row) (i : ℕ) (r : Row) (within : i < length shown) (is 
   misnumbered_at area read other =
       let before : length (take i shown) ≡ i = length-take-le i shown (omega (arith, within)) in
       (take i shown, area, drop (i + 1) shown, rw read parts, λ same. other (same ∙ ap suc before))
-
-  -- a row whose key is not above those before it
-  pub out_of_order_at : {X K : Type 0} (order : K → K → Ordering) (key : X → K) (row : X → Row) (xs : List X) (x : X) → map row xs ≡ take i shown → row x ≡ r → ¬ (IsKeyed order key (xs ++ x ∷ [])) → AreOutOfOrder order key row shown
-  out_of_order_at order key row xs x before here falls =
-      let read : map row (xs ++ x ∷ []) ≡ take i shown ++ r ∷ [] = rw (map-append row xs (x ∷ []), before, here) refl in
-      let all : (take i shown ++ r ∷ []) ++ drop (i + 1) shown ≡ shown = grind (arith, common_steps, parts) in
-      (xs ++ x ∷ [], drop (i + 1) shown, ap (λ rows. rows ++ drop (i + 1) shown) read ∙ all, falls)
 
 module _ {X K : Type 0} (order : K → K → Ordering) (key : X → K) where
   below_end : (k : K) (xs : List X) (x : X) → IsBelowAll order key k (xs ++ x ∷ []) → order k (key x) ≡ Less

@@ -10,7 +10,8 @@ ghost use Rattle.room_tables_sql.specs.Tables.{AreNumbered, RowidsRise};
 ghost use Rattle.room_tables_sql.specs.Outcomes.{ReadsInside, ReadsOnly};
 ghost use Rattle.room_tables_schema.specs.Schema.{room_tables};
 ghost use Rattle.room_tables_schema.specs.Connections.{HasRoomSchema};
-ghost use Rattle.room_tables.specs.Numbering.{SelectsRowids, SelectEach, AreAllNumbered, TellsRise, integer_in};
+ghost use Rattle.room_tables.specs.Numbering.{AreAllNumbered, SelectEach, SelectsRowids};
+ghost use Rattle.room_tables.specs.Numbering.{TellsRise, integer_in};
 
 use room_tables_schema::faults::Fault;
 use room_tables_sql::reading::select_inside;
@@ -54,11 +55,14 @@ pub fn are_numbered_streamed<S: Alter>(conn: &mut Connection<S>) -> Result<bool,
         → IfOk result (λ yes. IsTrue yes ↔ AreAllNumbered (state S.Store conn.old).now.trees) }
     ensures reads { ReadsOnly S.Store conn.old conn.new result }
 {
-    are_all_streamed(conn, &ROWIDS)
+    are_all_numbered_streamed(conn, &ROWIDS)
 }
 
 // Whether every table numbers its rows, by the texts that select their rowids.
-fn are_all_streamed<S: Alter>(conn: &mut Connection<S>, texts: &[&str]) -> Result<bool, Fault>
+fn are_all_numbered_streamed<S: Alter>(
+    conn: &mut Connection<S>,
+    texts: &[&str],
+) -> Result<bool, Fault>
     requires room { HasRoomSchema S.Store conn.old }
     requires texts { SelectEach (map (λ text. text.now) texts.now) room_tables }
     ensures numbered { HasCleanDisk (state S.Store conn.new)
@@ -66,7 +70,7 @@ fn are_all_streamed<S: Alter>(conn: &mut Connection<S>, texts: &[&str]) -> Resul
     ensures reads { ReadsOnly S.Store conn.old conn.new result }
 {
     for text in texts {
-        if !is_streamed_numbered(conn, text)? {
+        if !is_numbered_streamed(conn, text)? {
             return Ok(false);
         }
     }
@@ -74,7 +78,7 @@ fn are_all_streamed<S: Alter>(conn: &mut Connection<S>, texts: &[&str]) -> Resul
 }
 
 // Whether a table numbers its rows, by the text that selects its rowids.
-fn is_streamed_numbered<S: Alter>(conn: &mut Connection<S>, text: &str) -> Result<bool, Fault>
+fn is_numbered_streamed<S: Alter>(conn: &mut Connection<S>, text: &str) -> Result<bool, Fault>
     requires room { HasRoomSchema S.Store conn.old }
     requires selects { HasCleanDisk (state S.Store conn.old) → (tree : ℕ)
         × SelectsRowids text.now tree }

@@ -17,7 +17,7 @@ returns-in-Some-build-clause-decided g c clean = IfOk-weaker c.machines.result _
     let same : k ≡ c.in-Some.rows.vehicle.callsign = row_key callsign_cmp vehicle_key callsigns_total exact_callsigns room.vehicles k c.in-Some.rows.vehicle rows.vehicle in
     let here = subst (λ n. AreCrewRows n c.number_in_hand.result room c.in-Some.rows) same rows in
     let decided = rw c.in-Some-build.ensures.rows at c.decide_crew.ensures room c.number_in_hand.result formed c.number_in_hand.ensures in
-    told (crew_asks k a c.args.at room) (subst (λ n. Decides (crew_asks n a c.args.at room) c.decide_crew.result) (sym same) (decided here))) c.machines.ensures
+    told (crew_asks k a c.args.at room) (subst (λ n. Decides (crew_asks n a c.args.at room) c.decide_crew.result) (sym same) (decided here))) c.machines.ensures.decided
 
 pub returns-in_err-found-clause-reads : goal.returns-in_err-found-clause-reads
 returns-in_err-found-clause-reads g c = fails c.from_residual.ensures.0 c.in_err-found.ensures.reads

@@ -8,7 +8,7 @@ pub returns-in-Some-clause-decided : goal.returns-in-Some-clause-decided
 returns-in-Some-clause-decided g c clean = IfOk-weaker c.machines.result _ _ (λ x told house room h formed planned there.
     let rows = c.in_ok-rows.ensures.rows clean house room h formed.order in
     let decides = rw (c.in-Some.ensures.rows.0, c.in-Some.ensures.rows.1) at c.decide_on-decision.ensures room formed planned in
-    told (decided c.args.event.now room) (decides (inl rows) there)) c.machines.ensures
+    told (decided c.args.event.now room) (decides (inl rows) there)) c.machines.ensures.decided
 
 pub returns-in_err-rows-clause-reads : goal.returns-in_err-rows-clause-reads
 returns-in_err-rows-clause-reads g c = fails c.from_residual.ensures.0 c.in_err-rows.ensures.reads

@@ -4,7 +4,7 @@ use Rattle.sqlite.specs.State.{HasCleanDisk}
 use Rattle.room_tables_sql.proofs.Openings.{rowids_tell}
 use Rattle.room_tables_schema.specs.Schema.{room_schema}
 use Rattle.room_tables.proofs.Rowids.{tells}
-use Rattle.room_tables.proofs.numbering.is_streamed_numbered.Goals as goal
+use Rattle.room_tables.proofs.numbering.is_numbered_streamed.Goals as goal
 
 pub returns-clause-numbered : goal.returns-clause-numbered
 returns-clause-numbered g c clean tree selects =

@@ -5,10 +5,10 @@ use Rattle.sqlite.specs.State.{HasCleanDisk}
 use Rattle.sqlite.proofs.StateLemmas.{survives_then}
 use Rattle.room_tables.proofs.Repeats.{trees_stay, unchanged_after}
 use Rattle.room_tables.proofs.Rowids.{Left, none_left, next_selects, less_left, one_numbered}
-use Rattle.room_tables.proofs.numbering.are_all_streamed.Goals as goal
+use Rattle.room_tables.proofs.numbering.are_all_numbered_streamed.Goals as goal
 
-pub is_streamed_numbered-requires-clause-selects : goal.is_streamed_numbered-requires-clause-selects
-is_streamed_numbered-requires-clause-selects g c clean =
+pub is_numbered_streamed-requires-clause-selects : goal.is_numbered_streamed-requires-clause-selects
+is_numbered_streamed-requires-clause-selects g c clean =
     let left = subst (Left (state g.S.Store c.args.conn.now).now.trees) (at_drop_more (map (λ text. text.now)) c.args.texts.now c.loop-text.text-index _ c.loop-text-test.true) (c.loop-text.invariant.left clean) in
     next_selects _ _ _ left
 
@@ -16,15 +16,15 @@ pub loop-text-preserved : goal.loop-text-preserved
 loop-text-preserved g c =
     let old = state g.S.Store c.args.conn.now in
     let mid = state g.S.Store c.loop-text.conn in
-    let new = state g.S.Store c.is_streamed_numbered.new.conn in
+    let new = state g.S.Store c.is_numbered_streamed.new.conn in
     let before = c.loop-text.invariant in
-    let early = λ (clean : HasCleanDisk new). let e : HasCleanDisk mid = omega (arith, c.is_streamed_numbered.ensures.reads.survives.clean) in e in
+    let early = λ (clean : HasCleanDisk new). let e : HasCleanDisk mid = omega (arith, c.is_numbered_streamed.ensures.reads.survives.clean) in e in
     record {
-      survives = survives_then old mid new (λ _. ⊥) (λ _. ⊥) (λ _. ⊥) (λ _ db none. none) (λ _ db none. none) before.survives c.is_streamed_numbered.ensures.reads.survives;
-      stays = λ clean. record { so_far = inr (unchanged_after (before.stays (early clean)) c.is_streamed_numbered.new.conn (c.in_ok-is_streamed_numbered.ensures.reads.ok clean)) };
-      mode = λ outside. c.is_streamed_numbered.ensures.reads.mode (before.mode outside);
+      survives = survives_then old mid new (λ _. ⊥) (λ _. ⊥) (λ _. ⊥) (λ _ db none. none) (λ _ db none. none) before.survives c.is_numbered_streamed.ensures.reads.survives;
+      stays = λ clean. record { so_far = inr (unchanged_after (before.stays (early clean)) c.is_numbered_streamed.new.conn (c.in_ok-is_numbered_streamed.ensures.reads.ok clean)) };
+      mode = λ outside. c.is_numbered_streamed.ensures.reads.mode (before.mode outside);
       left = λ clean.
-          less_left old.now.trees _ _ _ (rw (trees_stay (before.stays (early clean))) at (c.in_ok-is_streamed_numbered.ensures.numbered clean))
+          less_left old.now.trees _ _ _ (rw (trees_stay (before.stays (early clean))) at (c.in_ok-is_numbered_streamed.ensures.numbered clean))
           (subst (Left old.now.trees) (at_drop_more (map (λ text. text.now)) c.args.texts.now c.loop-text.text-index _ c.loop-text-test.true) (before.left (early clean))) c.if-not-branch.false;
     }
 
@@ -32,8 +32,8 @@ pub returns-then-not-branch-clause-numbered : goal.returns-then-not-branch-claus
 returns-then-not-branch-clause-numbered g c clean =
     let old = state g.S.Store c.args.conn.now in
     let before = c.loop-text.invariant in
-    let early : HasCleanDisk (state g.S.Store c.loop-text.conn) = omega (arith, c.is_streamed_numbered.ensures.reads.survives.clean) in
-    let one = one_numbered old.now.trees _ _ _ (rw (trees_stay (before.stays early)) at (c.in_ok-is_streamed_numbered.ensures.numbered clean))
+    let early : HasCleanDisk (state g.S.Store c.loop-text.conn) = omega (arith, c.is_numbered_streamed.ensures.reads.survives.clean) in
+    let one = one_numbered old.now.trees _ _ _ (rw (trees_stay (before.stays early)) at (c.in_ok-is_numbered_streamed.ensures.numbered clean))
     (subst (Left old.now.trees) (at_drop_more (map (λ text. text.now)) c.args.texts.now c.loop-text.text-index _ c.loop-text-test.true) (before.left early)) in
     (λ yes. absurd (true≢false (sym yes)), λ numbered. sym c.if-not-branch.true ∙ one numbered)
 

@@ -3,7 +3,7 @@ use Rattle.sqlite.specs.Held.{state}
 use Rattle.sqlite.specs.State.{HasCleanDisk, Survives}
 use Rattle.room_tables.proofs.Repeats.{Stays}
 use Rattle.room_tables.proofs.Rowids.{Left}
-use Rattle.room_tables.proofs.numbering.are_all_streamed.Given as goal
+use Rattle.room_tables.proofs.numbering.are_all_numbered_streamed.Given as goal
 
 abbrev pub invariant-loop-text : goal.invariant-loop-text
 invariant-loop-text g l =
