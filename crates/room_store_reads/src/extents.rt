@@ -8,6 +8,7 @@ ghost use Rattle.room_tables.specs.Finding.{Finds};
 ghost use Rattle.room_tables_schema.specs.Connections.{HasRoomSchema};
 ghost use Rattle.room_tables_sql.specs.Outcomes.{ReadsOnly};
 ghost use Rattle.room_store_reads.specs.Extents.{reaches};
+ghost use Rattle.room_store_reads.specs.declared.extents.Extent.TheVariants.{Nothing};
 
 use crate::unions::listed;
 use room_place::plans::DivisionNumber;
@@ -35,7 +36,7 @@ pub fn load_extent<R: Owned, S: Alter>(
     extent: &Extent<R::Key>,
 ) -> Result<Rows<R>, Fault>
     requires room { HasRoomSchema S.Store conn.old }
-    requires open { HasCleanDisk (state S.Store conn.old)
+    requires open { extent.now ≡ Nothing → HasCleanDisk (state S.Store conn.old)
         → IsTrue (state S.Store conn.old).is_open }
     ensures rows { Finds S.Store conn.old conn.new result (λ room x.
         IsKeyed R.Key.cmp R.key_of (R.rows room)

@@ -1,5 +1,5 @@
 //! What a request names of the rows that it reads.
-ghost use Rattle.std.specs.Prelude.{◌≡◌, ◌==◌, ◌&&◌, ◌||◌, ℕ, IfSome};
+ghost use Rattle.std.specs.Prelude.{◌≡◌, ◌==◌, ◌&&◌, ◌||◌, ℕ, IfSome, IsTrue};
 ghost use Rattle.room_place.specs.Plans.{has_place};
 ghost use Rattle.room_place.specs.declared.places.Place.{Place as PlaceModel};
 ghost use Rattle.room_types.specs.Codes.{is_active};
@@ -11,6 +11,7 @@ ghost use Rattle.room_types.specs.declared.tables.Turn.{Turn};
 ghost use Rattle.room_model.specs.Room.{Room};
 ghost use Rattle.room_model.specs.Working.{is_around, names_incident, names_opening, names_report, names_turn, reads_active, reads_assignments, reads_calls, reads_division, reads_exceptions, reads_incident, reads_loan, reads_offer, reads_point, reads_vehicle};
 ghost use Rattle.room_store_reads.specs.Extents.{reaches};
+ghost use Rattle.room_store_reads.specs.declared.extents.Extent.TheVariants.{Nothing};
 ghost use Rattle.room_store_reads.specs.Reading.{any, contains, is_last_of, is_number, is_part, is_report};
 
 use crate::extents::Extent;
@@ -33,9 +34,11 @@ pub fn reads_division(ask: &Ask) -> bool
     matches!(ask, Ask::Call(_))
 }
 
-/// The vehicles that a request reads.
+/// The vehicles that a request reads: none where it reads its division's own row.
 pub fn vehicles_read(ask: &Ask) -> Extent<Callsign>
-    ensures { (k : CallsignText) → reads_vehicle ask.now k ≡ reaches callsign_cmp result k }
+    ensures vehicles { (k : CallsignText)
+        → reads_vehicle ask.now k ≡ reaches callsign_cmp result k }
+    ensures beside { IsTrue (reads_division ask.now) → result ≡ Nothing }
 {
     match *ask {
         Ask::Propose(_) | Ask::Vehicles | Ask::Queue | Ask::Points => Extent::Everything,

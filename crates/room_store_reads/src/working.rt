@@ -16,7 +16,7 @@ ghost use Rattle.room_tables_schema.specs.Connections.{HasRoomSchema};
 ghost use Rattle.room_store_reads.specs.Parts.{IsHeld, IsWork};
 ghost use Rattle.room_store_reads.specs.Reading.{contains, is_number, is_turn};
 
-use crate::extents::{load_both, load_extent, load_one, owned_row};
+use crate::extents::{Extent, load_both, load_extent, load_one, owned_row};
 use crate::naming::{
     assignments_read, calls_read, incidents_read, loans_read, named_incidents, named_report,
     offers_read, points_read, reads_active, reads_division, reads_exceptions, stood_down,
@@ -80,8 +80,6 @@ struct Held {
     offers: Rows<Offer>,
 }
 
-// The division's row is looked up whatever is asked: the first read tells a connection that a fault
-// has shut, also where nothing else is read.
 fn load_held<S: Alter>(
     alloc: Global,
     conn: &mut Connection<S>,
@@ -93,23 +91,21 @@ fn load_held<S: Alter>(
         → IsHeld division ask.now room x) }
     ensures reads { ReadsOnly S.Store conn.old conn.new result }
 {
-    let own = load_one::<Division, S>(alloc, conn, division, &division)?;
-    let divisions = division_read(alloc, ask, own);
-    let (vehicles, assignments) = load_both::<Vehicle, Assignment, S>(
+    let (divisions, vehicles) = load_first(alloc, conn, division, ask)?;
+    let (assignments, points) = load_both::<Assignment, Point, S>(
         alloc,
         conn,
         division,
-        &vehicles_read(ask),
         &assignments_read(ask),
+        &points_read(ask, division),
     )?;
-    let (points, loans) = load_both::<Point, Loan, S>(
+    let (loans, offers) = load_both::<Loan, Offer, S>(
         alloc,
         conn,
         division,
-        &points_read(ask, division),
         &loans_read(ask),
+        &offers_read(ask),
     )?;
-    let offers = load_extent::<Offer, S>(alloc, conn, division, &offers_read(ask))?;
     Ok(Held {
         divisions,
         vehicles,
@@ -118,6 +114,32 @@ fn load_held<S: Alter>(
         loans,
         offers,
     })
+}
+
+// The division's row and the vehicles. Where no vehicle is read that row is looked up whatever is
+// asked: the first read tells a connection that a fault has shut, also where nothing else is read.
+fn load_first<S: Alter>(
+    alloc: Global,
+    conn: &mut Connection<S>,
+    division: DivisionNumber,
+    ask: &Ask,
+) -> Result<(Rows<Division>, Rows<Vehicle>), Fault>
+    requires room { HasRoomSchema S.Store conn.old }
+    ensures rows { Finds S.Store conn.old conn.new result (λ room x. IsInOrder room
+        → (x.0 ≡ (working division ask.now 0 room).divisions)
+        × (x.1 ≡ (working division ask.now 0 room).vehicles)) }
+    ensures reads { ReadsOnly S.Store conn.old conn.new result }
+{
+    match vehicles_read(ask) {
+        Extent::Nothing => {
+            let own = load_one::<Division, S>(alloc, conn, division, &division)?;
+            Ok((division_read(alloc, ask, own), Rows::new(alloc)))
+        }
+        extent => {
+            let vehicles = load_extent::<Vehicle, S>(alloc, conn, division, &extent)?;
+            Ok((Rows::new(alloc), vehicles))
+        }
+    }
 }
 
 fn division_read(alloc: Global, ask: &Ask, own: Rows<Division>) -> Rows<Division>

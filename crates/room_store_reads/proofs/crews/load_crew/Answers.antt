@@ -8,8 +8,14 @@ use Rattle.room_tables_sql.proofs.ReadLaws.{and, but, fails, looked, told}
 use Rattle.room_tables.proofs.RoomReads.{kept}
 use Rattle.room_store_reads.proofs.crews.load_crew.Goals as goal
 
+pub load_sent-requires-clause-open : goal.load_sent-requires-clause-open
+load_sent-requires-clause-open g c clean = (c.in_ok-found.ensures.reads.ok clean).0.is_open
+
 pub load_loan-requires-clause-open : goal.load_loan-requires-clause-open
 load_loan-requires-clause-open g c clean = (c.in_ok-sent-in-Some.ensures.reads.ok clean).0.is_open
+
+pub load_report-requires-clause-open : goal.load_report-requires-clause-open
+load_report-requires-clause-open g c clean = (c.in_ok-loan-in-Some.ensures.reads.ok clean).0.is_open
 
 pub returns-in-None-clause-rows : goal.returns-in-None-clause-rows
 returns-in-None-clause-rows g c clean house room h formed = sym (c.in_ok-found.ensures.row clean house room h) ∙ c.in-None.is
@@ -20,7 +26,7 @@ returns-in_ok-report-in-Some-clause-rows g c clean house room h formed =
     let second = state g.S.Store c.row_at.new.conn in
     let third = state g.S.Store c.load_sent.new.conn in
     let fourth = state g.S.Store c.load_loan.new.conn in
-    let clean_fourth : HasCleanDisk fourth = omega (arith, c.row_at-in-Some.ensures.reads.survives.clean) in
+    let clean_fourth : HasCleanDisk fourth = omega (arith, c.load_report.ensures.reads.survives.clean) in
     let clean_third : HasCleanDisk third = omega (arith, clean_fourth, c.load_loan.ensures.reads.survives.clean) in
     let clean_second : HasCleanDisk second = omega (arith, clean_third, c.load_sent.ensures.reads.survives.clean) in
     let in_second = kept first second (c.in_ok-found.ensures.reads.ok clean_second) house room h in
@@ -29,13 +35,14 @@ returns-in_ok-report-in-Some-clause-rows g c clean house room h formed =
     let v = c.in-Some.vehicle in
     let there = sym (c.in_ok-found.ensures.row clean_second house room h) ∙ c.in-Some.is in
     let same : v.callsign ≡ c.args.callsign.now = sym (row_key callsign_cmp vehicle_key callsigns_total exact_callsigns room.vehicles c.args.callsign.now v there) in
-    let sent = c.in_ok-sent-in-Some.ensures.rows clean_third house room in_second formed in
+    let has = rw (sym same) at there in
+    let sent = c.in_ok-sent-in-Some.ensures.rows clean_third house room in_second formed has in
     record {
       vehicle = there;
       assignment = rw same at sent.assignment;
       turn = rw same at sent.turn;
-      loan = rw same at (c.in_ok-loan-in-Some.ensures.row clean_fourth house room in_third formed (rw (sym same) at there));
-      report = sym (c.in_ok-report-in-Some.ensures.row clean house room in_fourth);
+      loan = rw same at (c.in_ok-loan-in-Some.ensures.row clean_fourth house room in_third formed has);
+      report = rw same at (c.in_ok-report-in-Some.ensures.row clean house room in_fourth formed has);
     }
 
 pub returns-in_err-found-clause-reads : goal.returns-in_err-found-clause-reads

@@ -7,7 +7,7 @@ use Rattle.room_tables.proofs.RoomReads.{kept}
 use Rattle.room_store_reads.proofs.crews.load_sent.Goals as goal
 
 pub returns-in_ok-last-in-Some-clause-rows : goal.returns-in_ok-last-in-Some-clause-rows
-returns-in_ok-last-in-Some-clause-rows g c clean house room h formed =
+returns-in_ok-last-in-Some-clause-rows g c clean house room h formed there =
     let first = state g.S.Store c.args.conn.now in
     let second = state g.S.Store c.row_at.new.conn in
     let clean_second : HasCleanDisk second = omega (arith, c.row_at-in-Some.ensures.reads.survives.clean) in
@@ -20,7 +20,7 @@ returns-in_ok-last-in-Some-clause-rows g c clean house room h formed =
     }
 
 pub returns-in-None-clause-rows : goal.returns-in-None-clause-rows
-returns-in-None-clause-rows g c clean house room h formed =
+returns-in-None-clause-rows g c clean house room h formed there =
     let v = c.args.vehicle.now in
     let none : v.last_order ≡ 0 = search rules in
     record {

@@ -3,8 +3,11 @@ use Rattle.room_tables_sql.proofs.ReadLaws.{and, but, clean_before, fails, looke
 use Rattle.room_tables.proofs.RoomReads.{kept}
 use Rattle.room_store_reads.proofs.extents.load_both.Goals as goal
 
+pub load_extent-requires-clause-open : goal.load_extent-requires-clause-open
+load_extent-requires-clause-open g c nothing = c.requires.open
+
 pub load_extent-requires-2-clause-open : goal.load_extent-requires-2-clause-open
-load_extent-requires-2-clause-open g c clean = (c.in_ok-first.ensures.reads.ok clean).0.is_open
+load_extent-requires-2-clause-open g c nothing clean = (c.in_ok-first.ensures.reads.ok clean).0.is_open
 
 pub returns-clause-rows : goal.returns-clause-rows
 returns-clause-rows g c clean house room h first_keyed second_keyed =

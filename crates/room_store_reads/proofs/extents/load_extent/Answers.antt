@@ -9,7 +9,7 @@ returns-in-Nothing-clause-rows g c clean house room h keyed =
     rw c.in-Nothing.is (c.new.ensures ∙ sym (filter_never (g.R.Row.owned c.args.division) _ (g.R.Table.rows room) (λ y. refl)))
 
 pub returns-in-Nothing-clause-reads : goal.returns-in-Nothing-clause-reads
-returns-in-Nothing-clause-reads g c = told (begins c.requires.open)
+returns-in-Nothing-clause-reads g c = told (begins (c.requires.open c.in-Nothing.is))
 
 pub returns-in-One-clause-rows : goal.returns-in-One-clause-rows
 returns-in-One-clause-rows g c clean =
