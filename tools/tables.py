@@ -147,9 +147,10 @@ TABLES = [
         load("incidents_opened", "INCIDENTS_OPENED", "(from to : ℤ) (d : ℕ)", "λ x. int_le from (pos x.opened) && (int_lt (pos x.opened) to && x.division == d)",
              compared("Ge", "at_least", "opened", "Int from", "at_least-integers (pos x.opened) from"), compared("Lt", "below", "opened", "Int to", "below-integers (pos x.opened) to"),
              equal_by_value("division", "number d", "equal-numbers x.division d")),
-        load("incidents_since", "INCIDENTS_SINCE", "(from : ℤ) (d : ℕ) (s : Rect)", "λ x. int_le from (pos x.opened) && (x.division == d && has_place x.place s)",
-             compared("Ge", "at_least", "opened", "Int from", "at_least-integers (pos x.opened) from"), equal_by_value("division", "number d", "equal-numbers x.division d"),
-             number_from("east", "s.west"), number_to("east", "s.east"), number_from("north", "s.south"), number_to("north", "s.north")),
+        load("incidents_since", "INCIDENTS_SINCE", "(s : Rect) (from : ℤ) (d : ℕ)",
+             "λ x. nat_le s.west x.place.east && (nat_le x.place.east s.east && (nat_le s.south x.place.north && (nat_le x.place.north s.north && (int_le from (pos x.opened) && x.division == d))))",
+             number_from("east", "s.west"), number_to("east", "s.east"), number_from("north", "s.south"), number_to("north", "s.north"),
+             compared("Ge", "at_least", "opened", "Int from", "at_least-integers (pos x.opened) from"), equal_by_value("division", "number d", "equal-numbers x.division d")),
     ]),
     Table("calls", "call", "Call", ["x.position", "x.serial"], loads=[incident_rows("calls_of", "CALLS_OF")]),
     Table("vehicles", "vehicle", "Vehicle", ["x.callsign"], loads=[owned("vehicles_held", "VEHICLES_HELD", "vehicle", "holder")]),
@@ -179,7 +180,7 @@ def home(module, names):
 
 home("Rattle.std.proofs.Common", "◌≡◌ ◌∷◌ ◌||◌ ◌&&◌ ◌==◌ ◌∙◌ ℕ ℤ pos List [] filter not Ok refl sym false")
 home("Rattle.std.proofs.lemmas.Bool", "eqb-false")
-home("Rattle.std.specs.Prelude", "int_le int_lt")
+home("Rattle.std.specs.Prelude", "int_le int_lt nat_le")
 home("Rattle.std.specs.Ordering", "nat_cmp is_eq")
 home("Rattle.sqlite_value.specs.declared.value.Value.TheVariants", "Int Text")
 home("Rattle.sqlite_value.specs.declared.keys.Collation.TheVariants", "Binary")
@@ -199,7 +200,6 @@ home("Rattle.room_tables_sql.proofs.Standing", "holds_still holds_none")
 home("Rattle.room_tables_sql.proofs.StoredRows", "stores_row stores_rowid")
 home("Rattle.room_place.specs.declared.plans.Area", "Area")
 home("Rattle.room_place.specs.declared.plans.Rect", "Rect")
-home("Rattle.room_place.specs.Plans", "has_place")
 home("Rattle.room_types.specs.Codes", "outcome_number state_number is_active")
 home("Rattle.room_types_keyed.specs.Keyed", "put_row")
 home("Rattle.room_types_keyed.specs.Keyed", "row_at")
@@ -224,7 +224,7 @@ home("Rattle.room_tables_schema.specs.Schema", "room_schema " + " ".join(f"{t.na
 home("Rattle.room_tables_rows.specs.Stands", "House Stands StandsFor numbered empty_room")
 home("Rattle.room_tables_schema.specs.Definitions", "IsBlank")
 home("Rattle.room_tables_rows.specs.Writes", "Changes")
-home("Rattle.room_tables_rows.proofs.Tests", "equal-active equal-false at_least-integers below-integers at_most-numbers and_three and_four cast-text_or_null")
+home("Rattle.room_tables_rows.proofs.Tests", "equal-active equal-false at_least-integers below-integers at_most-numbers and_three and_six cast-text_or_null")
 home("Rattle.room_tables_rows.specs.Tables", "IsHeld SelectsChosen PutsRow IsTable IsDropped")
 home("Rattle.room_tables_rows.proofs.Loads", "Shows ShowsRow ShowsAll chosen_rows row_of_key all_rows")
 home("Rattle.room_tables_rows.proofs.Puts", "put_changes")
@@ -262,9 +262,8 @@ def conjunction(conditions):
 
 # that the terms ask of a row what the test asks of its columns
 def tells(tests):
-    named = {3: "and_three", 4: "and_four"}
-    if len(tests) in named:
-        return named[len(tests)] + "".join(f" ({test})" for test in tests)
+    if len(tests) == 3:
+        return "and_three" + "".join(f" ({test})" for test in tests)
     return "and_last refl" if len(tests) == 1 else f"and_then refl ({tells(tests[1:])})"
 
 
@@ -273,6 +272,9 @@ def told(conditions, t):
     if not any("tells" in c for c in conditions):
         return tells([c["test"](t.place(c["name"])) for c in conditions])
     first = conditions[0]
+    if len(conditions) == 6:
+        tests = "".join(f" ({c['test'](t.place(c['name']))})" for c in conditions[:-1])
+        return f"and_six{tests} ({conditions[-1]['tells'](t.place(conditions[-1]['name']))})"
     why = f"({first['tells'](t.place(first['name']))})" if "tells" in first else "refl"
     return f"and_last {why}" if len(conditions) == 1 else f"and_then {why} ({told(conditions[1:], t)})"
 

@@ -119,9 +119,9 @@ pub fn incidents_since<S: Alter>(
         rows ≡ filter (λ i. int_le from (pos i.opened) &&
         (i.division == division && has_place i.place square.now)) room.incidents) }
     ensures reads { ReadsOnly S.Store conn.old conn.new result }
-    ensures why { TellsWhy S.Store conn.old conn.new result INCIDENTS_SINCE.now (Int from
-        ∷ number division ∷ number square.now.west ∷ number square.now.east
-        ∷ number square.now.south ∷ number square.now.north
+    ensures why { TellsWhy S.Store conn.old conn.new result INCIDENTS_SINCE.now
+        (number square.now.west ∷ number square.now.east ∷ number square.now.south
+        ∷ number square.now.north ∷ Int from ∷ number division
         ∷ []) (AreNoRows is_incident_row pair_cmp incident_key incident_row) }
 {
     load(
@@ -129,12 +129,12 @@ pub fn incidents_since<S: Alter>(
         conn,
         INCIDENTS_SINCE,
         &[
-            second(from),
-            division.store(),
             square.west.store(),
             square.east.store(),
             square.south.store(),
             square.north.store(),
+            second(from),
+            division.store(),
         ],
     )
 }

@@ -1,11 +1,10 @@
 -- What the statements on the table incidents say, and what they make of a room. (Written by tools/tables.py.)
 use Rattle.room_model.specs.Room.{Room}
-use Rattle.room_place.specs.Plans.{has_place}
 use Rattle.room_place.specs.declared.plans.Rect.{Rect}
 use Rattle.room_tables_rows.proofs.Kept.{with_incidents}
 use Rattle.room_tables_rows.proofs.Loads.{Shows, chosen_rows}
 use Rattle.room_tables_rows.proofs.RowLaws.{incident_faithful}
-use Rattle.room_tables_rows.proofs.Tests.{and_four, at_least-integers, at_most-numbers, below-integers, equal-active}
+use Rattle.room_tables_rows.proofs.Tests.{and_six, at_least-integers, at_most-numbers, below-integers, equal-active}
 use Rattle.room_tables_rows.specs.Incidents.{incident_row}
 use Rattle.room_tables_rows.specs.Keys.{pair_cells}
 use Rattle.room_tables_rows.specs.Stands.{House}
@@ -31,7 +30,7 @@ use Rattle.sqlite_value.specs.declared.keys.Collation.TheVariants.{Binary}
 use Rattle.sqlite_value.specs.declared.value.Value.TheVariants.{Int}
 use Rattle.std.proofs.Common.{List, [], filter, pos, refl, sym, ℕ, ℤ, ◌&&◌, ◌==◌, ◌∙◌, ◌∷◌, ◌≡◌}
 use Rattle.std.specs.Ordering.{is_eq, nat_cmp}
-use Rattle.std.specs.Prelude.{int_le, int_lt}
+use Rattle.std.specs.Prelude.{int_le, int_lt, nat_le}
 
 abbrev all_of : House → Room → List Incident
 all_of house room = room.incidents
@@ -73,15 +72,15 @@ incidents_opened_chooses from to d = record { terms = at_least 9 0 ∷ below 9 1
 pub incidents_opened_are : (from to : ℤ) (d : ℕ) → Shows incident_row INCIDENTS_OPENED.now (Int from ∷ Int to ∷ number d ∷ []) (λ found house room. found ≡ filter (λ x. int_le from (pos x.opened) && (int_lt (pos x.opened) to && x.division == d)) room.incidents)
 incidents_opened_are from to d = chosen_rows incidents_held INCIDENTS_OPENED.now (Int from ∷ Int to ∷ number d ∷ []) (λ x. int_le from (pos x.opened) && (int_lt (pos x.opened) to && x.division == d)) (incidents_opened_chooses from to d)
 
-pub incidents_since_means : Selects room_schema INCIDENTS_SINCE.now 5 (1 ∷ 2 ∷ 3 ∷ 4 ∷ 5 ∷ 6 ∷ 7 ∷ 8 ∷ 9 ∷ 10 ∷ 11 ∷ 12 ∷ []) (1 ∷ 2 ∷ []) (at_least 9 0 ∷ equals_by_value 1 1 ∷ at_least 3 2 ∷ compares Le 3 3 ∷ at_least 4 4 ∷ compares Le 4 5 ∷ [])
+pub incidents_since_means : Selects room_schema INCIDENTS_SINCE.now 5 (1 ∷ 2 ∷ 3 ∷ 4 ∷ 5 ∷ 6 ∷ 7 ∷ 8 ∷ 9 ∷ 10 ∷ 11 ∷ 12 ∷ []) (1 ∷ 2 ∷ []) (at_least 3 0 ∷ compares Le 3 1 ∷ at_least 4 2 ∷ compares Le 4 3 ∷ at_least 9 4 ∷ equals_by_value 1 5 ∷ [])
 unfolding understood everything
 incidents_since_means = record { names = _; command = refl; plain = (refl, refl); unlisted = refl }
 
-pub incidents_since_chooses : (from : ℤ) (d : ℕ) (s : Rect) → SelectsChosen incidents_table incident_row INCIDENTS_SINCE.now (Int from ∷ number d ∷ number s.west ∷ number s.east ∷ number s.south ∷ number s.north ∷ []) (λ x. int_le from (pos x.opened) && (x.division == d && has_place x.place s))
-incidents_since_chooses from d s = record { terms = at_least 9 0 ∷ equals_by_value 1 1 ∷ at_least 3 2 ∷ compares Le 3 3 ∷ at_least 4 4 ∷ compares Le 4 5 ∷ []; selects = incidents_since_means; chooses = record { test = λ r. compare_by Ge (column r 8) (Int from) && (equal Binary (column r 0) (number d) && (compare_by Ge (column r 2) (number s.west) && (compare_by Le (column r 2) (number s.east) && (compare_by Ge (column r 3) (number s.south) && compare_by Le (column r 3) (number s.north))))); tells = λ r. and_then refl (and_then (equal-by_value (column r 1) (number d)) (and_four (compare_by Ge (column r 3) (number s.west)) (compare_by Le (column r 3) (number s.east)) (compare_by Ge (column r 4) (number s.south)) (compare_by Le (column r 4) (number s.north)))); same = λ x. and_then (at_least-integers (pos x.opened) from) (and_then (equal-numbers x.division d) (and_then (at_least-numbers x.place.east s.west) (and_then (at_most-numbers x.place.east s.east) (and_then (at_least-numbers x.place.north s.south) (at_most-numbers x.place.north s.north))))) } }
+pub incidents_since_chooses : (s : Rect) (from : ℤ) (d : ℕ) → SelectsChosen incidents_table incident_row INCIDENTS_SINCE.now (number s.west ∷ number s.east ∷ number s.south ∷ number s.north ∷ Int from ∷ number d ∷ []) (λ x. nat_le s.west x.place.east && (nat_le x.place.east s.east && (nat_le s.south x.place.north && (nat_le x.place.north s.north && (int_le from (pos x.opened) && x.division == d)))))
+incidents_since_chooses s from d = record { terms = at_least 3 0 ∷ compares Le 3 1 ∷ at_least 4 2 ∷ compares Le 4 3 ∷ at_least 9 4 ∷ equals_by_value 1 5 ∷ []; selects = incidents_since_means; chooses = record { test = λ r. compare_by Ge (column r 2) (number s.west) && (compare_by Le (column r 2) (number s.east) && (compare_by Ge (column r 3) (number s.south) && (compare_by Le (column r 3) (number s.north) && (compare_by Ge (column r 8) (Int from) && equal Binary (column r 0) (number d))))); tells = λ r. and_six (compare_by Ge (column r 3) (number s.west)) (compare_by Le (column r 3) (number s.east)) (compare_by Ge (column r 4) (number s.south)) (compare_by Le (column r 4) (number s.north)) (compare_by Ge (column r 9) (Int from)) (equal-by_value (column r 1) (number d)); same = λ x. and_then (at_least-numbers x.place.east s.west) (and_then (at_most-numbers x.place.east s.east) (and_then (at_least-numbers x.place.north s.south) (and_then (at_most-numbers x.place.north s.north) (and_then (at_least-integers (pos x.opened) from) (equal-numbers x.division d))))) } }
 
-pub incidents_since_are : (from : ℤ) (d : ℕ) (s : Rect) → Shows incident_row INCIDENTS_SINCE.now (Int from ∷ number d ∷ number s.west ∷ number s.east ∷ number s.south ∷ number s.north ∷ []) (λ found house room. found ≡ filter (λ x. int_le from (pos x.opened) && (x.division == d && has_place x.place s)) room.incidents)
-incidents_since_are from d s = chosen_rows incidents_held INCIDENTS_SINCE.now (Int from ∷ number d ∷ number s.west ∷ number s.east ∷ number s.south ∷ number s.north ∷ []) (λ x. int_le from (pos x.opened) && (x.division == d && has_place x.place s)) (incidents_since_chooses from d s)
+pub incidents_since_are : (s : Rect) (from : ℤ) (d : ℕ) → Shows incident_row INCIDENTS_SINCE.now (number s.west ∷ number s.east ∷ number s.south ∷ number s.north ∷ Int from ∷ number d ∷ []) (λ found house room. found ≡ filter (λ x. nat_le s.west x.place.east && (nat_le x.place.east s.east && (nat_le s.south x.place.north && (nat_le x.place.north s.north && (int_le from (pos x.opened) && x.division == d))))) room.incidents)
+incidents_since_are s from d = chosen_rows incidents_held INCIDENTS_SINCE.now (number s.west ∷ number s.east ∷ number s.south ∷ number s.north ∷ Int from ∷ number d ∷ []) (λ x. nat_le s.west x.place.east && (nat_le x.place.east s.east && (nat_le s.south x.place.north && (nat_le x.place.north s.north && (int_le from (pos x.opened) && x.division == d))))) (incidents_since_chooses s from d)
 
 pub put_incident_means : Upserts room_schema PUT_INCIDENT.now 4 incidents_table (1 ∷ 2 ∷ []) 12 (row_values 12) (row_update 12)
 unfolding understood everything

@@ -16,14 +16,15 @@ use Rattle.sqlite_schema.specs.declared.schema.Kind.TheVariants as kind
 use Rattle.sqlite_rules.specs.Cast.{cast}
 use Rattle.sqlite.specs.Values.{or_null}
 use Rattle.room_tables_sql.specs.Typed.{number}
-use Rattle.room_tables_sql.proofs.Comparisons.{compare_by, equal-numbers}
+use Rattle.room_tables_sql.proofs.Comparisons.{and_last, compare_by, equal-numbers}
 use Rattle.room_types.specs.Codes.{state_number, is_active}
 use Rattle.room_types.specs.declared.codes.State.{State}
 use Rattle.room_types.specs.declared.codes.State.TheVariants.{Active, Closed, Merged}
 use Rattle.room_tables_rows.specs.Columns.{truth}
 
 -- a state is active where its number is that of Active
-pub equal-active : (s : State) → equal Binary (number (state_number s)) (number (state_number Active)) ≡ is_active s
+pub equal-active : (s : State) → equal Binary (number (state_number s))
+    (number (state_number Active)) ≡ is_active s
 equal-active Active = equal-numbers 0 0
 equal-active Closed = equal-numbers 1 0
 equal-active (Merged n) = equal-numbers 2 0
@@ -38,13 +39,14 @@ pub and_three : (a b c : Bool) → (a && (b && (c && true))) ≡ (a && (b && c))
 and_three a b true = refl
 and_three a b false = refl
 
--- four
-pub and_four : (a b c d : Bool) → (a && (b && (c && (d && true)))) ≡ (a && (b && (c && d)))
-and_four a b c true = refl
-and_four a b c false = refl
+-- six, of which the last says why
+pub and_six : (a b c d e : Bool) {f g : Bool} → f ≡ g
+    → (a && (b && (c && (d && (e && (f && true)))))) ≡ (a && (b && (c && (d && (e && g)))))
+and_six a b c d e h = ap (λ x. a && (b && (c && (d && (e && x))))) (and_last h)
 
 -- integers are compared as integers
-compare_by-integers : (op : CompareOp) (m n : ℤ) → compare_by op (Int m) (Int n) ≡ test op (int_cmp m n)
+compare_by-integers : (op : CompareOp) (m n : ℤ)
+    → compare_by op (Int m) (Int n) ≡ test op (int_cmp m n)
 unfolding binary
 compare_by-integers op m n = elim (test op (value_cmp (Int m) (Int n))) as (λ t. is_true (from_truth (Some t)) ≡ t) [ true ↦ refl | false ↦ refl ] ∙ ap (test op) (value_cmp-Int m n)
 
