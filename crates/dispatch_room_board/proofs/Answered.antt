@@ -22,17 +22,22 @@ use Rattle.dispatch_room_board.specs.Members.{HasMember, IsRead}
 use Rattle.dispatch_room_board.specs.Messages.{Announces, HasNoMessage, IsDated, IsMessage, IsNoMessage, fields_in}
 use Rattle.dispatch_room_board.specs.Troubles.{IsTold}
 
-pub no_head : (bytes : List ℕ) → HasNoResponse bytes → MayBecomeResponse bytes → IsNoMessage bytes Unheard
+pub no_head : (bytes : List ℕ) → HasNoResponse bytes → MayBecomeResponse bytes
+    → IsNoMessage bytes Unheard
 no_head bytes none may = (λ m rest is. none is.head _ is.reads, inl may)
 
 pub never_head : (bytes : List ℕ) → ResponseOverflows FIELD_LIMIT bytes → IsNoMessage bytes Foreign
 never_head bytes over more m rest is = omega (arith, is.few, over more is.head _ is.reads)
 
 -- a head that is read, and as many bytes behind it as it announces
-pub message_read : (bytes rest : List ℕ) (spans : List HeaderSpan) (head : ResponseSpans) (m : Message) (size : ℕ) → IsResponseOf bytes spans head
-    → length spans ≤ FIELD_LIMIT → m.code ≡ head.code → IsSplitAt (take (length bytes - head.len) (drop head.len bytes)) size m.content.now rest
-    → IsRead (Announces (values_of (codes "content-length") (map (header_bytes bytes) (take head.headers spans)))) (Some size)
-    → IsRead (IsDated (values_of (codes "date") (map (header_bytes bytes) (take head.headers spans)))) m.moment → IsMessage bytes m rest
+pub message_read : (bytes rest : List ℕ) (spans : List HeaderSpan) (head : ResponseSpans)
+    (m : Message) (size : ℕ) → IsResponseOf bytes spans head
+    → length spans ≤ FIELD_LIMIT → m.code ≡ head.code
+    → IsSplitAt (take (length bytes - head.len) (drop head.len bytes)) size m.content.now rest
+    → IsRead (Announces (values_of (codes "content-length")
+    (map (header_bytes bytes) (take head.headers spans)))) (Some size)
+    → IsRead (IsDated (values_of (codes "date")
+    (map (header_bytes bytes) (take head.headers spans)))) m.moment → IsMessage bytes m rest
 message_read bytes rest spans head m size of room code split announced dated =
     let whole = take_all (length bytes - head.len) (drop head.len bytes) (omega (arith, length-drop head.len bytes)) in
     let parts : m.content.now ++ rest ≡ drop head.len bytes =
@@ -47,19 +52,24 @@ message_read bytes rest spans head m size of room code split announced dated =
     }
 
 -- a head without a length, whatever follows it
-pub never_long : (bytes rest : List ℕ) (h : ResponseHead) (fields : Fields) → ReadsResponse bytes h rest → fields ≡ fields_in h
-    → IsRead (Announces (values_of (codes "content-length") fields)) None → IsNoMessage bytes Foreign
+pub never_long : (bytes rest : List ℕ) (h : ResponseHead) (fields : Fields)
+    → ReadsResponse bytes h rest → fields ≡ fields_in h
+    → IsRead (Announces (values_of (codes "content-length") fields)) None
+    → IsNoMessage bytes Foreign
 never_long bytes rest h fields reads are none more m back is =
     let same = (response_prefix_free bytes more h is.head rest (m.content.now ++ back) reads is.reads).0 in
     none.is (length m.content.now) (rw (are, same) is.size)
 
-announced_is_one : (values : List (List ℕ)) (n m : ℕ) → Announces values n → Announces values m → n ≡ m
+announced_is_one : (values : List (List ℕ)) (n m : ℕ) → Announces values n → Announces values m
+    → n ≡ m
 announced_is_one values n m x y =
     let e = same_Some x.0 y.0 (sym x.1 ∙ y.1) in x.3 ∙ rw e (sym y.3)
 
 -- a head with a length, and less behind it
-pub cut_short : (bytes rest : List ℕ) (h : ResponseHead) (fields : Fields) (size : ℕ) → ReadsResponse bytes h rest → fields ≡ fields_in h
-    → IsRead (Announces (values_of (codes "content-length") fields)) (Some size) → length rest < size → IsNoMessage bytes Unheard
+pub cut_short : (bytes rest : List ℕ) (h : ResponseHead) (fields : Fields) (size : ℕ)
+    → ReadsResponse bytes h rest → fields ≡ fields_in h
+    → IsRead (Announces (values_of (codes "content-length") fields)) (Some size)
+    → length rest < size → IsNoMessage bytes Unheard
 cut_short bytes rest h fields size reads are announces less =
     (none, inr (h, rest, size, reads, rw are at announces.is, less))
   where
@@ -75,10 +85,12 @@ no_message bytes Unheard h = h.0
 no_message bytes Foreign h = rw append-nil at (h [])
 no_message bytes (Refused number name) h = absurd h
 
-pub nothing_heard : (bytes : List ℕ) (t : Trouble) → IsNoMessage bytes t → IsRead (IsHeardAt bytes) None
+pub nothing_heard : (bytes : List ℕ) (t : Trouble) → IsNoMessage bytes t
+    → IsRead (IsHeardAt bytes) None
 nothing_heard bytes t none = record { is = λ moment h. no_message bytes t none h.0 h.1 h.2 }
 
-pub heard_at : (bytes rest : List ℕ) (m : Message) (moment : Option ℕ) → moment ≡ m.moment → IsMessage bytes m rest → IsRead (IsHeardAt bytes) moment
+pub heard_at : (bytes rest : List ℕ) (m : Message) (moment : Option ℕ) → moment ≡ m.moment
+    → IsMessage bytes m rest → IsRead (IsHeardAt bytes) moment
 heard_at bytes rest m None same is = record { is = not }
   where
     not : (moment : ℕ) → ¬ IsHeardAt bytes moment
@@ -92,24 +104,31 @@ same_json : (bytes : List ℕ) (d e : Data) → IsJson bytes d → IsJson bytes 
 same_json bytes d e x y = same_Some d e (sym x.1 ∙ y.1)
 
 -- an answer that is no refusal lists what is found in it, if it has a date
-pub listed_or_not : {T : Type 0} (says : Data → T → Type 0) (name : List ℕ) (m : Message) (d : Data) (r : Result (List T × ℕ) Trouble) (o : Option (List T))
-    → r ≡ ok_or (option_zip o m.moment) Foreign → m.code ≡ 200 → IsJson m.content.now d → IsRead (HasMember (IsList says) name d) o
+pub listed_or_not : {T : Type 0} (says : Data → T → Type 0) (name : List ℕ) (m : Message)
+    (d : Data) (r : Result (List T × ℕ) Trouble) (o : Option (List T))
+    → r ≡ ok_or (option_zip o m.moment) Foreign → m.code ≡ 200 → IsJson m.content.now d
+    → IsRead (HasMember (IsList says) name d) o
     → MatchResult r (IsDatedAnswer says name m) (IsNoAnswer (IsDatedAnswer says name m) m)
 listed_or_not {T} says name m d r o is ok json found = rw is (either o m.moment refl found)
   where
-    either : (o : Option (List T)) (moment : Option ℕ) → moment ≡ m.moment → IsRead (HasMember (IsList says) name d) o
-        → MatchResult (ok_or (option_zip o moment) Foreign) (IsDatedAnswer says name m) (IsNoAnswer (IsDatedAnswer says name m) m)
+    either : (o : Option (List T)) (moment : Option ℕ) → moment ≡ m.moment
+        → IsRead (HasMember (IsList says) name d) o
+        → MatchResult (ok_or (option_zip o moment) Foreign) (IsDatedAnswer says name m)
+        (IsNoAnswer (IsDatedAnswer says name m) m)
     either None moment same found =
         (record { is = λ x h. found.is x.0 (rw (same_json _ d h.0.0 json h.0.2) h.0.3) }, record { is = λ t h. h.1 ok })
     either (Some rows) None same found = (record { is = λ x h. none-some x.1 (same ∙ h.1) }, record { is = λ t h. h.1 ok })
     either (Some rows) (Some moment) same found = ((d, ok, json, found.is), sym same)
 
 -- any other refuses as is told in it
-pub refused_or_not : {T : Type 0} (says : Data → T → Type 0) (name : List ℕ) (m : Message) (d : Data) (t : Trouble) (o : Option Trouble)
-    → t ≡ unwrap_or o Foreign → m.code ≢ 200 → IsJson m.content.now d → IsRead (IsTold d) o → IsNoAnswer (IsDatedAnswer says name m) m t
+pub refused_or_not : {T : Type 0} (says : Data → T → Type 0) (name : List ℕ) (m : Message)
+    (d : Data) (t : Trouble) (o : Option Trouble)
+    → t ≡ unwrap_or o Foreign → m.code ≢ 200 → IsJson m.content.now d → IsRead (IsTold d) o
+    → IsNoAnswer (IsDatedAnswer says name m) m t
 refused_or_not says name m d t o is bad json found = rw is (either o found)
   where
-    either : (o : Option Trouble) → IsRead (IsTold d) o → IsNoAnswer (IsDatedAnswer says name m) m (unwrap_or o Foreign)
+    either : (o : Option Trouble) → IsRead (IsTold d) o
+        → IsNoAnswer (IsDatedAnswer says name m) m (unwrap_or o Foreign)
     either None found =
         (record { is = λ x h. bad h.0.1 }, record { is = λ t h. found.is t (rw (same_json _ d h.0 json h.2) h.3) })
     either (Some Unheard) found = absurd found.is
@@ -117,7 +136,9 @@ refused_or_not says name m d t o is bad json found = rw is (either o found)
     either (Some (Refused number error)) found = (d, bad, json, found.is)
 
 -- what the next answer gives
-pub next_listed : {T : Type 0} (says : Data → T → Type 0) (name heard rest : List ℕ) (m : Message) (found : Result (List T × ℕ) Trouble) → IsMessage heard m rest
-    → MatchResult found (IsDatedAnswer says name m) (IsNoAnswer (IsDatedAnswer says name m) m) → MatchResult found (IsListed says name heard rest) (Befalls says name heard rest)
+pub next_listed : {T : Type 0} (says : Data → T → Type 0) (name heard rest : List ℕ) (m : Message)
+    (found : Result (List T × ℕ) Trouble) → IsMessage heard m rest
+    → MatchResult found (IsDatedAnswer says name m) (IsNoAnswer (IsDatedAnswer says name m) m)
+    → MatchResult found (IsListed says name heard rest) (Befalls says name heard rest)
 next_listed says name heard rest m (Ok rows) is h = (m, is, h)
 next_listed says name heard rest m (Err t) is h = inr (m, is, h)

@@ -9,20 +9,25 @@ use Rattle.serde_json.specs.View.{view, items_view}
 use Rattle.dispatch_room_board.specs.Listed.{AreRows, IsList}
 use Rattle.dispatch_room_board.specs.Members.{HasMember, IsRead}
 
-more_at_end : {T : Type 0} (says : Data → T → Type 0) (vs : List Value) (rows : List T) (v : Value) (row : T)
-    → AreRows says (items_view vs) rows → says (view v) row → AreRows says (items_view (vs ++ v ∷ [])) (rows ++ row ∷ [])
+more_at_end : {T : Type 0} (says : Data → T → Type 0) (vs : List Value) (rows : List T) (v : Value)
+    (row : T)
+    → AreRows says (items_view vs) rows → says (view v) row
+    → AreRows says (items_view (vs ++ v ∷ [])) (rows ++ row ∷ [])
 more_at_end says [] [] v row are is = (is, tt)
 more_at_end says [] (r ∷ rows) v row are is = absurd are
 more_at_end says (w ∷ vs) [] v row are is = absurd are
 more_at_end says (w ∷ vs) (r ∷ rows) v row are is = (are.0, more_at_end says vs rows v row are.1 is)
 
-pub rows_more : {T : Type 0} (says : Data → T → Type 0) (vs : List Value) (rows : List T) (v : Value) (row : T) (i : ℕ) → i < length vs → v ≡ get_or vs i v
-    → AreRows says (items_view (take i vs)) rows → says (view v) row → AreRows says (items_view (take (i + 1) vs)) (rows ++ row ∷ [])
+pub rows_more : {T : Type 0} (says : Data → T → Type 0) (vs : List Value) (rows : List T)
+    (v : Value) (row : T) (i : ℕ) → i < length vs → v ≡ get_or vs i v
+    → AreRows says (items_view (take i vs)) rows → says (view v) row
+    → AreRows says (items_view (take (i + 1) vs)) (rows ++ row ∷ [])
 rows_more says vs rows v row i below here are is =
     rw (take_more vs i v below, ← here) (more_at_end says (take i vs) rows v row are is)
 
 -- a value that says no row is in no list of rows
-pub not_rows : {T : Type 0} (says : Data → T → Type 0) (vs : List Value) (v : Value) (i : ℕ) → i < length vs → v ≡ get_or vs i v → IsRead (says (view v)) None
+pub not_rows : {T : Type 0} (says : Data → T → Type 0) (vs : List Value) (v : Value) (i : ℕ)
+    → i < length vs → v ≡ get_or vs i v → IsRead (says (view v)) None
     → (rows : List T) → ¬ AreRows says (items_view vs) rows
 not_rows says [] v i below here none rows are = absurd (omega arith)
 not_rows says (w ∷ vs) v i below here none [] are = are
@@ -30,8 +35,10 @@ not_rows says (w ∷ vs) v zero below here none (row ∷ rows) are = none.is row
 not_rows says (w ∷ vs) v (suc i) below here none (row ∷ rows) are = not_rows says vs v i (omega arith) here none rows are.1
 
 -- the rows of its items are read of the list
-pub list_read : {T : Type 0} (says : Data → T → Type 0) (name : List ℕ) (d m : Data) (vs : List Value) (o : Option (List T)) → Some m ≡ get name d
-    → Some (items_view vs) ≡ as_array m → IsRead (AreRows says (items_view vs)) o → IsRead (HasMember (IsList says) name d) o
+pub list_read : {T : Type 0} (says : Data → T → Type 0) (name : List ℕ) (d m : Data)
+    (vs : List Value) (o : Option (List T)) → Some m ≡ get name d
+    → Some (items_view vs) ≡ as_array m → IsRead (AreRows says (items_view vs)) o
+    → IsRead (HasMember (IsList says) name d) o
 list_read says name d m vs None found list read = record {
   is = λ rows h.
       let e = same_Some m h.0 (found ∙ h.1) in

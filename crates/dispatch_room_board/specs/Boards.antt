@@ -31,28 +31,37 @@ reached_with AllButRefused (Refused number name) = AllButRefused
 
 -- a sheet has these bytes more, and nothing else is other
 abbrev pub Puts : Sheet → Sheet → List ℕ → Type 0
-Puts old new bytes = Adds old.page new.page bytes × (new.rest ≡ old.rest) × (new.reached ≡ old.reached)
+Puts old new bytes =
+    Adds old.page new.page bytes × (new.rest ≡ old.rest) × (new.reached ≡ old.reached)
 
 -- the answer lists these rows, and was given at this moment
-abbrev pub IsDatedAnswer : {T : Type 0} → (Data → T → Type 0) → List ℕ → Message → List T × ℕ → Type 0
-IsDatedAnswer says name message found = IsAnswered says message name found.0 × (message.moment ≡ Some found.1)
+abbrev pub IsDatedAnswer : {T : Type 0} → (Data → T → Type 0) → List ℕ → Message → List T × ℕ
+    → Type 0
+IsDatedAnswer says name message found =
+    IsAnswered says message name found.0 × (message.moment ≡ Some found.1)
 
 -- what was heard begins with such an answer, and the rest follows
-abbrev pub IsListed : {T : Type 0} → (Data → T → Type 0) → List ℕ → List ℕ → List ℕ → List T × ℕ → Type 0
-IsListed says name heard rest found = (message : Message) × IsMessage heard message rest × IsDatedAnswer says name message found
+abbrev pub IsListed : {T : Type 0} → (Data → T → Type 0) → List ℕ → List ℕ → List ℕ → List T × ℕ
+    → Type 0
+IsListed says name heard rest found =
+    (message : Message) × IsMessage heard message rest × IsDatedAnswer says name message found
 
--- why no such rows were heard: no answer comes next, and nothing is taken, or the next one does not list them
-abbrev pub Befalls : {T : Type 0} → (Data → T → Type 0) → List ℕ → List ℕ → List ℕ → Trouble → Type 0
+-- why no such rows were heard: no answer comes next, and nothing is taken, or the next one does not
+-- list them
+abbrev pub Befalls : {T : Type 0} → (Data → T → Type 0) → List ℕ → List ℕ → List ℕ → Trouble
+    → Type 0
 Befalls says name heard rest trouble =
     (IsNoMessage heard trouble × (rest ≡ heard))
-    ⊎ ((message : Message) × IsMessage heard message rest × IsNoAnswer (IsDatedAnswer says name message) message trouble)
+    ⊎ ((message : Message) × IsMessage heard message rest
+    × IsNoAnswer (IsDatedAnswer says name message) message trouble)
 
 -- what stands in place of a table
 abbrev pub trouble_lines : Bool → List ℕ → Trouble → List ℕ
 trouble_lines colour title trouble = spaced_line colour Alarm (told title trouble)
 
 -- the rows of the next answer are shown as they were at its moment
-pub record ShowsRows {T : Type 0} (says : Data → T → Type 0) (table : Table T) (old new : Sheet) : Type 0 where
+pub record ShowsRows {T : Type 0} (says : Data → T → Type 0) (table : Table T)
+    (old new : Sheet) : Type 0 where
   pub rows : List T
   pub now : ℕ
   pub listed : IsListed says table.name old.rest.now new.rest.now (rows, now)
@@ -60,7 +69,8 @@ pub record ShowsRows {T : Type 0} (says : Data → T → Type 0) (table : Table 
   pub reached : new.reached ≡ old.reached
 
 -- it is told why there are none
-pub record TellsWhy {T : Type 0} (says : Data → T → Type 0) (table : Table T) (old new : Sheet) : Type 0 where
+pub record TellsWhy {T : Type 0} (says : Data → T → Type 0) (table : Table T)
+    (old new : Sheet) : Type 0 where
   pub trouble : Trouble
   pub befalls : Befalls says table.name old.rest.now new.rest.now trouble
   pub page : Adds old.page new.page (trouble_lines old.page.colour table.title trouble)
@@ -77,13 +87,17 @@ ShowsProposals false old new = new ≡ old
 
 -- the first answer that was heard was given at this moment
 abbrev pub IsHeardAt : List ℕ → ℕ → Type 0
-IsHeardAt heard moment = (message : Message) × (rest : List ℕ) × IsMessage heard message rest × (message.moment ≡ Some moment)
+IsHeardAt heard moment = (message : Message) × (rest : List ℕ) × IsMessage heard message rest
+    × (message.moment ≡ Some moment)
 
 -- the first line: the moment of the first answer, or that there is none
 abbrev pub IsHead : Sheet → Sheet → Type 0
 IsHead old new =
-    ((date : HttpDate) × IsHeardAt old.rest.now (unix_secs date) × Puts old new (text_line old.page.colour Plain (codes "Room at " ++ date_text date)))
-    ⊎ (IsRead (IsHeardAt old.rest.now) None × Puts old new (text_line old.page.colour Alarm (codes "Room at no moment: nothing was heard")))
+    ((date : HttpDate) × IsHeardAt old.rest.now (unix_secs date)
+    × Puts old new (text_line old.page.colour Plain (codes "Room at " ++ date_text date)))
+    ⊎ (IsRead (IsHeardAt old.rest.now) None
+    × Puts old new (text_line old.page.colour Alarm
+    (codes "Room at no moment: nothing was heard")))
 
 -- nothing is written yet
 pub record IsEmpty (heard : List ℕ) (painted : Bool) (sheet : Sheet) : Type 0 where

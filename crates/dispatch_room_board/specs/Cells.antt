@@ -16,12 +16,14 @@ two_digits n = decimal (n / 10) ++ decimal (n % 10)
 
 -- so many seconds: hours, and minutes and seconds in two digits each
 unfoldable pub age_text : ℕ → List ℕ
-age_text s = decimal (s / 3600) ++ codes ":" ++ two_digits (s / 60 % 60) ++ codes ":" ++ two_digits (s % 60)
+age_text s =
+    decimal (s / 3600) ++ codes ":" ++ two_digits (s / 60 % 60) ++ codes ":" ++ two_digits (s % 60)
 
 -- the last five digits of a number
 unfoldable pub five_digits : ℕ → List ℕ
 five_digits n =
-    decimal (n / 10000 % 10) ++ decimal (n / 1000 % 10) ++ decimal (n / 100 % 10) ++ decimal (n / 10 % 10) ++ decimal (n % 10)
+    decimal (n / 10000 % 10) ++ decimal (n / 1000 % 10) ++ decimal (n / 100 % 10)
+    ++ decimal (n / 10 % 10) ++ decimal (n % 10)
 
 -- the letters of a place's square
 abbrev pub square_of : ℕ → ℕ → List ℕ
@@ -32,11 +34,13 @@ square_of east north =
 
 -- a place as a grid reference to the metre
 unfoldable pub place_text : Place → List ℕ
-place_text p = square_of p.east p.north ++ codes " " ++ five_digits p.east ++ codes " " ++ five_digits p.north
+place_text p =
+    square_of p.east p.north ++ codes " " ++ five_digits p.east ++ codes " " ++ five_digits p.north
 
 -- a number for each kind: ambulances, cars, support
 unfoldable pub counts_text : Counts → List ℕ
-counts_text c = decimal c.ambulances ++ codes " " ++ decimal c.cars ++ codes " " ++ decimal c.support
+counts_text c =
+    decimal c.ambulances ++ codes " " ++ decimal c.cars ++ codes " " ++ decimal c.support
 
 -- a word and a number
 unfoldable pub named_text : List ℕ → ℕ → List ℕ
@@ -51,7 +55,8 @@ text_of (cell.Age s) = age_text s
 text_of (cell.Place p) = place_text p
 text_of (cell.Counts c) = counts_text c
 
--- how long a moment is past: nothing where it is to come, and no longer than the longest that is told
+-- how long a moment is past: nothing where it is to come, and no longer than the longest that is
+-- told
 abbrev pub since_text : ℕ → ℕ → List ℕ
 since_text now moment = age_text (min (now - moment) LONGEST)
 

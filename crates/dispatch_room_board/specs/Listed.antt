@@ -27,13 +27,16 @@ IsList says d rows = (ds : Items) × (as_array d ≡ Some ds) × AreRows says ds
 -- the answer is no refusal, and lists these rows under the name
 abbrev pub IsAnswered : {T : Type 0} → (Data → T → Type 0) → Message → List ℕ → List T → Type 0
 IsAnswered says message name rows =
-    (d : Data) × (message.code ≡ 200) × IsJson message.content.now d × HasMember (IsList says) name d rows
+    (d : Data) × (message.code ≡ 200) × IsJson message.content.now d
+    × HasMember (IsList says) name d rows
 
 -- the answer is a refusal, and tells this
 abbrev pub IsRefused : Message → Trouble → Type 0
-IsRefused message trouble = (d : Data) × (message.code ≢ 200) × IsJson message.content.now d × IsTold d trouble
+IsRefused message trouble =
+    (d : Data) × (message.code ≢ 200) × IsJson message.content.now d × IsTold d trouble
 
--- why an answer gives nothing of what is looked for: it refuses so, or gives nothing and does not refuse
+-- why an answer gives nothing of what is looked for: it refuses so, or gives nothing and does not
+-- refuse
 abbrev pub IsNoAnswer : {T : Type 0} → (T → Type 0) → Message → Trouble → Type 0
 IsNoAnswer gives message Unheard = ⊥
 IsNoAnswer gives message Foreign = IsRead gives None × IsRead (IsRefused message) None

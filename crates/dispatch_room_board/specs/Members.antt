@@ -86,7 +86,8 @@ HasItem says i d it = (m : Data) × (at i d ≡ Some m) × says m it
 
 -- a list of ambulances, cars and support
 abbrev pub IsCounts : Data → Counts → Type 0
-IsCounts d c = HasItem IsNeed 0 d c.ambulances × HasItem IsNeed 1 d c.cars × HasItem IsNeed 2 d c.support
+IsCounts d c =
+    HasItem IsNeed 0 d c.ambulances × HasItem IsNeed 1 d c.cars × HasItem IsNeed 2 d c.support
 
 -- such a list, with at least one vehicle
 abbrev pub IsNeeds : Data → Counts → Type 0

@@ -17,11 +17,13 @@ use Rattle.dispatch_room_board.specs.Members.{IsRead, last_moment}
 -- there is one value, digits alone, and they write this number, or one above all that is read
 abbrev pub Announces : List (List ℕ) → ℕ → Type 0
 Announces values n =
-    (value : List ℕ) × (only_value values ≡ Some value) × (is_numeral value ≡ true) × (n ≡ min (digits_value 10 value) TOO_LONG)
+    (value : List ℕ) × (only_value values ≡ Some value) × (is_numeral value ≡ true)
+    × (n ≡ min (digits_value 10 value) TOO_LONG)
 
 -- it is the text of a date, and the date is this moment, up to the end of 2099
 abbrev pub IsDateOf : List ℕ → ℕ → Type 0
-IsDateOf text moment = (date : HttpDate) × IsDateText text date × (unix_secs date ≡ moment) × (moment ≤ last_moment)
+IsDateOf text moment =
+    (date : HttpDate) × IsDateText text date × (unix_secs date ≡ moment) × (moment ≤ last_moment)
 
 -- there is one value, and it is the date of this moment
 abbrev pub IsDated : List (List ℕ) → ℕ → Type 0
@@ -52,7 +54,8 @@ NeverHasMessage bytes = (more : List ℕ) → HasNoMessage (bytes ++ more)
 abbrev pub IsCutShort : List ℕ → Type 0
 IsCutShort bytes =
     (head : ResponseHead) × (rest : List ℕ) × (size : ℕ)
-    × ReadsResponse bytes head rest × Announces (values_of (codes "content-length") (fields_in head)) size × (length rest < size)
+    × ReadsResponse bytes head rest × Announces
+    (values_of (codes "content-length") (fields_in head)) size × (length rest < size)
 
 -- why they begin with none: they end too early, or are no answer's
 abbrev pub IsNoMessage : List ℕ → Trouble → Type 0

@@ -20,7 +20,8 @@ use Rattle.dispatch_room_board.specs.Cells.{counts_text, kind_text, left_text, n
 use Rattle.dispatch_room_board.specs.Columns.{row_of, width_of}
 use Rattle.dispatch_room_board.specs.Pages.{line_of, text_line}
 
--- what an answer calls the rows, what the table is called, what stands above its rows, its columns, the texts of a row at a moment, and whether something is wrong with it then
+-- what an answer calls the rows, what the table is called, what stands above its rows, its columns,
+-- the texts of a row at a moment, and whether something is wrong with it then
 pub record Table (T : Type 0) : Type 0 where
   pub name : List ℕ
   pub title : List ℕ
@@ -44,11 +45,13 @@ alarm_of false = Plain
 
 -- the line of a row
 abbrev pub row_line : {T : Type 0} → Table T → Bool → ℕ → T → List ℕ
-row_line table colour now row = line_of colour (alarm_of (table.is_wrong now row)) (row_of table.columns (table.texts now row))
+row_line table colour now row =
+    line_of colour (alarm_of (table.is_wrong now row)) (row_of table.columns (table.texts now row))
 
 abbrev pub row_lines : {T : Type 0} → Table T → Bool → ℕ → List T → List ℕ
 row_lines table colour now [] = []
-row_lines table colour now (row ∷ rows) = row_line table colour now row ++ row_lines table colour now rows
+row_lines table colour now (row ∷ rows) =
+    row_line table colour now row ++ row_lines table colour now rows
 
 -- what stands above the rows, where there are rows
 abbrev pub titles_line : {T : Type 0} → Table T → Bool → List T → List ℕ
@@ -103,7 +106,8 @@ entry_table = record {
   title = codes "Queue";
   titles = codes " what                     of                  vehicle      waited";
   columns = Left 24 ∷ Left 19 ∷ Left 8 ∷ Right 10 ∷ [];
-  texts = λ now e. matter_of e.rank ∷ subject_of e.rank e.number ∷ callsign_of e.callsign ∷ waited_of e.rank now e.since ∷ [];
+  texts = λ now e. matter_of e.rank ∷ subject_of e.rank e.number ∷ callsign_of e.callsign
+      ∷ waited_of e.rank now e.since ∷ [];
   is_wrong = λ now e. false;
 }
 
@@ -114,7 +118,11 @@ lacks lack = nat_lt 0 (lack.ambulances + lack.cars + lack.support)
 -- how many of the vehicles that are needed serve
 abbrev pub served : Counts → Counts → Counts
 served needs lack =
-    record { ambulances = needs.ambulances - lack.ambulances; cars = needs.cars - lack.cars; support = needs.support - lack.support }
+    record {
+      ambulances = needs.ambulances - lack.ambulances;
+      cars = needs.cars - lack.cars;
+      support = needs.support - lack.support;
+    }
 
 abbrev pub incident_table : Table IncidentLine
 incident_table = record {
@@ -122,7 +130,8 @@ incident_table = record {
   title = codes "Incidents";
   titles = codes "   incident class place          needed served        age";
   columns = Right 10 ∷ Right 5 ∷ Left 14 ∷ Left 6 ∷ Left 6 ∷ Right 10 ∷ [];
-  texts = λ now l. decimal l.number ∷ decimal l.class ∷ place_text l.place ∷ counts_text l.needs ∷ counts_text (served l.needs l.lack) ∷ since_text now l.opened ∷ [];
+  texts = λ now l. decimal l.number ∷ decimal l.class ∷ place_text l.place ∷ counts_text l.needs
+      ∷ counts_text (served l.needs l.lack) ∷ since_text now l.opened ∷ [];
   is_wrong = λ now l. lacks l.lack;
 }
 
@@ -132,7 +141,8 @@ proposal_table = record {
   title = codes "Proposals";
   titles = codes " vehicle  kind      standby                   metres";
   columns = Left 8 ∷ Left 9 ∷ Left 21 ∷ Right 10 ∷ [];
-  texts = λ now p. p.callsign ∷ kind_text p.kind ∷ (if p.breaks then codes "leaves a point short" else []) ∷ decimal p.distance ∷ [];
+  texts = λ now p. p.callsign ∷ kind_text p.kind
+      ∷ (if p.breaks then codes "leaves a point short" else []) ∷ decimal p.distance ∷ [];
   is_wrong = λ now p. p.breaks;
 }
 
@@ -158,7 +168,8 @@ vehicle_table = record {
   title = codes "Vehicles";
   titles = codes " vehicle  kind      status      place          home sent to             min left";
   columns = Left 8 ∷ Left 9 ∷ Left 11 ∷ Left 14 ∷ Right 4 ∷ Left 19 ∷ Right 8 ∷ [];
-  texts = λ now v. v.callsign ∷ kind_text v.kind ∷ status_text v.status ∷ place_text v.place ∷ decimal v.home ∷ sent_text v.incident v.post ∷ shift_text now v.status v.shift_end ∷ [];
+  texts = λ now v. v.callsign ∷ kind_text v.kind ∷ status_text v.status ∷ place_text v.place
+      ∷ decimal v.home ∷ sent_text v.incident v.post ∷ shift_text now v.status v.shift_end ∷ [];
   is_wrong = λ now v. is_overdue now v.status v.shift_end;
 }
 
@@ -178,7 +189,8 @@ offer_table = record {
   title = codes "Offers";
   titles = codes " vehicle  from   to recalled        age min left";
   columns = Left 8 ∷ Right 4 ∷ Right 4 ∷ Left 8 ∷ Right 10 ∷ Right 8 ∷ [];
-  texts = λ now o. o.callsign ∷ decimal o.lender ∷ decimal o.borrower ∷ codes "-" ∷ since_text now o.since ∷ left_text now o.until ∷ [];
+  texts = λ now o. o.callsign ∷ decimal o.lender ∷ decimal o.borrower ∷ codes "-"
+      ∷ since_text now o.since ∷ left_text now o.until ∷ [];
   is_wrong = λ now o. false;
 }
 
@@ -188,6 +200,8 @@ loan_table = record {
   title = codes "Loans";
   titles = codes " vehicle  from   to recalled        age min left";
   columns = Left 8 ∷ Right 4 ∷ Right 4 ∷ Left 8 ∷ Right 10 ∷ Right 8 ∷ [];
-  texts = λ now l. l.callsign ∷ decimal l.lender ∷ decimal l.borrower ∷ (if l.recalled then codes "recalled" else codes "-") ∷ since_text now l.since ∷ left_text now l.until ∷ [];
+  texts = λ now l. l.callsign ∷ decimal l.lender ∷ decimal l.borrower
+      ∷ (if l.recalled then codes "recalled" else codes "-") ∷ since_text now l.since
+      ∷ left_text now l.until ∷ [];
   is_wrong = λ now l. nat_le l.until now;
 }

@@ -40,14 +40,16 @@ abbrev pub IsHelpDone : ErrorKind → Result Done Failure → Type 0
 IsHelpDone kind.OutOfMemory done = done ≡ Err Memory
 IsHelpDone other done = (done ≡ Ok Whole) ⊎ (done ≡ Err Network)
 
--- the exit status of words that are no command: 2 exactly where they have a mistake, else that of help
+-- the exit status of words that are no command: 2 exactly where they have a mistake, else that of
+-- help
 abbrev pub IsWordsStatus : ErrorKind → ℕ → Type 0
 IsWordsStatus kind.OutOfMemory status = status ≡ 5
 IsWordsStatus kind.DisplayHelp status = (status ≡ 0) ⊎ (status ≡ 4)
 IsWordsStatus kind.DisplayVersion status = (status ≡ 0) ⊎ (status ≡ 4)
 IsWordsStatus other status = status ≡ 2
 
--- how a board ends: refused parts are as rows that are refused, and what is not reached is the network's
+-- how a board ends: refused parts are as rows that are refused, and what is not reached is the
+-- network's
 abbrev pub end_of_board : Reached → Result Done Failure
 end_of_board reached.All = Ok Whole
 end_of_board reached.AllButRefused = Ok InPart
@@ -56,11 +58,14 @@ end_of_board reached.Less = Err Network
 -- the board of what was heard is written, and the command ends so
 abbrev pub IsPrinted : List ℕ → Bool → Bool → Option (List ℕ) → Option (List ℕ) → Done → Type 0
 IsPrinted heard proposes colour old new done =
-    (board : Board) × IsBoard heard proposes colour board × Appends old new board.page.text.items × (end_of_board board.reached ≡ Ok done)
+    (board : Board) × IsBoard heard proposes colour board × Appends old new board.page.text.items
+    × (end_of_board board.reached ≡ Ok done)
 
--- the exit status of a command line: by what was done, or by what its words are in place of a command
+-- the exit status of a command line: by what was done, or by what its words are in place of a
+-- command
 abbrev pub IsExit : ℕ → Type 0
-IsExit status = ((done : Result Done Failure) × (status ≡ status_after done)) ⊎ ((words : ErrorKind) × IsWordsStatus words status)
+IsExit status = ((done : Result Done Failure) × (status ≡ status_after done))
+    ⊎ ((words : ErrorKind) × IsWordsStatus words status)
 
 -- why a replay stopped at a record, as the program tells it
 abbrev pub failure_at : ReplayFault → ℕ → Failure

@@ -11,9 +11,12 @@ use Rattle.room_store.specs.Keeping.{IsRoom}
 use Rattle.room_store.specs.declared.store.Store.{Store}
 
 -- the store stands for the room after all rows
-pub stands_after_all : (old store : Store MemStore) (rows : List FleetRow) (was is : List RowFate) (terminals : List Terminal) (room : Room)
-    → (done : HasEnrolled over_memory old store rows was is terminals room) → done.count ≡ length rows
-    → IsRoom over_memory store (terminals_after_rows rows room terminals) (room_after_rows rows room terminals)
+pub stands_after_all : (old store : Store MemStore) (rows : List FleetRow) (was is : List RowFate)
+    (terminals : List Terminal) (room : Room)
+    → (done : HasEnrolled over_memory old store rows was is terminals room)
+    → done.count ≡ length rows
+    → IsRoom over_memory store (terminals_after_rows rows room terminals)
+    (room_after_rows rows room terminals)
 stands_after_all old store rows was is terminals room done all =
     subst (λ (some : List FleetRow). IsRoom over_memory store (terminals_after_rows some room terminals) (room_after_rows some room terminals))
     (take_all done.count rows (omega (arith, all))) done.stands

@@ -16,7 +16,8 @@ unfolding jiff_on_literals
 zone_is_read = refl
 
 -- a new room begins with the areas of its plan
-pub same_new_room : (plan other : Layout) → plan.areas ≡ other.areas → new_room plan ≡ new_room other
+pub same_new_room : (plan other : Layout) → plan.areas ≡ other.areas
+    → new_room plan ≡ new_room other
 same_new_room plan other same =
     ap (λ (areas : List Area). record empty_room { plan = areas; divisions = new_divisions areas }) same
 

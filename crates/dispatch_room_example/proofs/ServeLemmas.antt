@@ -13,16 +13,23 @@ use Rattle.room_http.specs.Serving.{Sides, Finish, Answered, HasActed, Unserved,
 use Rattle.dispatch_room_example.specs.Example.{untold}
 use Rattle.room_http.specs.Talk.{Timed, IsFront, BreaksOff, Talks}
 
-module _ (step : Step) (zone : Zone) (old : Sides) (new : Finish) (trusted : Type 0) (trust : trusted) (stood stands : List Terminal → Room → Type 0) (wants : Timed → List Terminal → Room → Type 0) (asked : List Terminal → Room → Type 0)
+module _ (step : Step) (zone : Zone) (old : Sides) (new : Finish) (trusted : Type 0)
+    (trust : trusted) (stood stands : List Terminal → Room → Type 0)
+    (wants : Timed → List Terminal → Room → Type 0) (asked : List Terminal → Room → Type 0)
     (is : (terminals : List Terminal) (room : Room) → asked terminals room → stood terminals room) where
   -- what is written is the talk of each room that the one at the beginning was asked to be
-  talks : (outs : List Timed) (says less : List Terminal → Room → List ℕ → Type 0) → ((terminals : List Terminal) (room : Room) (tail : List ℕ) → says terminals room tail → less terminals room tail)
-      → Talks step zone trusted stood old.held new.held outs says → Talks step zone ⊤ asked old.held new.held outs less
+  talks : (outs : List Timed) (says less : List Terminal → Room → List ℕ → Type 0)
+      → ((terminals : List Terminal) (room : Room) (tail : List ℕ) → says terminals room tail
+      → less terminals room tail)
+      → Talks step zone trusted stood old.held new.held outs says
+      → Talks step zone ⊤ asked old.held new.held outs less
   talks outs says less tells talk _ terminals room begins =
       let x = talk trust terminals room (is terminals room begins) in
       (x.0, x.1, x.2, x.3, tells terminals x.0 x.2 x.4, x.5)
 
-  answered : (outs : List Timed) (follows : List ℕ → Type 0) → Answered step zone old new trusted stood stands outs follows → Answered step zone old new ⊤ asked untold outs follows
+  answered : (outs : List Timed) (follows : List ℕ → Type 0)
+      → Answered step zone old new trusted stood stands outs follows
+      → Answered step zone old new ⊤ asked untold outs follows
   answered outs follows a = record {
     begins = a.begins;
     timed = a.timed;
@@ -30,7 +37,9 @@ module _ (step : Step) (zone : Zone) (old : Sides) (new : Finish) (trusted : Typ
         (λ terminals after tail said. (tt, said.1)) a.talk;
   }
 
-  wanted : (outs : List Timed) (x : Timed) (so_much : List ℕ → List ℕ → Type 0) → Unserved step zone old new trusted stood stands wants outs x so_much → Unserved step zone old new ⊤ asked untold (λ y. untold) outs x so_much
+  wanted : (outs : List Timed) (x : Timed) (so_much : List ℕ → List ℕ → Type 0)
+      → Unserved step zone old new trusted stood stands wants outs x so_much
+      → Unserved step zone old new ⊤ asked untold (λ y. untold) outs x so_much
   wanted outs x so_much w = record {
     begins = w.begins;
     timed = w.timed;
@@ -42,7 +51,8 @@ module _ (step : Step) (zone : Zone) (old : Sides) (new : Finish) (trusted : Typ
         (λ terminals after tail said. (tt, said.1)) w.talk;
   }
 
-  broken : (outs : List Timed) (x : Timed) → Broken step zone old new trusted stood stands outs x → Broken step zone old new ⊤ asked untold outs x
+  broken : (outs : List Timed) (x : Timed) → Broken step zone old new trusted stood stands outs x
+      → Broken step zone old new ⊤ asked untold outs x
   broken outs x b = record {
     begins = b.begins;
     timed = b.timed;
@@ -50,7 +60,9 @@ module _ (step : Step) (zone : Zone) (old : Sides) (new : Finish) (trusted : Typ
         (λ terminals after tail said. (said.0, said.1, said.2, tt, said.4)) b.talk;
   }
 
-  untimed : (outs : List Timed) (o : Arrival) → Untimed step zone old new trusted stood stands outs o → Untimed step zone old new ⊤ asked untold outs o
+  untimed : (outs : List Timed) (o : Arrival)
+      → Untimed step zone old new trusted stood stands outs o
+      → Untimed step zone old new ⊤ asked untold outs o
   untimed outs o u = record {
     begins = u.begins;
     timed = u.timed;
@@ -59,8 +71,10 @@ module _ (step : Step) (zone : Zone) (old : Sides) (new : Finish) (trusted : Typ
         (λ terminals after tail said. (tt, said.1)) u.talk;
   }
 
-  unwritten : (outs : List Timed) (x : Timed) (says less : List Terminal → Room → Type 0) → ((terminals : List Terminal) (room : Room) → says terminals room → less terminals room)
-      → Unwritten step zone old new trusted stood stands outs x says → Unwritten step zone old new ⊤ asked untold outs x less
+  unwritten : (outs : List Timed) (x : Timed) (says less : List Terminal → Room → Type 0)
+      → ((terminals : List Terminal) (room : Room) → says terminals room → less terminals room)
+      → Unwritten step zone old new trusted stood stands outs x says
+      → Unwritten step zone old new ⊤ asked untold outs x less
   unwritten outs x says less tells u = record {
     begins = u.begins;
     next = u.next;
@@ -70,7 +84,9 @@ module _ (step : Step) (zone : Zone) (old : Sides) (new : Finish) (trusted : Typ
   }
 
   -- however it ended
-  pub serves : (budget : ℕ) (end : ServeEnd) → ServeIs step zone old new trusted stood stands wants budget end → ServeIs step zone old new ⊤ asked untold (λ x. untold) budget end
+  pub serves : (budget : ℕ) (end : ServeEnd)
+      → ServeIs step zone old new trusted stood stands wants budget end
+      → ServeIs step zone old new ⊤ asked untold (λ x. untold) budget end
   serves budget Closed (inl ended) = inl (ended.0, answered ended.0 (λ rest. rest ≡ []) ended.1, ended.2)
   serves budget Closed (inr (inl closed)) = inr (inl (closed.0, answered closed.0 (λ rest. ⊤) closed.1, closed.2))
   serves budget Closed (inr (inr want)) = inr (inr (want.0, want.1, wanted want.0 want.1 (λ tail fixed. tail ≡ fixed) want.2))

@@ -1,4 +1,5 @@
--- The example room: its plan, its terminals, its fleet, where it begins, and what a connection to it is served.
+-- The example room: its plan, its terminals, its fleet, where it begins, and what a connection to
+-- it is served.
 use Rattle.std.specs.Prelude.{◌≡◌, ℕ, List, [], ◌∷◌, codes, refl, ⊤}
 use Rattle.jiff.specs.Placed.{IsPosixZone}
 use Rattle.room_place.specs.Plans.{Layout}
@@ -19,8 +20,26 @@ use Rattle.room_http.specs.declared.serving.ServeEnd.{ServeEnd}
 abbrev pub example_plan : Layout
 example_plan = record {
   areas =
-      record { division = 1; rect = record { west = 500_000; south = 100_000; east = 549_999; north = 199_999 } }
-      ∷ record { division = 2; rect = record { west = 550_000; south = 100_000; east = 599_999; north = 199_999 } }
+      record {
+        division = 1;
+        rect = record {
+          west = 500_000;
+          south = 100_000;
+          east =
+              549_999;
+          north = 199_999;
+        };
+      }
+      ∷ record {
+        division = 2;
+        rect = record {
+          west = 550_000;
+          south = 100_000;
+          east =
+              599_999;
+          north = 199_999;
+        };
+      }
       ∷ [];
   zone = codes "GMT0BST,M3.5.0/1,M10.5.0";
   sound = refl;
@@ -37,11 +56,46 @@ example_terminals =
 -- three ambulances and a car of division 1, and an ambulance of division 2
 abbrev pub example_fleet : List FleetRow
 example_fleet =
-    record { callsign = codes "A1"; division = 1; kind = Ambulance; place = record { east = 530_300; north = 180_400 }; token = codes "crewofa1" }
-    ∷ record { callsign = codes "A2"; division = 1; kind = Ambulance; place = record { east = 530_400; north = 180_300 }; token = codes "crewofa2" }
-    ∷ record { callsign = codes "A3"; division = 1; kind = Ambulance; place = record { east = 530_000; north = 180_100 }; token = codes "crewofa3" }
-    ∷ record { callsign = codes "B1"; division = 2; kind = Ambulance; place = record { east = 560_000; north = 180_000 }; token = codes "crewofb1" }
-    ∷ record { callsign = codes "C1"; division = 1; kind = Car; place = record { east = 530_000; north = 180_000 }; token = codes "crewofc1" }
+    record {
+      callsign = codes "A1";
+      division = 1;
+      kind = Ambulance;
+      place =
+          record { east = 530_300; north = 180_400 };
+      token = codes "crewofa1";
+    }
+    ∷ record {
+      callsign = codes "A2";
+      division = 1;
+      kind = Ambulance;
+      place =
+          record { east = 530_400; north = 180_300 };
+      token = codes "crewofa2";
+    }
+    ∷ record {
+      callsign = codes "A3";
+      division = 1;
+      kind = Ambulance;
+      place =
+          record { east = 530_000; north = 180_100 };
+      token = codes "crewofa3";
+    }
+    ∷ record {
+      callsign = codes "B1";
+      division = 2;
+      kind = Ambulance;
+      place =
+          record { east = 560_000; north = 180_000 };
+      token = codes "crewofb1";
+    }
+    ∷ record {
+      callsign = codes "C1";
+      division = 1;
+      kind = Car;
+      place =
+          record { east = 530_000; north = 180_000 };
+      token = codes "crewofc1";
+    }
     ∷ []
 
 -- the new room of the plan, and then the rows of the fleet enrolled one after another
@@ -50,7 +104,8 @@ room_with_fleet = room_after_rows example_fleet (new_room example_plan) (in_orde
 
 -- its terminals, those of the crews among them
 abbrev pub terminals_with_crews : List Terminal
-terminals_with_crews = terminals_after_rows example_fleet (new_room example_plan) (in_order example_terminals)
+terminals_with_crews =
+    terminals_after_rows example_fleet (new_room example_plan) (in_order example_terminals)
 
 -- the example room: five vehicles off duty, no call and no incident
 abbrev pub IsExample : List Terminal → Room → Type 0
@@ -64,6 +119,8 @@ IsExampleZone zone = IsPosixZone example_plan.zone (zone_of zone)
 abbrev pub untold : List Terminal → Room → Type 0
 untold terminals room = ⊤
 
--- what is written is the talk of the example room with the messages that are read, in so many reads at most
+-- what is written is the talk of the example room with the messages that are read, in so many reads
+-- at most
 abbrev pub IsExampleTalk : Sides → Finish → ℕ → ServeEnd → Type 0
-IsExampleTalk old new budget end = (zone : Zone) × IsExampleZone zone × ServeIs machine zone old new ⊤ IsExample untold (λ x. untold) budget end
+IsExampleTalk old new budget end = (zone : Zone) × IsExampleZone zone
+    × ServeIs machine zone old new ⊤ IsExample untold (λ x. untold) budget end

@@ -20,7 +20,8 @@ some_digit [] numeral = absurd (cc)
 some_digit (b ∷ bs) numeral = omega arith
 
 -- what is read of digits alone is their number
-pub number_read : {E : Type 0} (text : List ℕ) (parsed : Result ℕ E) → is_numeral text ≡ true → ParsesUnsigned 32 10 text parsed
+pub number_read : {E : Type 0} (text : List ℕ) (parsed : Result ℕ E) → is_numeral text ≡ true
+    → ParsesUnsigned 32 10 text parsed
     → result_ok parsed ≡ number_of text
 number_read {E = E} text (Ok n) numeral gives =
     let read = parse_digits numerals {E = E} 32 text (Ok n) gives (and_parts _ _ numeral).1 in
@@ -40,20 +41,24 @@ text_is (field ∷ fields) zero = refl
 text_is (field ∷ fields) (suc at) = text_is fields at
 
 -- a name among others, read as a text
-pub name_at : (names : List (Bor (List ℕ))) (at : ℕ) (d : Bor (List ℕ)) → at < length names → get_or (map (λ name. name.now) names) at [] ≡ (get_or names at d).now
+pub name_at : (names : List (Bor (List ℕ))) (at : ℕ) (d : Bor (List ℕ)) → at < length names
+    → get_or (map (λ name. name.now) names) at [] ≡ (get_or names at d).now
 name_at names at d within = get_or-map (λ name. name.now) names at d [] within
 
 -- texts are found to differ exactly where they do
-pub no_other : (other : Bool) (xs ys : List ℕ) → other ≡ not (bytes_eq xs ys) → other ≡ false → xs ≡ ys
+pub no_other : (other : Bool) (xs ys : List ℕ) → other ≡ not (bytes_eq xs ys) → other ≡ false
+    → xs ≡ ys
 no_other other xs ys test same = (bytes_eq-Decides xs ys).0 (of_not _ (sym test ∙ same))
   where
     of_not : (b : Bool) → not b ≡ false → b ≡ true
     of_not true h = refl
     of_not false h = absurd (cc (h))
 
-pub another : (other : Bool) (xs ys : List ℕ) → other ≡ not (bytes_eq xs ys) → other ≡ true → xs ≡ ys → ⊥
+pub another : (other : Bool) (xs ys : List ℕ) → other ≡ not (bytes_eq xs ys) → other ≡ true
+    → xs ≡ ys → ⊥
 another other xs ys test differ same = cc (test, differ, not_from_true (bytes_eq xs ys) ((bytes_eq-Decides xs ys).1 same))
 
 -- a record whose texts are these has these fields
-pub same_fields : (row names : Fields) → length row ≡ length names → ((at : ℕ) → at < length names → text_at row at ≡ get_or names at []) → row ≡ names
+pub same_fields : (row names : Fields) → length row ≡ length names
+    → ((at : ℕ) → at < length names → text_at row at ≡ get_or names at []) → row ≡ names
 same_fields row names long each = ext_get_or [] row names long (λ at within. sym (text_is row at) ∙ each at (omega arith))

@@ -26,7 +26,8 @@ abbrev pub AllKept : List PlanLine → List PlanLine → List PlanLine → Type 
 AllKept all earlier [] = Unit {0}
 AllKept all earlier (l ∷ rest) = (is_refused all earlier l ≡ false) × AllKept all (earlier ++ l ∷ []) rest
 
-pub all_kept : (all earlier rest : List PlanLine) → all ≡ earlier ++ rest → AreKept all (length all) → AllKept all earlier rest
+pub all_kept : (all earlier rest : List PlanLine) → all ≡ earlier ++ rest
+    → AreKept all (length all) → AllKept all earlier rest
 all_kept all earlier [] e kept = tt
 all_kept all earlier (l ∷ rest) e kept =
     let within : length earlier < length all = omega (arith, ap length e, length-append earlier (l ∷ rest)) in
@@ -50,10 +51,12 @@ areas_kept all earlier (line.BadArea division ∷ rest) kept = absurd (cc (kept.
 areas_kept all earlier (line.Bad ∷ rest) kept = absurd (cc (kept.0))
 
 -- a zone that was seen is seen with more rows too
-seen_before : (earlier more : List PlanLine) → list_any is_zone_line earlier ≡ true → list_any is_zone_line (earlier ++ more) ≡ true
+seen_before : (earlier more : List PlanLine) → list_any is_zone_line earlier ≡ true
+    → list_any is_zone_line (earlier ++ more) ≡ true
 seen_before earlier more had = rw (list_any-append is_zone_line earlier more) (or_left _ _ had)
 
-seen_here : (earlier : List PlanLine) (l : PlanLine) → is_zone_line l ≡ true → list_any is_zone_line (earlier ++ l ∷ []) ≡ true
+seen_here : (earlier : List PlanLine) (l : PlanLine) → is_zone_line l ≡ true
+    → list_any is_zone_line (earlier ++ l ∷ []) ≡ true
 seen_here earlier l zone = rw (list_any-append is_zone_line earlier (l ∷ [])) (or_right _ _ (or_left _ _ zone))
 
 -- after a zone comes no other
@@ -70,7 +73,8 @@ no_more_zones all earlier (line.BadArea division ∷ rest) kept had = absurd (cc
 no_more_zones all earlier (line.Bad ∷ rest) kept had = absurd (cc (kept.0))
 
 -- there is one zone, and a plan can have it
-pub one_zone : (all earlier rest : List PlanLine) → AllKept all earlier rest → list_any is_zone_line rest ≡ true
+pub one_zone : (all earlier rest : List PlanLine) → AllKept all earlier rest
+    → list_any is_zone_line rest ≡ true
     → (rule : List ℕ) × (filter_map rule_in rest ≡ rule ∷ []) × (is_zone rule ≡ true)
 one_zone all earlier [] kept some = absurd (cc (some))
 one_zone all earlier (line.Zone rule ∷ rest) kept some =
@@ -82,13 +86,16 @@ one_zone all earlier (line.BadZone ∷ rest) kept some = absurd (cc (kept.0))
 one_zone all earlier (line.BadArea division ∷ rest) kept some = absurd (cc (kept.0))
 one_zone all earlier (line.Bad ∷ rest) kept some = absurd (cc (kept.0))
 
-no_fault : (areas : List Area) (rule : List ℕ) → has_sound_count areas ≡ true → are_of_divisions areas ≡ true → are_rectangles areas ≡ true
+no_fault : (areas : List Area) (rule : List ℕ) → has_sound_count areas ≡ true
+    → are_of_divisions areas ≡ true → are_rectangles areas ≡ true
     → is_zone rule ≡ true → plan_fault areas rule ≡ None
 no_fault areas rule count divisions rectangles zone = rw (count, divisions, rectangles, zone) refl
 
 -- rows that break no rule have one zone, and a plan takes it with their areas
-pub kept_is_plan : (lines : List PlanLine) → has_zone_and_areas lines ≡ true → AreKept lines (length lines)
-    → (rule : List ℕ) × (filter_map rule_in lines ≡ rule ∷ []) × (plan_fault (filter_map area_in lines) rule ≡ None)
+pub kept_is_plan : (lines : List PlanLine) → has_zone_and_areas lines ≡ true
+    → AreKept lines (length lines)
+    → (rule : List ℕ) × (filter_map rule_in lines ≡ rule ∷ [])
+    × (plan_fault (filter_map area_in lines) rule ≡ None)
 kept_is_plan lines counted kept =
     let all = all_kept lines [] lines refl kept in
     let areas = areas_kept lines [] lines all in
@@ -97,19 +104,23 @@ kept_is_plan lines counted kept =
     (zone.0, zone.1, no_fault (filter_map area_in lines) zone.0 (rw areas.0 tests.1) areas.1 areas.2 zone.2)
 
 -- the plan of a text is that of its rows
-pub plan_read : (text : List ℕ) (rows : List Fields) (lines : List PlanLine) (read : Result PlanFile PlanFileFault) → HasRows plan_header text rows
+pub plan_read : (text : List ℕ) (rows : List Fields) (lines : List PlanLine)
+    (read : Result PlanFile PlanFileFault) → HasRows plan_header text rows
     → lines ≡ map plan_line_of rows → IfOk read (IsPlanOf lines) → IfOk read (IsPlanText text)
 plan_read text rows lines (Ok file) table said made = (rows, table, rw said at made)
 plan_read text rows lines (Err fault) table said made = tt
 
 -- what a plan's rows are refused for, the text is refused for
-lines_explained : (text : List ℕ) (rows : List Fields) (fault : PlanFileFault) → HasRows plan_header text rows
+lines_explained : (text : List ℕ) (rows : List Fields) (fault : PlanFileFault)
+    → HasRows plan_header text rows
     → ExplainsLines (map plan_line_of rows) fault → ExplainsPlan text fault
 lines_explained text rows Input table why = absurd why
 lines_explained text rows (Row k) table why = (rows, table, why)
 lines_explained text rows Memory table why = tt
 
-pub fault_read : (text : List ℕ) (rows : List Fields) (lines : List PlanLine) (read : Result PlanFile PlanFileFault) → HasRows plan_header text rows
-    → lines ≡ map plan_line_of rows → IfErr read (ExplainsLines lines) → IfErr read (ExplainsPlan text)
+pub fault_read : (text : List ℕ) (rows : List Fields) (lines : List PlanLine)
+    (read : Result PlanFile PlanFileFault) → HasRows plan_header text rows
+    → lines ≡ map plan_line_of rows → IfErr read (ExplainsLines lines)
+    → IfErr read (ExplainsPlan text)
 fault_read text rows lines (Ok file) table said why = tt
 fault_read text rows lines (Err fault) table said why = lines_explained text rows fault table (rw said at why)

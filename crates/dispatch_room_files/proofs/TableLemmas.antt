@@ -17,7 +17,8 @@ use Rattle.dispatch_room_files.specs.declared.records.RecordsFault.{RecordsFault
 use Rattle.dispatch_room_files.specs.declared.records.RecordsFault.TheVariants.{Input, Memory}
 
 -- where one more record can be read, it comes next in every list of all records
-pub comes_next : (cfg : Config) (s s2 s3 : State) (xs ys zs : List ℕ) (rows all : List Fields) (p : Read)
+pub comes_next : (cfg : Config) (s s2 s3 : State) (xs ys zs : List ℕ) (rows all : List Fields)
+    (p : Read)
     → Reached cfg s xs rows s2 ys → next_record cfg s2 [] [] ys ≡ Some p
     → Reached cfg s xs all s3 zs → next_record cfg s3 [] [] zs ≡ None
     → (more : List Fields) × (all ≡ rows ++ p.0 ∷ more)
@@ -50,7 +51,8 @@ one_list cfg s s2 s3 xs ys zs (w ∷ ws) (r ∷ rs) here done there ends =
     cc (here.2, there.2, same, rest)
 
 -- a text is one table
-pub one_table : (text : List ℕ) (rows all : List Fields) → IsTable text rows → IsTable text all → all ≡ rows
+pub one_table : (text : List ℕ) (rows all : List Fields) → IsTable text rows → IsTable text all
+    → all ≡ rows
 one_table text rows all here there =
     one_list default_config StartRecord here.read.0 there.read.0 (strip_bom text) here.read.1 there.read.1 rows all
     here.read.2 here.read.3 there.read.2 there.read.3
@@ -61,7 +63,8 @@ width_of [] = None
 width_of (first ∷ others) = Some (length first)
 
 -- each record of a table is text
-text_next : (rows more : List Fields) (fields : Fields) → All AllText (rows ++ fields ∷ more) → AllText fields
+text_next : (rows more : List Fields) (fields : Fields) → All AllText (rows ++ fields ∷ more)
+    → AllText fields
 text_next rows more fields all =
     let within : length rows < length (rows ++ fields ∷ more) = omega (arith, length-append rows (fields ∷ more)) in
     rw (get_or-append_seam rows fields more fields) at (all (length rows) fields within)
@@ -76,26 +79,32 @@ width_next (first ∷ others) more fields width known alike =
     cc (known, same)
 
 -- one more record of the width that is expected
-pub width_more : (rows : List Fields) (fields : Fields) (old new : Option ℕ) → old ≡ width_of rows → IfSome old (λ width. new ≡ Some width)
-    → new ≡ Some (length fields) → AreAlike rows → (new ≡ width_of (rows ++ fields ∷ [])) × AreAlike (rows ++ fields ∷ [])
+pub width_more : (rows : List Fields) (fields : Fields) (old new : Option ℕ) → old ≡ width_of rows
+    → IfSome old (λ width. new ≡ Some width)
+    → new ≡ Some (length fields) → AreAlike rows
+    → (new ≡ width_of (rows ++ fields ∷ [])) × AreAlike (rows ++ fields ∷ [])
 width_more [] fields old new known kept next alike = (next, λ k d h. absurd (omega arith))
 width_more (first ∷ others) fields old new known kept next alike =
     let stays : new ≡ Some (length first) = rw known at kept in
     (stays, All-push (λ other. length other ≡ length first) others fields alike (cc (stays, next)))
 
 -- a read that took a record
-took : (o : Option Read) (fields : Fields) (s : State) (rest : List ℕ) → NextIs o true fields s rest → (p : Read) × (o ≡ Some p) × (fields ≡ p.0)
+took : (o : Option Read) (fields : Fields) (s : State) (rest : List ℕ)
+    → NextIs o true fields s rest → (p : Read) × (o ≡ Some p) × (fields ≡ p.0)
 took None fields s rest next = cc (next)
 took (Some p) fields s rest next = (p, refl, next.1)
 
-took_record : (s s2 : State) (ys : List ℕ) (after : Option (List ℕ)) (fields : Fields) → ReadsNext default_config s (Some ys) after true fields s2
+took_record : (s s2 : State) (ys : List ℕ) (after : Option (List ℕ)) (fields : Fields)
+    → ReadsNext default_config s (Some ys) after true fields s2
     → (p : Read) × (next_record default_config s [] [] ys ≡ Some p) × (fields ≡ p.0)
 took_record s s2 ys None fields reads = absurd reads
 took_record s s2 ys (Some zs) fields reads = took _ fields s2 zs reads
 
 -- the record that a failed read took comes next in every table of the text
-table_next : (text ys : List ℕ) (rows records : List Fields) (s s2 : State) (after : Option (List ℕ)) (fields : Fields)
-    → Reached default_config StartRecord (strip_bom text) rows s ys → ReadsNext default_config s (Some ys) after true fields s2
+table_next : (text ys : List ℕ) (rows records : List Fields) (s s2 : State)
+    (after : Option (List ℕ)) (fields : Fields)
+    → Reached default_config StartRecord (strip_bom text) rows s ys
+    → ReadsNext default_config s (Some ys) after true fields s2
     → IsTable text records → (more : List Fields) × (records ≡ rows ++ fields ∷ more)
 table_next text ys rows records s s2 after fields reached reads table =
     let next = took_record s s2 ys after fields reads in
@@ -104,9 +113,11 @@ table_next text ys rows records s s2 after fields reached reads table =
     (found.0, found.1 ∙ ap (λ f. rows ++ f ∷ found.0) (sym next.2))
 
 -- a text is refused only where it is no table
-pub fault_explained : {R : Type 0} (rem : R → Option (List ℕ)) (a b : Reader R) (text ys : List ℕ) (rows : List Fields) (kind : ErrorKind)
+pub fault_explained : {R : Type 0} (rem : R → Option (List ℕ)) (a b : Reader R) (text ys : List ℕ)
+    (rows : List Fields) (kind : ErrorKind)
     → a.config ≡ default_config → source_of rem a ≡ Some ys → a.expected ≡ width_of rows
-    → Reached default_config StartRecord (strip_bom text) rows a.state ys → ExplainsRead rem a b true kind
+    → Reached default_config StartRecord (strip_bom text) rows a.state ys
+    → ExplainsRead rem a b true kind
     → ExplainsRecords text (records_fault kind)
 fault_explained rem a b text ys rows (kind.Io e) config source width reached why = tt
 fault_explained rem a b text ys rows kind.OutOfMemory config source width reached why = tt
@@ -123,12 +134,14 @@ fault_explained rem a b text ys rows (kind.Utf8 pos e) config source width reach
     why.3 (text_next rows next.0 why.1 (rw next.1 at table.texts))
 
 -- a text without records has no rows
-pub rows_explained : (header : Fields) (text : List ℕ) (fault : RecordsFault) → ExplainsRecords text fault → ExplainsRows header text fault
+pub rows_explained : (header : Fields) (text : List ℕ) (fault : RecordsFault)
+    → ExplainsRecords text fault → ExplainsRows header text fault
 rows_explained header text Input no_table = λ rows table. no_table (header ∷ rows) table
 rows_explained header text Memory no_table = tt
 
 -- the first record of a table with rows under the header is the header
-pub headed : (header : Fields) (text : List ℕ) (records rows : List Fields) (d : Fields) → IsTable text records → HasRows header text rows
+pub headed : (header : Fields) (text : List ℕ) (records rows : List Fields) (d : Fields)
+    → IsTable text records → HasRows header text rows
     → (0 < length records) × (get_or records 0 d ≡ header)
 headed header text records rows d table under =
     let same = one_table text (header ∷ rows) records under table in

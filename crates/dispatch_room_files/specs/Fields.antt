@@ -21,7 +21,8 @@ is_numeral text = not (length text == 0) && are_digits text
 
 -- the number of 32 bits that digits alone write
 abbrev pub number_of : List ℕ → Option ℕ
-number_of text = if is_numeral text && nat_lt (digits_value 10 text) (2 ^ 32) then Some (digits_value 10 text) else None
+number_of text = if is_numeral text
+    && nat_lt (digits_value 10 text) (2 ^ 32) then Some (digits_value 10 text) else None
 
 -- the number, if it is in the range
 abbrev pub within : ℕ → ℕ → ℕ → Option ℕ

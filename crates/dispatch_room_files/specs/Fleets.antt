@@ -18,7 +18,8 @@ use Rattle.dispatch_room_files.specs.declared.fleets.FleetFileFault.TheVariants.
 
 -- the names over the columns
 abbrev pub fleet_header : Fields
-fleet_header = codes "callsign" ∷ codes "division" ∷ codes "kind" ∷ codes "place" ∷ codes "token" ∷ []
+fleet_header =
+    codes "callsign" ∷ codes "division" ∷ codes "kind" ∷ codes "place" ∷ codes "token" ∷ []
 
 -- a text without records is told so
 abbrev pub fleet_fault_of : RecordsFault → FleetFileFault
@@ -40,8 +41,16 @@ kind_of text = option_and_then kind_by (number_of text)
 -- the vehicle of a row: callsign, division, kind, place and token, each of its form
 abbrev pub fleet_row_of : Fields → Option FleetRow
 fleet_row_of row =
-    option_and_then (λ callsign. option_and_then (λ division. option_and_then (λ kind. option_and_then (λ place. option_and_then (λ token.
-    Some (record { callsign = callsign; division = division; kind = kind; place = place; token = token }))
+    option_and_then (λ callsign. option_and_then
+    (λ division. option_and_then (λ kind. option_and_then (λ place. option_and_then (λ token.
+    Some (record {
+      callsign = callsign;
+      division = division;
+      kind = kind;
+      place = place;
+      token =
+          token;
+    }))
     (token_of (text_at row 4))) (result_ok (parse (text_at row 3)))) (kind_of (text_at row 2)))
     (whole_of 1 9 (text_at row 1))) (callsign_of (text_at row 0))
 
@@ -55,7 +64,8 @@ fleet_line_of row = fleet_line (fleet_row_of row)
 
 -- a text is a fleet's file with these lines
 abbrev pub IsFleetText : List ℕ → List FleetLine → Type 0
-IsFleetText text lines = (rows : List Fields) × HasRows fleet_header text rows × (lines ≡ map fleet_line_of rows)
+IsFleetText text lines =
+    (rows : List Fields) × HasRows fleet_header text rows × (lines ≡ map fleet_line_of rows)
 
 -- a text is refused as input only where it is no table with the header
 abbrev pub ExplainsFleet : List ℕ → FleetFileFault → Type 0

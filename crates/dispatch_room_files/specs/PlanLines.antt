@@ -24,7 +24,8 @@ rule_of text = if nat_le (length text) 64 then Some text else None
 -- the rule of a zone's row, whose number is 0
 abbrev pub zone_of : Fields → Option (List ℕ)
 zone_of row =
-    option_and_then (λ number. if (number == 0) && has_unused row then rule_of (text_at row 2) else None) (number_of (text_at row 1))
+    option_and_then (λ number. if (number == 0)
+    && has_unused row then rule_of (text_at row 2) else None) (number_of (text_at row 1))
 
 abbrev pub zone_line : Option (List ℕ) → PlanLine
 zone_line (Some rule) = line.Zone rule
@@ -33,9 +34,11 @@ zone_line None = line.BadZone
 -- the rectangle of an area's row: west, south, east and north
 abbrev pub rect_of : Fields → Option Rect
 rect_of row =
-    option_and_then (λ west. option_and_then (λ south. option_and_then (λ east. option_and_then (λ north.
+    option_and_then (λ west. option_and_then
+    (λ south. option_and_then (λ east. option_and_then (λ north.
     Some (record { west = west; south = south; east = east; north = north }))
-    (number_of (text_at row 5))) (number_of (text_at row 4))) (number_of (text_at row 3))) (number_of (text_at row 2))
+    (number_of (text_at row 5))) (number_of (text_at row 4))) (number_of (text_at row 3)))
+    (number_of (text_at row 2))
 
 -- an area's row, by the number of its division and its rectangle
 abbrev pub area_line : Option ℕ → Option Rect → PlanLine
@@ -58,7 +61,10 @@ terminal_line None = line.Bad
 abbrev pub plan_line_of : Fields → PlanLine
 plan_line_of row =
     if bytes_eq (text_at row 0) (codes "zone") then zone_line (zone_of row) else
-    (if bytes_eq (text_at row 0) (codes "area") then area_line (number_of (text_at row 1)) (rect_of row) else
-    (if bytes_eq (text_at row 0) (codes "desk") then terminal_line (terminal_of (option_map who.Desk (whole_of 1 9 (text_at row 1))) row) else
-    (if bytes_eq (text_at row 0) (codes "position") then terminal_line (terminal_of (option_map who.Position (whole_of 1 99 (text_at row 1))) row) else
+    (if bytes_eq (text_at row 0) (codes "area") then area_line (number_of (text_at row 1))
+    (rect_of row) else
+    (if bytes_eq (text_at row 0) (codes "desk") then terminal_line
+    (terminal_of (option_map who.Desk (whole_of 1 9 (text_at row 1))) row) else
+    (if bytes_eq (text_at row 0) (codes "position") then terminal_line
+    (terminal_of (option_map who.Position (whole_of 1 99 (text_at row 1))) row) else
     line.Bad)))

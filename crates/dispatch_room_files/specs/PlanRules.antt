@@ -44,7 +44,8 @@ area_count lines = length (filter is_area_line lines)
 -- there are a zone and areas, and not too many of these; rows that break a rule count too
 abbrev pub has_zone_and_areas : List PlanLine → Bool
 has_zone_and_areas lines =
-    list_any is_zone_line lines && (nat_le 1 (area_count lines) && nat_le (area_count lines) most_areas)
+    list_any is_zone_line lines && (nat_le 1 (area_count lines)
+    && nat_le (area_count lines) most_areas)
 
 -- a plan can have the zone, and the zone can be read
 abbrev pub is_rule : List ℕ → Bool
@@ -63,7 +64,8 @@ has_area lines (Position number) = true
 abbrev pub is_refused : List PlanLine → List PlanLine → PlanLine → Bool
 is_refused lines earlier (line.Zone rule) = not (is_rule rule) || list_any is_zone_line earlier
 is_refused lines earlier (line.Area area) = not (is_sound area)
-is_refused lines earlier (line.Terminal terminal) = not (has_area lines terminal.who) || list_any (has_token terminal.token) earlier
+is_refused lines earlier (line.Terminal terminal) =
+    not (has_area lines terminal.who) || list_any (has_token terminal.token) earlier
 is_refused lines earlier line.BadZone = true
 is_refused lines earlier (line.BadArea division) = true
 is_refused lines earlier line.Bad = true

@@ -55,10 +55,12 @@ ExplainsLines lines Memory = (has_zone_and_areas lines ≡ true) × AreKept line
 
 -- a text is a plan's file that makes this plan
 abbrev pub IsPlanText : List ℕ → PlanFile → Type 0
-IsPlanText text file = (rows : List Fields) × HasRows plan_header text rows × IsPlanOf (map plan_line_of rows) file
+IsPlanText text file =
+    (rows : List Fields) × HasRows plan_header text rows × IsPlanOf (map plan_line_of rows) file
 
 -- a text is refused as input where it is no table with the header, and else for its rows
 abbrev pub ExplainsPlan : List ℕ → PlanFileFault → Type 0
 ExplainsPlan text Input = (rows : List Fields) → ¬ HasRows plan_header text rows
-ExplainsPlan text (Row k) = (rows : List Fields) × HasRows plan_header text rows × ExplainsLines (map plan_line_of rows) (Row k)
+ExplainsPlan text (Row k) = (rows : List Fields) × HasRows plan_header text rows
+    × ExplainsLines (map plan_line_of rows) (Row k)
 ExplainsPlan text Memory = Unit {0}

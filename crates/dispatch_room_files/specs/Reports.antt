@@ -10,7 +10,8 @@ seconds_text (Some seconds) = decimal seconds
 -- an incident's line: its number, when it was opened, and how long the first order took
 abbrev pub report_line : TimesLine → List ℕ
 report_line line =
-    decimal line.number ++ codes "," ++ decimal line.opened ++ codes "," ++ seconds_text line.activation ++ codes "\n"
+    decimal line.number ++ codes "," ++ decimal line.opened ++ codes ","
+    ++ seconds_text line.activation ++ codes "\n"
 
 -- the header, and a line an incident
 abbrev pub report_of : List TimesLine → List ℕ

@@ -12,7 +12,8 @@ digit : (k : ℕ) → k < 16 → is_digest_digit (get_or lower_digits k 0) ≡ t
 digit k small = All-get_or (λ byte. is_digest_digit byte ≡ true) lower_digits k 0 small digits
 
 -- bytes that are written in digits
-pub digits_of : (bytes : List ℕ) → All (λ byte. byte < 256) bytes → All (λ byte. is_digest_digit byte ≡ true) (encode_lower bytes)
+pub digits_of : (bytes : List ℕ) → All (λ byte. byte < 256) bytes
+    → All (λ byte. is_digest_digit byte ≡ true) (encode_lower bytes)
 unfolding encode_with
 digits_of [] small = All-nil (λ byte. is_digest_digit byte ≡ true)
 digits_of (byte ∷ bytes) small =

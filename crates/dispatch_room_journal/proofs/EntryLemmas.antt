@@ -40,7 +40,8 @@ status_of (Room digest) = 0
 status_of (Message at size) = 0
 
 -- a text that begins with a line and its end, and with an entry, begins with the entry's line
-pub line_is : (l : Line) (rest : List ℕ) (e : Entry) (left : List ℕ) → IsLine l → IsEntry e → line_text l ++ 10 ∷ rest ≡ text_of e ++ left
+pub line_is : (l : Line) (rest : List ℕ) (e : Entry) (left : List ℕ) → IsLine l → IsEntry e
+    → line_text l ++ 10 ∷ rest ≡ text_of e ++ left
     → (l ≡ line_of e) × (rest ≡ rest_of e ++ left)
 line_is l rest e left x y is =
     let parts = cut_unique 10 (line_text l) rest (line_text (line_of e)) (rest_of e ++ left) (line_lacks l x) (line_lacks (line_of e) y)
@@ -48,7 +49,8 @@ line_is l rest e left x y is =
     (line_injective l (line_of e) x y parts.0, parts.1)
 
 -- entries of one line, and what follows them
-same_line : (e f : Entry) (rest left : List ℕ) → line_of e ≡ line_of f → rest_of e ++ rest ≡ rest_of f ++ left → (e ≡ f) × (rest ≡ left)
+same_line : (e f : Entry) (rest left : List ℕ) → line_of e ≡ line_of f
+    → rest_of e ++ rest ≡ rest_of f ++ left → (e ≡ f) × (rest ≡ left)
 same_line (room d) (room f) rest left line is = let same : d ≡ f = ap digest_of line in (ap room same, is)
 same_line (message at bytes) (message later more) rest left line is =
     let same_at : at ≡ later = ap moment_of line in
@@ -64,7 +66,8 @@ same_line (message at bytes) (answer t) rest left line is = absurd (omega (arith
 same_line (answer s) (room d) rest left line is = absurd (omega (arith, ap kind line))
 same_line (answer s) (message at bytes) rest left line is = absurd (omega (arith, ap kind line))
 
-one : (e f : Entry) (rest left : List ℕ) → IsEntry e → IsEntry f → text_of e ++ rest ≡ text_of f ++ left → (e ≡ f) × (rest ≡ left)
+one : (e f : Entry) (rest left : List ℕ) → IsEntry e → IsEntry f
+    → text_of e ++ rest ≡ text_of f ++ left → (e ≡ f) × (rest ≡ left)
 one e f rest left x y is =
     let found = line_is (line_of e) (rest_of e ++ rest) f left x y (sym (append_assoc (line_text (line_of e)) (10 ∷ rest_of e) rest) ∙ is) in
     same_line e f rest left found.0 found.1
@@ -128,13 +131,15 @@ part_of_line bytes has =
     )
 
 -- bytes without a line end that are no first part of a line begin with no entry
-pub foreign_part : (bytes : List ℕ) → Lacks 10 bytes → ¬ (BeginsOne IsLineText bytes) → IsForeign bytes
+pub foreign_part : (bytes : List ℕ) → Lacks 10 bytes → ¬ (BeginsOne IsLineText bytes)
+    → IsForeign bytes
 foreign_part bytes lacks none more e rest begun = go (split bytes (line_text (line_of e)) more (10 ∷ rest_of e ++ rest) whole)
   where
     whole : bytes ++ more ≡ line_text (line_of e) ++ (10 ∷ rest_of e ++ rest)
     whole = begun.1 ∙ append_assoc (line_text (line_of e)) (10 ∷ rest_of e) rest
 
-    go : ((c : List ℕ) × (line_text (line_of e) ≡ bytes ++ c) × (more ≡ c ++ (10 ∷ rest_of e ++ rest)))
+    go : ((c : List ℕ) × (line_text (line_of e) ≡ bytes ++ c)
+        × (more ≡ c ++ (10 ∷ rest_of e ++ rest)))
         ⊎ ((c : List ℕ) × (bytes ≡ line_text (line_of e) ++ c) × (10 ∷ rest_of e ++ rest ≡ c ++ more)) → ⊥
     go (inl (c, longer, next)) = none (line_text (line_of e), c, (line_of e, begun.0, refl), longer)
     go (inr ([], shorter, next)) =
@@ -144,14 +149,16 @@ foreign_part bytes lacks none more e rest begun = go (split bytes (line_text (li
         has_mark 10 (line_text (line_of e)) c (subst (λ (t : List ℕ). Lacks 10 t) (shorter ∙ ap (λ j. line_text (line_of e) ++ j ∷ c) end) lacks)
 
 -- bytes up to a line end that are no line begin no entry
-pub foreign_line : (bytes line rest : List ℕ) → Lacks 10 line → bytes ≡ line ++ 10 ∷ rest → ¬ (IsLineText line) → IsForeign bytes
+pub foreign_line : (bytes line rest : List ℕ) → Lacks 10 line → bytes ≡ line ++ 10 ∷ rest
+    → ¬ (IsLineText line) → IsForeign bytes
 foreign_line bytes line rest lacks is none more e left begun =
     let parts = cut_unique 10 line (rest ++ more) (line_text (line_of e)) (rest_of e ++ left) lacks (line_lacks (line_of e) begun.0)
     (sym (append_assoc line (10 ∷ rest) more) ∙ ap (λ t. t ++ more) (sym is) ∙ begun.1 ∙ append_assoc (line_text (line_of e)) (10 ∷ rest_of e) left) in
     none (line_of e, begun.0, parts.0)
 
 -- a message of which not all bytes and the line end are there is cut short
-pub part_of_message : (bytes : List ℕ) (at size : ℕ) (rest : List ℕ) → IsLine (Message at size) → bytes ≡ line_text (Message at size) ++ 10 ∷ rest
+pub part_of_message : (bytes : List ℕ) (at size : ℕ) (rest : List ℕ) → IsLine (Message at size)
+    → bytes ≡ line_text (Message at size) ++ 10 ∷ rest
     → length rest ≤ size → IsPart bytes
 part_of_message bytes at size rest x is short =
     let zeros : List ℕ = replicate (size - length rest) 48 in
@@ -169,14 +176,16 @@ part_of_message bytes at size rest x is short =
     )
 
 -- after a message's bytes stands a line end
-after_message : (e : Entry) (at size : ℕ) (left : List ℕ) → Message at size ≡ line_of e → get_or (rest_of e ++ left) size 0 ≡ 10
+after_message : (e : Entry) (at size : ℕ) (left : List ℕ) → Message at size ≡ line_of e
+    → get_or (rest_of e ++ left) size 0 ≡ 10
 after_message (message time bytes) at size left line =
     let len : size ≡ length bytes = ap size_of line in
     ap (λ t. get_or t size 0) (append_assoc bytes (10 ∷ []) left) ∙ ap (λ n. get_or (bytes ++ 10 ∷ left) n 0) len ∙ get_or-append_seam bytes 10 left 0
 after_message (room d) at size left line = absurd (omega (arith, ap kind line))
 after_message (answer s) at size left line = absurd (omega (arith, ap kind line))
 
-pub foreign_message : (bytes : List ℕ) (at size : ℕ) (rest : List ℕ) → IsLine (Message at size) → bytes ≡ line_text (Message at size) ++ 10 ∷ rest
+pub foreign_message : (bytes : List ℕ) (at size : ℕ) (rest : List ℕ) → IsLine (Message at size)
+    → bytes ≡ line_text (Message at size) ++ 10 ∷ rest
     → size < length rest → get_or rest size 0 ≢ 10 → IsForeign bytes
 foreign_message bytes at size rest x is long other more e left begun =
     let found = line_is (Message at size) (rest ++ more) e left x begun.0
@@ -184,8 +193,10 @@ foreign_message bytes at size rest x is long other more e left begun =
     other (sym (get_or_append_left rest more 0 size long) ∙ ap (λ t. get_or t size 0) found.1 ∙ after_message e at size left found.0)
 
 -- bytes that begin with an entry have its layout
-whole : (bytes rest : List ℕ) (layout : Layout) (e : Entry) → IsEntry e → bytes ≡ text_of e ++ rest → layout.line ≡ line_of e
-    → layout.start ≡ length (line_text (line_of e)) + 1 → layout.end ≡ length (text_of e) → IsLayout bytes layout e
+whole : (bytes rest : List ℕ) (layout : Layout) (e : Entry) → IsEntry e → bytes ≡ text_of e ++ rest
+    → layout.line ≡ line_of e
+    → layout.start ≡ length (line_text (line_of e)) + 1 → layout.end ≡ length (text_of e)
+    → IsLayout bytes layout e
 whole bytes rest layout e x is line start end = record {
   begins = (x, is ∙ ap (λ t. text_of e ++ t) (sym (ap (drop layout.end) is ∙ drop_at (text_of e) rest layout.end (sym end))));
   line = line;
@@ -193,12 +204,15 @@ whole bytes rest layout e x is line start end = record {
   end = end;
 }
 
-length_of : (l : Line) (rest bytes : List ℕ) → bytes ≡ line_text l ++ 10 ∷ rest → length bytes ≡ length (line_text l) + 1 + length rest
+length_of : (l : Line) (rest bytes : List ℕ) → bytes ≡ line_text l ++ 10 ∷ rest
+    → length bytes ≡ length (line_text l) + 1 + length rest
 length_of l rest bytes is = ap length is ∙ length-append (line_text l) (10 ∷ rest) ∙ omega arith
 
 -- a line of a room or of an answer is its entry
-pub whole_line : (bytes rest : List ℕ) (layout : Layout) (l : Line) → IsLine l → ((at size : ℕ) → l ≢ Message at size) → bytes ≡ line_text l ++ 10 ∷ rest
-    → layout.line ≡ l → layout.start ≡ length bytes - length rest → layout.end ≡ layout.start → (e : Entry) × IsLayout bytes layout e
+pub whole_line : (bytes rest : List ℕ) (layout : Layout) (l : Line) → IsLine l
+    → ((at size : ℕ) → l ≢ Message at size) → bytes ≡ line_text l ++ 10 ∷ rest
+    → layout.line ≡ l → layout.start ≡ length bytes - length rest → layout.end ≡ layout.start
+    → (e : Entry) × IsLayout bytes layout e
 whole_line bytes rest layout (Room d) x other is line start end =
     let size = length_of (Room d) rest bytes is in (
       room d,
@@ -214,8 +228,10 @@ whole_line bytes rest layout (Answer s) x other is line start end =
 whole_line bytes rest layout (Message at size) x other is line start end = absurd (other at size refl)
 
 -- a line of a message, as many bytes as it says, and a line end
-pub whole_message : (bytes rest : List ℕ) (layout : Layout) (at size : ℕ) → IsLine (Message at size) → bytes ≡ line_text (Message at size) ++ 10 ∷ rest
-    → size < length rest → get_or rest size 0 ≡ 10 → layout.line ≡ Message at size → layout.start ≡ length bytes - length rest → layout.end ≡ layout.start + size + 1
+pub whole_message : (bytes rest : List ℕ) (layout : Layout) (at size : ℕ)
+    → IsLine (Message at size) → bytes ≡ line_text (Message at size) ++ 10 ∷ rest
+    → size < length rest → get_or rest size 0 ≡ 10 → layout.line ≡ Message at size
+    → layout.start ≡ length bytes - length rest → layout.end ≡ layout.start + size + 1
     → (e : Entry) × IsLayout bytes layout e
 whole_message bytes rest layout at size x is long end_is line start end =
     let body = take size rest in

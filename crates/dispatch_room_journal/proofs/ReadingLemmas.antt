@@ -12,7 +12,8 @@ use Rattle.dispatch_room_journal.specs.Readings.{SaysOf, FirstIs, end_of}
 use Rattle.dispatch_room_journal.proofs.WritingLemmas.{entry_fits}
 
 -- the text that bytes go from to the inbox stays the same
-pub same_text : (old new : Option (List ℕ)) (before more after : List ℕ) → after ≡ before ++ more → Consumes old new more
+pub same_text : (old new : Option (List ℕ)) (before more after : List ℕ) → after ≡ before ++ more
+    → Consumes old new more
     → Keeps (prepend_known before old) (prepend_known after new)
 same_text None new before more after is taken = tt
 same_text (Some old) None before more after is taken = taken
@@ -30,7 +31,8 @@ part_fits kept (e, more, is_one, goes_on, some) =
     omega (arith, entry_fits e is_one, some, sym (length-append kept more) ∙ ap length (sym goes_on))
 
 -- a read that found the end ends the journal
-pub ends : (before kept more : List ℕ) (failed ended : Bool) (left : Option (List ℕ)) → length more ≡ 0 → kept ≡ before ++ more → IsPart before
+pub ends : (before kept more : List ℕ) (failed ended : Bool) (left : Option (List ℕ))
+    → length more ≡ 0 → kept ≡ before ++ more → IsPart before
     → failed ≡ false → ended ≡ true → IsAtEnd left → SaysOf kept failed ended left (end_of kept)
 ends before kept more failed ended left none is part sound found end =
     go kept (is ∙ ap (λ t. before ++ t) (nil_from_length more none) ∙ append-nil before)
@@ -40,11 +42,13 @@ ends before kept more failed ended left none is part sound found end =
     go (byte ∷ rest) same = (omega arith, subst (λ (t : List ℕ). IsPart t) (sym same) part, found, end, sound)
 
 -- an entry at the front of the bytes ends within them
-pub layout_fits : (kept : List ℕ) (layout : Layout) (e : Entry) → IsLayout kept layout e → layout.end ≤ length kept
+pub layout_fits : (kept : List ℕ) (layout : Layout) (e : Entry) → IsLayout kept layout e
+    → layout.end ≤ length kept
 layout_fits kept layout e x = omega (arith, x.end, length-append (text_of e) (drop layout.end kept), ap length x.begins.1)
 
 -- bytes that follow leave the entry at the front
-layout-append : (kept more : List ℕ) (layout : Layout) (e : Entry) → IsLayout kept layout e → IsLayout (kept ++ more) layout e
+layout-append : (kept more : List ℕ) (layout : Layout) (e : Entry) → IsLayout kept layout e
+    → IsLayout (kept ++ more) layout e
 layout-append kept more layout e x =
     record {
       begins = (
@@ -69,8 +73,10 @@ says_first kept more failed ended (Err Foreign) says =
     λ after e rest begun. says.0 (more ++ after) e rest (begun.0, sym (append_assoc kept more after) ∙ begun.1)
 says_first kept more failed ended (Err Read) says = tt
 
-pub first_found : (old new : Option (List ℕ)) (before after : List ℕ) (failed ended : Bool) (result : Result (Option Layout) Fault)
-    → Keeps (prepend_known before old) (prepend_known after new) → SaysOf after failed ended new result
+pub first_found : (old new : Option (List ℕ)) (before after : List ℕ) (failed ended : Bool)
+    (result : Result (Option Layout) Fault)
+    → Keeps (prepend_known before old) (prepend_known after new)
+    → SaysOf after failed ended new result
     → (text : List ℕ) → prepend_known before old ≡ Some text → FirstIs text result
 first_found None new before after failed ended result same says text is = absurd (cc)
 first_found (Some old) None before after failed ended result same says text is = absurd same

@@ -15,7 +15,8 @@ split (k ∷ a) [] x y is = inr (k ∷ a, refl, sym is)
 split (k ∷ a) (m ∷ b) x y is = go (split a b x y (ap (drop 1) is))
   where
     go : ((c : List ℕ) × (b ≡ a ++ c) × (x ≡ c ++ y)) ⊎ ((c : List ℕ) × (a ≡ b ++ c) × (y ≡ c ++ x))
-        → ((c : List ℕ) × (m ∷ b ≡ k ∷ (a ++ c)) × (x ≡ c ++ y)) ⊎ ((c : List ℕ) × (k ∷ a ≡ m ∷ (b ++ c)) × (y ≡ c ++ x))
+        → ((c : List ℕ) × (m ∷ b ≡ k ∷ (a ++ c)) × (x ≡ c ++ y))
+        ⊎ ((c : List ℕ) × (k ∷ a ≡ m ∷ (b ++ c)) × (y ≡ c ++ x))
     go (inl found) = inl (found.0, (λ i. ap head (sym is) i ∷ found.1 i), found.2)
     go (inr found) = inr (found.0, (λ i. ap head is i ∷ found.1 i), found.2)
 
@@ -32,7 +33,8 @@ has_mark mark [] b none = All-head (λ byte. byte ≢ mark) mark b none refl
 has_mark mark (k ∷ a) b none = has_mark mark a b (All-tail (λ byte. byte ≢ mark) k (a ++ mark ∷ b) none)
 
 -- what stands before the first mark, and what after it, is one
-pub cut_unique : (mark : ℕ) (a b c d : List ℕ) → Lacks mark a → Lacks mark c → a ++ mark ∷ b ≡ c ++ mark ∷ d → (a ≡ c) × (b ≡ d)
+pub cut_unique : (mark : ℕ) (a b c d : List ℕ) → Lacks mark a → Lacks mark c
+    → a ++ mark ∷ b ≡ c ++ mark ∷ d → (a ≡ c) × (b ≡ d)
 cut_unique mark [] b [] d a_lacks c_lacks is = (refl, ap (drop 1) is)
 cut_unique mark [] b (k ∷ c) d a_lacks c_lacks is = absurd (All-head (λ byte. byte ≢ mark) k c c_lacks (ap head (sym is)))
 cut_unique mark (k ∷ a) b [] d a_lacks c_lacks is = absurd (All-head (λ byte. byte ≢ mark) k a a_lacks (ap head is))

@@ -41,7 +41,8 @@ entry_fits (message at bytes) is =
 
 module _ {W E : Type 0} (held : W → Option (List ℕ)) (failed : W → Bool) where
   -- what is written after what was written
-  pub WritesAll-more : (a b c : W) (xs ys : List ℕ) (r : Result (Unit {0}) E) → WritesAll {E = E} held failed a b xs (Ok tt) → WritesAll held failed b c ys r
+  pub WritesAll-more : (a b c : W) (xs ys : List ℕ) (r : Result (Unit {0}) E)
+      → WritesAll {E = E} held failed a b xs (Ok tt) → WritesAll held failed b c ys r
       → WritesAll held failed a c (xs ++ ys) r
   WritesAll-more a b c xs ys (Ok u) first second = record {
     all = (Appends-more _ _ _ _ _ first.all.0 second.all.0, second.all.1);
@@ -54,7 +55,8 @@ module _ {W E : Type 0} (held : W → Option (List ℕ)) (failed : W → Bool) w
       }
 
   -- and what was not written for a failure before it
-  pub WritesAll-cut : (a b : W) (xs ys : List ℕ) (e : E) → WritesAll held failed a b xs (Err e) → WritesAll held failed a b (xs ++ ys) (Err e)
+  pub WritesAll-cut : (a b : W) (xs ys : List ℕ) (e : E) → WritesAll held failed a b xs (Err e)
+      → WritesAll held failed a b (xs ++ ys) (Err e)
   WritesAll-cut a b xs ys e first =
       let cut = first.part in record {
         all = tt;
@@ -62,12 +64,14 @@ module _ {W E : Type 0} (held : W → Option (List ℕ)) (failed : W → Bool) w
       }
 
   -- a line is written, and then the rest of an entry
-  pub line-cut : (a b : W) (l : Line) (rest : List ℕ) (e : E) → WritesAll held failed a b (line_text l ++ 10 ∷ []) (Err e)
+  pub line-cut : (a b : W) (l : Line) (rest : List ℕ) (e : E)
+      → WritesAll held failed a b (line_text l ++ 10 ∷ []) (Err e)
       → WritesAll held failed a b (line_text l ++ 10 ∷ rest) (Err e)
   line-cut a b l rest e first =
       subst (λ (t : List ℕ). WritesAll held failed a b t (Err e)) (append_assoc (line_text l) (10 ∷ []) rest) (WritesAll-cut a b (line_text l ++ 10 ∷ []) rest e first)
 
-  pub line-more : (a b c : W) (l : Line) (rest : List ℕ) (r : Result (Unit {0}) E) → WritesAll {E = E} held failed a b (line_text l ++ 10 ∷ []) (Ok tt)
+  pub line-more : (a b c : W) (l : Line) (rest : List ℕ) (r : Result (Unit {0}) E)
+      → WritesAll {E = E} held failed a b (line_text l ++ 10 ∷ []) (Ok tt)
       → WritesAll held failed b c rest r → WritesAll held failed a c (line_text l ++ 10 ∷ rest) r
   line-more a b c l rest r first second =
       subst (λ (t : List ℕ). WritesAll held failed a c t r) (append_assoc (line_text l) (10 ∷ []) rest) (WritesAll-more a b c (line_text l ++ 10 ∷ []) rest r first second)

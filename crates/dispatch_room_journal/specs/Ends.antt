@@ -21,10 +21,12 @@ pub record EndsWhole (text : List ℕ) (bytes : ℕ) : Type 0 where
 abbrev pub Follows : List ℕ → List Entry → List ℕ → Type 0
 Follows text entries rest = All IsEntry entries × (text ≡ texts_of entries ++ rest)
 
--- Why a text does not end so: what follows its first entries begins with none; or a read failed, or no
--- more entries are looked at. An entry that is cut short is no fault.
+-- Why a text does not end so: what follows its first entries begins with none; or a read failed, or
+-- no more entries are looked at. An entry that is cut short is no fault.
 abbrev pub FailsIn : Bool → List ℕ → Fault → Type 0
 FailsIn read_failed text Cut = ⊥
-FailsIn read_failed text Foreign = (entries : List Entry) × (rest : List ℕ) × Follows text entries rest × IsForeign rest
+FailsIn read_failed text Foreign =
+    (entries : List Entry) × (rest : List ℕ) × Follows text entries rest × IsForeign rest
 FailsIn read_failed text Read =
-    (read_failed ≡ true) ⊎ ((entries : List Entry) × (rest : List ℕ) × Follows text entries rest × (length entries ≡ most_bytes))
+    (read_failed ≡ true) ⊎ ((entries : List Entry) × (rest : List ℕ) × Follows text entries rest
+    × (length entries ≡ most_bytes))

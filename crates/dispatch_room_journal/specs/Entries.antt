@@ -69,9 +69,10 @@ Begins text e rest = IsEntry e × (text ≡ text_of e ++ rest)
 
 -- the text is cut short: an entry's text goes on where it ends
 abbrev pub IsPart : List ℕ → Type 0
-IsPart text = (e : Entry) × (more : List ℕ) × IsEntry e × (text_of e ≡ text ++ more) × (0 < length more)
+IsPart text =
+    (e : Entry) × (more : List ℕ) × IsEntry e × (text_of e ≡ text ++ more) × (0 < length more)
 
--- the text begins with no entry, whatever follows it: neither is an entry's text a first part of it,
--- nor it of one
+-- the text begins with no entry, whatever follows it: neither is an entry's text a first part of
+-- it, nor it of one
 abbrev pub IsForeign : List ℕ → Type 0
 IsForeign text = (more : List ℕ) (e : Entry) (rest : List ℕ) → ¬ (Begins (text ++ more) e rest)

@@ -5,7 +5,8 @@ use Rattle.dispatch_room_journal.specs.declared.looks.Look.{Look}
 use Rattle.dispatch_room_journal.specs.declared.looks.Look.TheVariants.{Whole, Part, Foreign}
 use Rattle.dispatch_room_journal.specs.Entries.{Entry, line_text, line_of, text_of, IsPart, IsForeign, Begins}
 
--- where the entry at the front of the bytes is: what its line says, where its line has ended, and where it ends
+-- where the entry at the front of the bytes is: what its line says, where its line has ended, and
+-- where it ends
 pub record IsLayout (bytes : List ℕ) (layout : Layout) (e : Entry) : Type 0 where
   pub begins : Begins bytes e (drop layout.end bytes)
   pub line : layout.line ≡ line_of e

@@ -24,7 +24,8 @@ IsNumber least greatest text = (n : ℕ) × (least ≤ n) × (n ≤ greatest) ×
 -- a moment and a number of bytes, with a space between
 abbrev pub AreNumbers : List ℕ → Type 0
 AreNumbers text =
-    (at size : ℕ) × (at ≤ LAST_MOMENT) × (1 ≤ size) × (size ≤ INBOX_ROOM) × (text ≡ decimal at ++ 32 ∷ decimal size)
+    (at size : ℕ) × (at ≤ LAST_MOMENT) × (1 ≤ size) × (size ≤ INBOX_ROOM)
+    × (text ≡ decimal at ++ 32 ∷ decimal size)
 
 -- the text of a line
 abbrev pub IsLineText : List ℕ → Type 0

@@ -13,21 +13,26 @@ abbrev pub end_of : List ℕ → Result (Option Layout) Fault
 end_of [] = Ok None
 end_of (byte ∷ more) = Err Cut
 
--- one read to the back of the bytes that were kept: what it gave, and whether it failed or found the end
+-- one read to the back of the bytes that were kept: what it gave, and whether it failed or found
+-- the end
 pub record Fills {R E : Type 0} (left : R → Option (List ℕ)) (has_failed has_ended : R → Bool)
     (old new : R) (before after : List ℕ) (result : Result ℕ E) : Type 0 where
   pub fits : length after ≤ ENTRY_ROOM
   pub failed : has_failed new ≡ (has_failed old || is_err result)
   pub bytes : MatchResult result
-      (λ n. (more : List ℕ) × (length more ≡ n) × (after ≡ before ++ more) × Consumes (left old) (left new) more
+      (λ n. (more : List ℕ) × (length more ≡ n) × (after ≡ before ++ more)
+      × Consumes (left old) (left new) more
       × (n ≡ 0 → (has_ended new ≡ true) × IsAtEnd (left new)))
       (λ _. (after ≡ before) × Keeps (left old) (left new))
 
 -- what holds of the bytes that were read and not taken, and of the reader
 abbrev pub SaysOf : List ℕ → Bool → Bool → Option (List ℕ) → Result (Option Layout) Fault → Type 0
-SaysOf kept failed ended left (Ok (Some layout)) = ((e : Entry) × IsLayout kept layout e) × (failed ≡ false)
-SaysOf kept failed ended left (Ok None) = (kept ≡ []) × (ended ≡ true) × IsAtEnd left × (failed ≡ false)
-SaysOf kept failed ended left (Err Cut) = (0 < length kept) × IsPart kept × (ended ≡ true) × IsAtEnd left × (failed ≡ false)
+SaysOf kept failed ended left (Ok (Some layout)) =
+    ((e : Entry) × IsLayout kept layout e) × (failed ≡ false)
+SaysOf kept failed ended left (Ok None) =
+    (kept ≡ []) × (ended ≡ true) × IsAtEnd left × (failed ≡ false)
+SaysOf kept failed ended left (Err Cut) =
+    (0 < length kept) × IsPart kept × (ended ≡ true) × IsAtEnd left × (failed ≡ false)
 SaysOf kept failed ended left (Err Foreign) = IsForeign kept × (failed ≡ false)
 SaysOf kept failed ended left (Err Read) = failed ≡ true
 

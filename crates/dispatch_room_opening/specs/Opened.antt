@@ -19,8 +19,10 @@ use Rattle.dispatch_room_endings.specs.declared.endings.Failure.{Failure}
 use Rattle.dispatch_room_endings.specs.declared.endings.Failure.TheVariants.{File}
 use Rattle.dispatch_room_opening.specs.Faults.{open_fault}
 
--- The store stands for this room, which is the one for which the tables stood, and it is kept. All rows of the file are as they were.
-pub record IsOpened {S : Type 0} (g : Ghosts S) (old : Held S) (opened : Store S) (terminals : List Terminal) (room : Room) : Type 0 where
+-- The store stands for this room, which is the one for which the tables stood, and it is kept. All
+-- rows of the file are as they were.
+pub record IsOpened {S : Type 0} (g : Ghosts S) (old : Held S) (opened : Store S)
+    (terminals : List Terminal) (room : Room) : Type 0 where
   pub is : IsRoom g opened terminals room
   pub same : (house : House) (held : Room) → Stands (state g old).now.trees house held
       → (house.zone ≡ opened.plan.zone) × IsRoom g opened house.terminals held
@@ -29,7 +31,8 @@ pub record IsOpened {S : Type 0} (g : Ghosts S) (old : Held S) (opened : Store S
 
 -- some room is opened
 abbrev pub OpensRoom : {S : Type 0} → Ghosts S → Held S → Store S → Type 0
-OpensRoom g old opened = (terminals : List Terminal) × (room : Room) × IsOpened g old opened terminals room
+OpensRoom g old opened =
+    (terminals : List Terminal) × (room : Room) × IsOpened g old opened terminals room
 
 -- The store tells why it opens none, and the database, which is let go, is as it was.
 pub record HoldsNone {S : Type 0} (g : Ghosts S) (old : Held S) (failure : Failure) : Type 0 where
@@ -37,12 +40,17 @@ pub record HoldsNone {S : Type 0} (g : Ghosts S) (old : Held S) (failure : Failu
   pub told : failure ≡ open_fault fault
   pub let_go : Held S
   pub left : HasCleanDisk (state g let_go) → Leaves (state g old) (state g let_go)
-  pub untouched : (fault ≡ OldRoom) ⊎ (fault ≡ NotARoom) → WritesNothing (state g old) (state g let_go)
-  pub version : HasCleanDisk (state g let_go) → (fault ≡ OldRoom → IsOldRoom (state g old).now) × (fault ≡ NotARoom → ¬ IsOldRoom (state g old).now)
-  pub no_room : HasCleanDisk (state g let_go) → fault ≡ NotARoom → HasTables (state g old).now.schema → ¬ HoldsRoom (state g old).now.trees
+  pub untouched : (fault ≡ OldRoom) ⊎ (fault ≡ NotARoom)
+      → WritesNothing (state g old) (state g let_go)
+  pub version : HasCleanDisk (state g let_go)
+      → (fault ≡ OldRoom → IsOldRoom (state g old).now)
+      × (fault ≡ NotARoom → ¬ IsOldRoom (state g old).now)
+  pub no_room : HasCleanDisk (state g let_go) → fault ≡ NotARoom
+      → HasTables (state g old).now.schema → ¬ HoldsRoom (state g old).now.trees
   pub survives : Survives (state g old) (state g let_go) (MayBeIndexed (state g old).now)
 
--- There is a room, but the zone of its plan is no rule, so its days can't be reckoned. It is closed again.
+-- There is a room, but the zone of its plan is no rule, so its days can't be reckoned. It is closed
+-- again.
 pub record HasNoZone {S : Type 0} (g : Ghosts S) (old : Held S) (failure : Failure) : Type 0 where
   pub told : failure ≡ File
   pub opened : Store S

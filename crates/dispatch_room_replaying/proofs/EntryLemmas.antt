@@ -12,20 +12,23 @@ use Rattle.dispatch_room_replaying.specs.Steps.{IsMark}
 use Rattle.dispatch_room_replaying.specs.Turns.{HasNoStatus, BeginsWith, EndsAt, IsBy, IsAfter}
 
 -- what a line says of its entry
-pub layout_of_room : (kept : List ℕ) (layout : Layout) (e : Entry) (digest : List ℕ) → IsLayout kept layout e → layout.line ≡ Room digest → IsLayout kept layout (room digest)
+pub layout_of_room : (kept : List ℕ) (layout : Layout) (e : Entry) (digest : List ℕ)
+    → IsLayout kept layout e → layout.line ≡ Room digest → IsLayout kept layout (room digest)
 layout_of_room kept layout (room d) digest x is =
     let same : d ≡ digest = cc (x.line, is) in subst (λ (t : List ℕ). IsLayout kept layout (room t)) same x
 layout_of_room kept layout (message at sent) digest x is = absurd (cc (x.line, is))
 layout_of_room kept layout (answer status) digest x is = absurd (cc (x.line, is))
 
-pub layout_of_message : (kept : List ℕ) (layout : Layout) (e : Entry) (at size : ℕ) → IsLayout kept layout e → layout.line ≡ Message at size
+pub layout_of_message : (kept : List ℕ) (layout : Layout) (e : Entry) (at size : ℕ)
+    → IsLayout kept layout e → layout.line ≡ Message at size
     → (sent : List ℕ) × IsLayout kept layout (message at sent)
 layout_of_message kept layout (room d) at size x is = absurd (cc (x.line, is))
 layout_of_message kept layout (message then sent) at size x is =
     let same : then ≡ at = cc (x.line, is) in (sent, subst (λ (t : ℕ). IsLayout kept layout (message t sent)) same x)
 layout_of_message kept layout (answer status) at size x is = absurd (cc (x.line, is))
 
-pub layout_of_mark : (kept : List ℕ) (layout : Layout) (e f : Entry) → IsLayout kept layout e → IsMark f → layout.line ≡ line_of f → IsLayout kept layout f
+pub layout_of_mark : (kept : List ℕ) (layout : Layout) (e f : Entry) → IsLayout kept layout e
+    → IsMark f → layout.line ≡ line_of f → IsLayout kept layout f
 layout_of_mark kept layout e (room digest) x mark is = layout_of_room kept layout e digest x is
 layout_of_mark kept layout e (message at sent) x mark is = absurd mark
 layout_of_mark kept layout (room digest) (answer s) x mark is = absurd (cc (x.line, is))
@@ -34,7 +37,8 @@ layout_of_mark kept layout (answer status) (answer s) x mark is =
     let same : status ≡ s = cc (x.line, is) in subst (λ (t : ℕ). IsLayout kept layout (answer t)) same x
 
 -- an entry at the front is taken
-pub taken : (before left : Option (List ℕ)) (kept after : List ℕ) (layout : Layout) (e : Entry) → IsLayout kept layout e → Keeps before (prepend_known kept left)
+pub taken : (before left : Option (List ℕ)) (kept after : List ℕ) (layout : Layout) (e : Entry)
+    → IsLayout kept layout e → Keeps before (prepend_known kept left)
     → after ≡ drop layout.end kept → Consumes before (prepend_known after left) (texts_of (e ∷ []))
 taken None left kept after layout e x same is = tt
 taken (Some text) None kept after layout e x same is = absurd same
@@ -46,11 +50,13 @@ taken (Some text) (Some more) kept after layout e x same is =
 pub texts_two : (e f : Entry) → texts_of (e ∷ []) ++ texts_of (f ∷ []) ≡ texts_of (e ∷ f ∷ [])
 texts_two e f = ap (λ t. t ++ texts_of (f ∷ [])) (append-nil (text_of e))
 
-pub taken_two : (a b c : Option (List ℕ)) (e f : Entry) → Consumes a b (texts_of (e ∷ [])) → Consumes b c (texts_of (f ∷ [])) → Consumes a c (texts_of (e ∷ f ∷ []))
+pub taken_two : (a b c : Option (List ℕ)) (e f : Entry) → Consumes a b (texts_of (e ∷ []))
+    → Consumes b c (texts_of (f ∷ [])) → Consumes a c (texts_of (e ∷ f ∷ []))
 taken_two a b c e f first second = subst (λ (t : List ℕ). Consumes a c t) (texts_two e f) (Consumes-trans a b c _ _ first second)
 
 -- the text begins with the entry at the front
-pub begins_front : (left : Option (List ℕ)) (kept : List ℕ) (layout : Layout) (e : Entry) → IsLayout kept layout e → BeginsWith (prepend_known kept left) (e ∷ []) (λ rest. ⊤)
+pub begins_front : (left : Option (List ℕ)) (kept : List ℕ) (layout : Layout) (e : Entry)
+    → IsLayout kept layout e → BeginsWith (prepend_known kept left) (e ∷ []) (λ rest. ⊤)
 begins_front None kept layout e x text is = absurd (cc)
 begins_front (Some more) kept layout e x text is =
     let same : kept ++ more ≡ text = cc in (
@@ -60,7 +66,8 @@ begins_front (Some more) kept layout e x text is =
     )
 
 -- no status stands next
-pub no_status_front : (left : Option (List ℕ)) (kept : List ℕ) (layout : Layout) (e : Entry) → IsLayout kept layout e → ((status : ℕ) → ¬ (layout.line ≡ line_of (answer status)))
+pub no_status_front : (left : Option (List ℕ)) (kept : List ℕ) (layout : Layout) (e : Entry)
+    → IsLayout kept layout e → ((status : ℕ) → ¬ (layout.line ≡ line_of (answer status)))
     → BeginsWith (prepend_known kept left) [] HasNoStatus
 no_status_front left kept layout e x other text is =
     let y = begins_front left kept layout e x text is in
@@ -72,17 +79,20 @@ no_status_end None end text is = absurd (cc)
 no_status_end (Some x) end text is = let same : x ≡ text = cc in (text, refl, λ status more begins. (no_end_law text (answer status) more begins).0 (sym same ∙ end))
 
 -- nothing is left
-pub at_end : (left : Option (List ℕ)) (kept : List ℕ) → kept ≡ [] → IsAtEnd left → IsAtEnd (prepend_known kept left)
+pub at_end : (left : Option (List ℕ)) (kept : List ℕ) → kept ≡ [] → IsAtEnd left
+    → IsAtEnd (prepend_known kept left)
 at_end None kept none end = tt
 at_end (Some more) kept none end = (λ i. none i ++ end i)
 
 -- a message that is not after a moment is by it
-pub by_not_after : (until : Option ℕ) (at : ℕ) (sent : List ℕ) → ¬ (IsAfter until at) → IsBy until (message at sent)
+pub by_not_after : (until : Option ℕ) (at : ℕ) (sent : List ℕ) → ¬ (IsAfter until at)
+    → IsBy until (message at sent)
 by_not_after None at sent not_after = tt
 by_not_after (Some until) at sent not_after = omega (arith, not_after)
 
 -- the text goes on with a message that is after a moment
-pub ends_before : (until : Option ℕ) (text : List ℕ) (layout : Layout) (e : Entry) (at size : ℕ) → IsLayout text layout e → layout.line ≡ Message at size → IsAfter until at
+pub ends_before : (until : Option ℕ) (text : List ℕ) (layout : Layout) (e : Entry) (at size : ℕ)
+    → IsLayout text layout e → layout.line ≡ Message at size → IsAfter until at
     → EndsAt until text
 ends_before until text layout e at size x is late =
     let y = layout_of_message text layout e at size x is in

@@ -32,15 +32,19 @@ pub frames_append : (us ts : List Turn) → frames_of us ++ frames_of ts ≡ fra
 frames_append us ts =
     sym (ap (λ (ps : List Play). flat_map (λ p. frame_of p.told) ps) (flat_map-append plays_in us ts) ∙ flat_map-append (λ p. frame_of p.told) (plays_of us) (plays_of ts))
 
-pub frames_more : (a b c : Option (List ℕ)) (us ts : List Turn) → Appends a b (frames_of us) → Appends b c (frames_of ts) → Appends a c (frames_of (us ++ ts))
+pub frames_more : (a b c : Option (List ℕ)) (us ts : List Turn) → Appends a b (frames_of us)
+    → Appends b c (frames_of ts) → Appends a c (frames_of (us ++ ts))
 frames_more a b c us ts first second = subst (λ (t : List ℕ). Appends a c t) (frames_append us ts) (Appends-more a b c (frames_of us) (frames_of ts) first second)
 
-module _ (step : Step) (zone : Zone) (digest_of : DigestOf) (trusted : Type 0) (stood stands : List Terminal → Room → Type 0) (before : Option (List ℕ)) (held holds : Option (List ℕ)) (at : ℕ) (sent told slice : List ℕ)
+module _ (step : Step) (zone : Zone) (digest_of : DigestOf) (trusted : Type 0)
+    (stood stands : List Terminal → Room → Type 0) (before : Option (List ℕ))
+    (held holds : Option (List ℕ)) (at : ℕ) (sent told slice : List ℕ)
     (x : WasPlayed step zone trusted stood stands at sent told) (same : slice ≡ told) (is : IsEntry (message at sent)) where
   leads_tried : Leads step zone digest_of trusted stood stands (tried x.0 ∷ [])
   leads_tried trust terminals room stood_for = let y = x.5 trust terminals room stood_for in (y.0, (y.0, y.1, refl), y.2)
 
-  leads_answered : (status : ℕ) → Leads step zone digest_of trusted stood stands (answered x.0 status ∷ [])
+  leads_answered : (status : ℕ) → Leads step zone digest_of trusted stood stands
+      (answered x.0 status ∷ [])
   leads_answered status trust terminals room stood_for = let y = x.5 trust terminals room stood_for in (y.0, (y.0, y.1, refl), y.2)
 
   told_same : x.0.told ≡ slice
@@ -48,9 +52,12 @@ module _ (step : Step) (zone : Zone) (digest_of : DigestOf) (trusted : Type 0) (
 
   -- the answer was not written wholly, or what follows it was no entry, or another status
   pub each_stops : (fault : ReplayFault) (read_failed write_failed : Bool)
-      → BeginsWith before (message at sent ∷ []) (Shows false step zone digest_of trusted stood stands fault (tried x.0 ∷ [])) → IsDueTo read_failed write_failed fault
+      → BeginsWith before (message at sent ∷ [])
+      (Shows false step zone digest_of trusted stood stands fault (tried x.0 ∷ []))
+      → IsDueTo read_failed write_failed fault
       → (front rest : List ℕ) → frame_of slice ≡ front ++ rest → Appends held holds front
-      → (last : List Turn) × StopsIn step zone digest_of trusted stood stands false before (Some at) true fault read_failed write_failed last
+      → (last : List Turn) × StopsIn step zone digest_of trusted stood stands false before
+      (Some at) true fault read_failed write_failed last
       × (front : List ℕ) × IsFront front (frames_of last) × Appends held holds front
   each_stops fault read_failed write_failed begins due front rest split wrote = (
     tried x.0 ∷ [],
@@ -60,13 +67,16 @@ module _ (step : Step) (zone : Zone) (digest_of : DigestOf) (trusted : Type 0) (
     wrote,
   )
 
-  module _ (mid after : Option (List ℕ)) (failed : Bool) (took_message : Consumes before mid (texts_of (message at sent ∷ []))) (wrote : Appends held holds (frame_of slice)) where
+  module _ (mid after : Option (List ℕ)) (failed : Bool)
+      (took_message : Consumes before mid (texts_of (message at sent ∷ [])))
+      (wrote : Appends held holds (frame_of slice)) where
     wrote_one : Appends held holds (frame_of x.0.told ++ [])
     wrote_one = subst (λ (t : List ℕ). Appends held holds t) (sym (append-nil (frame_of x.0.told) ∙ ap frame_of told_same)) wrote
 
     -- the answer was written, and a status that follows it is the answer's
     pub each_done : (took : Bool) → FollowIs mid after failed slice (Ok took)
-        → (t : Turn) × Passes step zone digest_of trusted stood stands before after None IsPlayed (t ∷ []) × (has_message t ≡ true) × (is_left_out t ≡ false) × (failed ≡ false)
+        → (t : Turn) × Passes step zone digest_of trusted stood stands before after None IsPlayed
+        (t ∷ []) × (has_message t ≡ true) × (is_left_out t ≡ false) × (failed ≡ false)
         × Appends held holds (frames_of (t ∷ []))
     each_done true f = (
       answered x.0 f.0,
@@ -90,26 +100,36 @@ module _ (step : Step) (zone : Zone) (digest_of : DigestOf) (trusted : Type 0) (
     )
 
 -- what followed the answer is no entry, or another status
-pub each_follows : (step : Step) (zone : Zone) (digest_of : DigestOf) (trusted : Type 0) (stood stands : List Terminal → Room → Type 0) (before mid : Option (List ℕ)) (at : ℕ) (sent slice : List ℕ)
+pub each_follows : (step : Step) (zone : Zone) (digest_of : DigestOf) (trusted : Type 0)
+    (stood stands : List Terminal → Room → Type 0) (before mid : Option (List ℕ)) (at : ℕ)
+    (sent slice : List ℕ)
     (p : Play) (fault : ReplayFault) → p.told ≡ slice → Consumes before mid (texts_of (message at sent ∷ []))
-    → ((p : Play) → p.told ≡ slice → BeginsWith mid [] (Explains false ⊥ ⊥ (λ digest. ⊥) (tried p ∷ []) fault))
-    → BeginsWith before (message at sent ∷ []) (Shows false step zone digest_of trusted stood stands fault (tried p ∷ []))
+    → ((p : Play) → p.told ≡ slice → BeginsWith mid []
+    (Explains false ⊥ ⊥ (λ digest. ⊥) (tried p ∷ []) fault))
+    → BeginsWith before (message at sent ∷ [])
+    (Shows false step zone digest_of trusted stood stands fault (tried p ∷ []))
 each_follows step zone digest_of trusted stood stands before mid at sent slice p fault same took follows =
     consumes_begins before mid (message at sent ∷ []) [] (Shows false step zone digest_of trusted stood stands fault (tried p ∷ [])) took
     (begins_explain mid [] false ⊥ ⊥ (true ≡ false) ⊥ (λ digest. ⊥) (LeadsElsewhere step zone digest_of trusted stood stands (tried p ∷ [])) (tried p ∷ []) fault
     (λ never. absurd never) (λ never. never) (λ digest never. absurd never) (follows p same))
 
 -- a message is next: it was played, and its answer was written
-module _ (step : Step) (zone : Zone) (digest_of : DigestOf) (early late : Type 0) (earlier : late → early) (stood middle stands : List Terminal → Room → Type 0)
+module _ (step : Step) (zone : Zone) (digest_of : DigestOf) (early late : Type 0)
+    (earlier : late → early) (stood middle stands : List Terminal → Room → Type 0)
     (before mid after held holds : Option (List ℕ)) (kept : List ℕ) (looked read_failed write_failed : Bool) (at : ℕ) (layout : Layout) (next : Next) (is : next ≡ Message at layout) (old new : Progress)
     (noted : new ≡ record old { records = min (old.records + 1) (2 ^ 64 - 1); is_open = false }) where
-  pub each_turn : NextIs digest_of early stood middle before mid looked None old.is_begun kept (Ok next)
-      → EachIs step zone digest_of late middle stands mid after held holds at read_failed write_failed (Ok tt)
-      → AnswersTurn step zone digest_of late stood stands before after held holds old new read_failed write_failed (Ok true)
+  pub each_turn : NextIs digest_of early stood middle before mid looked None old.is_begun kept
+      (Ok next)
+      → EachIs step zone digest_of late middle stands mid after held holds at read_failed
+      write_failed (Ok tt)
+      → AnswersTurn step zone digest_of late stood stands before after held holds old new
+      read_failed write_failed (Ok true)
   each_turn found x = go (subst (λ (n : Next). NextIs digest_of early stood middle before mid looked None old.is_begun kept (Ok n)) is found)
     where
-      go : NextIs digest_of early stood middle before mid looked None old.is_begun kept (Ok (Message at layout))
-          → AnswersTurn step zone digest_of late stood stands before after held holds old new read_failed write_failed (Ok true)
+      go : NextIs digest_of early stood middle before mid looked None old.is_begun kept
+          (Ok (Message at layout))
+          → AnswersTurn step zone digest_of late stood stands before after held holds old new
+          read_failed write_failed (Ok true)
       go y = (
         x.0 ∷ [],
         record {

@@ -43,8 +43,10 @@ AreAlike t u = (¬ ((is_tried t ≡ true) × (waits u ≡ true))) × (¬ ((waits
 
 module _ (step : Step) (zone : Zone) (digest_of : DigestOf) (terminals : List Terminal) where
   -- equal bytes at equal moments, in equal rooms, are answered equally
-  pub same_play : (held after other : Room) (p q : Play) → IsPlay p → IsPlay q → p.at ≡ q.at → p.sent ≡ q.sent
-      → Answers step zone digest_of terminals held p after → Answers step zone digest_of terminals held q other → (p ≡ q) × (after ≡ other)
+  pub same_play : (held after other : Room) (p q : Play) → IsPlay p → IsPlay q → p.at ≡ q.at
+      → p.sent ≡ q.sent
+      → Answers step zone digest_of terminals held p after
+      → Answers step zone digest_of terminals held q other → (p ≡ q) × (after ≡ other)
   same_play held after other p q p_is q_is at sent first second =
       let whole : p.whole ≡ q.whole = (one_message_law p.sent p.whole q.whole [] [] p_is (subst (λ (t : List ℕ). HasMessage t q.whole []) (sym sent) q_is)).0 in
       let arrives : timed p ≡ timed q = λ i. (arrived (whole i), at i) in
@@ -54,7 +56,8 @@ module _ (step : Step) (zone : Zone) (digest_of : DigestOf) (terminals : List Te
       (λ i. record { at = at i; sent = sent i; whole = whole i; told = same.1 i }, same.0)
 
   -- no turn begins with a status
-  no_status_first : (ts : List Turn) (status : ℕ) (more : List Entry) → entries_of ts ≡ answer status ∷ more → ⊥
+  no_status_first : (ts : List Turn) (status : ℕ) (more : List Entry)
+      → entries_of ts ≡ answer status ∷ more → ⊥
   no_status_first [] status more is = cc
   no_status_first (head digest ∷ ts) status more is = cc
   no_status_first (answered p s ∷ ts) status more is = cc
@@ -63,7 +66,8 @@ module _ (step : Step) (zone : Zone) (digest_of : DigestOf) (terminals : List Te
   no_status_first (left_out at sent ∷ ts) status more is = cc
 
   -- where a head comes next, the room has its digest
-  first_head : (held after : Room) (ts : List Turn) (digest : List ℕ) (more : List Entry) → entries_of ts ≡ room digest ∷ more → IsReplay step zone digest_of terminals held ts after
+  first_head : (held after : Room) (ts : List Turn) (digest : List ℕ) (more : List Entry)
+      → entries_of ts ≡ room digest ∷ more → IsReplay step zone digest_of terminals held ts after
       → digest_of terminals held ≡ digest
   first_head held after [] digest more is x = absurd (cc)
   first_head held after (head d ∷ ts) digest more is x = let same : d ≡ digest = cc in x.1.1 ∙ same
@@ -80,12 +84,16 @@ module _ (step : Step) (zone : Zone) (digest_of : DigestOf) (terminals : List Te
   some_entry (tried p) ts is = cc
   some_entry (left_out at sent) ts is = cc
 
-  -- what equal entries decide of turns in equal rooms: the turns, the rooms after them, and the entries that are left
+  -- what equal entries decide of turns in equal rooms: the turns, the rooms after them, and the
+  -- entries that are left
   abbrev Decides : Turn → Turn → List Turn → List Turn → Room → Room → Type 0
   Decides t u ts us next then = (t ≡ u) × (next ≡ then) × (entries_of ts ≡ entries_of us)
 
-  module _ (held next then after other : Room) (ts us : List Turn) (x : IsReplay step zone digest_of terminals next ts after) (y : IsReplay step zone digest_of terminals then us other) where
-    one_turn : (t u : Turn) → IsTurn t → IsTurn u → AreAlike t u → entries_of (t ∷ ts) ≡ entries_of (u ∷ us) → Does step zone digest_of terminals held t next
+  module _ (held next then after other : Room) (ts us : List Turn)
+      (x : IsReplay step zone digest_of terminals next ts after)
+      (y : IsReplay step zone digest_of terminals then us other) where
+    one_turn : (t u : Turn) → IsTurn t → IsTurn u → AreAlike t u
+        → entries_of (t ∷ ts) ≡ entries_of (u ∷ us) → Does step zone digest_of terminals held t next
         → Does step zone digest_of terminals held u then → Decides t u ts us next then
     one_turn (head g) (head h) a b alike is d e = let same : g ≡ h = cc in (ap head same, d.0 ∙ sym e.0, ap (drop 1) is)
     one_turn (head g) (answered q r) a b alike is d e = absurd (cc)
@@ -126,9 +134,12 @@ module _ (step : Step) (zone : Zone) (digest_of : DigestOf) (terminals : List Te
         (λ i. left_out (at i) (sent i), d ∙ sym e, ap (drop 1) is)
 
   -- a list of entries has one replay of a kind
-  module _ (Kind : Turn → Type 0) (alike : (t u : Turn) → Kind t → Kind u → AreAlike t u) (after other : Room) where
-    one_of : (held : Room) (ts us : List Turn) → All IsTurn ts → All IsTurn us → All Kind ts → All Kind us → entries_of ts ≡ entries_of us
-        → IsReplay step zone digest_of terminals held ts after → IsReplay step zone digest_of terminals held us other → (ts ≡ us) × (after ≡ other)
+  module _ (Kind : Turn → Type 0) (alike : (t u : Turn) → Kind t → Kind u → AreAlike t u)
+      (after other : Room) where
+    one_of : (held : Room) (ts us : List Turn) → All IsTurn ts → All IsTurn us → All Kind ts
+        → All Kind us → entries_of ts ≡ entries_of us
+        → IsReplay step zone digest_of terminals held ts after
+        → IsReplay step zone digest_of terminals held us other → (ts ≡ us) × (after ≡ other)
     one_of held [] [] a b c d is x y = (refl, x ∙ sym y)
     one_of held [] (u ∷ us) a b c d is x y = absurd (some_entry u us is)
     one_of held (t ∷ ts) [] a b c d is x y = absurd (some_entry t ts (sym is))

@@ -25,35 +25,41 @@ use Rattle.dispatch_room_replaying.proofs.LawLemmas.{same_play}
 some_text : (e : Entry) (rest : List ℕ) → IsEntry e → ¬ (text_of e ++ rest ≡ [])
 some_text e rest is = (no_end_law (text_of e ++ rest) e rest (is, refl)).0
 
-same_first : (e f : Entry) (rest left : List ℕ) → IsEntry e → IsEntry f → text_of e ++ rest ≡ text_of f ++ left → (e ≡ f) × (rest ≡ left)
+same_first : (e f : Entry) (rest left : List ℕ) → IsEntry e → IsEntry f
+    → text_of e ++ rest ≡ text_of f ++ left → (e ≡ f) × (rest ≡ left)
 same_first e f rest left e_is f_is same = one_entry_law (text_of e ++ rest) e f rest left (e_is, refl) (f_is, same)
 
 -- one message is at one moment, of the same bytes, and is no head
-same_message : (at n : ℕ) (sent bytes : List ℕ) → message at sent ≡ message n bytes → (at ≡ n) × (sent ≡ bytes)
+same_message : (at n : ℕ) (sent bytes : List ℕ) → message at sent ≡ message n bytes
+    → (at ≡ n) × (sent ≡ bytes)
 same_message at n sent bytes same = (cc, cc)
 
 no_head : (at : ℕ) (digest bytes : List ℕ) → room digest ≡ message at bytes → ⊥
 no_head at digest bytes same = cc
 
 -- neither a head nor a message begins as a status does
-head_no_status : (digest rest told more : List ℕ) → text_of (room digest) ++ rest ≡ answer_text told ++ more → ⊥
+head_no_status : (digest rest told more : List ℕ)
+    → text_of (room digest) ++ rest ≡ answer_text told ++ more → ⊥
 head_no_status digest rest told more same = absurd (omega (arith, ap first_byte same))
 
-message_no_status : (at : ℕ) (sent rest told more : List ℕ) → text_of (message at sent) ++ rest ≡ answer_text told ++ more → ⊥
+message_no_status : (at : ℕ) (sent rest told more : List ℕ)
+    → text_of (message at sent) ++ rest ≡ answer_text told ++ more → ⊥
 message_no_status at sent rest told more same = absurd (omega (arith, ap first_byte same))
 
 nothing_no_status : (told more : List ℕ) → [] ≡ answer_text told ++ more → ⊥
 nothing_no_status told more same = absurd (omega (arith, ap first_byte same))
 
 -- no turn's text is empty, and no turn begins with a status
-some_turn : (t : Turn) (ts : List Turn) → All IsEntry (entries_of (t ∷ ts)) → ¬ (texts_of (entries_of (t ∷ ts)) ≡ [])
+some_turn : (t : Turn) (ts : List Turn) → All IsEntry (entries_of (t ∷ ts))
+    → ¬ (texts_of (entries_of (t ∷ ts)) ≡ [])
 some_turn (head digest) ts is = some_text (room digest) (texts_of (entries_of ts)) (All-head IsEntry (room digest) (entries_of ts) is)
 some_turn (answered p status) ts is = some_text (message p.at p.sent) (texts_of (answer status ∷ entries_of ts)) (All-head IsEntry (message p.at p.sent) (answer status ∷ entries_of ts) is)
 some_turn (caught_up p digest) ts is = some_text (message p.at p.sent) (texts_of (room digest ∷ entries_of ts)) (All-head IsEntry (message p.at p.sent) (room digest ∷ entries_of ts) is)
 some_turn (tried p) ts is = some_text (message p.at p.sent) (texts_of (entries_of ts)) (All-head IsEntry (message p.at p.sent) (entries_of ts) is)
 some_turn (left_out at sent) ts is = some_text (message at sent) (texts_of (entries_of ts)) (All-head IsEntry (message at sent) (entries_of ts) is)
 
-no_status_next : (ts : List Turn) (told more : List ℕ) → texts_of (entries_of ts) ≡ answer_text told ++ more → ⊥
+no_status_next : (ts : List Turn) (told more : List ℕ)
+    → texts_of (entries_of ts) ≡ answer_text told ++ more → ⊥
 no_status_next [] told more same = nothing_no_status told more same
 no_status_next (head digest ∷ ts) told more same = head_no_status digest (texts_of (entries_of ts)) told more same
 no_status_next (answered p status ∷ ts) told more same = message_no_status p.at p.sent (texts_of (answer status ∷ entries_of ts)) told more same
@@ -69,26 +75,31 @@ module _ (step : Step) (zone : Zone) (digest_of : DigestOf) (terminals : List Te
   abbrev Replayed : List Timed → List (List ℕ) → Room → List ℕ → List Turn → Room → Type 0
   Replayed outs answers held text ts other =
       All IsTurn ts → All IsReplayed ts → All IsEntry (entries_of ts) → texts_of (entries_of ts) ≡ text → IsReplay step zone digest_of terminals held ts other
-      → (after : Room) → AreReplies step zone terminals held outs answers after → Same outs answers after other ts
+      → (after : Room) → AreReplies step zone terminals held outs answers after
+      → Same outs answers after other ts
 
   -- the next is a message, of which the record stands first in the text
-  module _ (m : WholeMessage) (at : ℕ) (bytes told more : List ℕ) (outs : List Timed) (answers : List (List ℕ)) (whole : HasMessage bytes m []) (entry : IsEntry (message at bytes))
+  module _ (m : WholeMessage) (at : ℕ) (bytes told more : List ℕ) (outs : List Timed)
+      (answers : List (List ℕ)) (whole : HasMessage bytes m []) (entry : IsEntry (message at bytes))
       (rest : (held other : Room) (ts : List Turn) → Replayed outs answers held more ts other) where
     abbrev record_text : List ℕ
     record_text = (message_text at bytes ++ answer_text told) ++ more
 
     -- the same, with the brackets moved
-    moved : {text : List ℕ} → text ≡ record_text → text ≡ message_text at bytes ++ (answer_text told ++ more)
+    moved : {text : List ℕ} → text ≡ record_text
+        → text ≡ message_text at bytes ++ (answer_text told ++ more)
     moved same = same ∙ append_assoc (message_text at bytes) (answer_text told) more
 
     -- a turn of another message, or of this one
-    first_message : (n : ℕ) (sent : List ℕ) (after : List Entry) → All IsEntry (message n sent ∷ after) → texts_of (message n sent ∷ after) ≡ record_text
+    first_message : (n : ℕ) (sent : List ℕ) (after : List Entry)
+        → All IsEntry (message n sent ∷ after) → texts_of (message n sent ∷ after) ≡ record_text
         → ((n ≡ at) × (sent ≡ bytes)) × (texts_of after ≡ answer_text told ++ more)
     first_message n sent after entries same =
         let first = same_first (message n sent) (message at bytes) (texts_of after) (answer_text told ++ more) (All-head IsEntry (message n sent) after entries) entry (moved same) in
         (same_message n at sent bytes first.0, first.1)
 
-    next_message : (held other : Room) (ts : List Turn) → Replayed ((arrived m, at) ∷ outs) (told ∷ answers) held record_text ts other
+    next_message : (held other : Room) (ts : List Turn)
+        → Replayed ((arrived m, at) ∷ outs) (told ∷ answers) held record_text ts other
     next_message held other [] turns kinds entries same x after y = absurd (some_text (message at bytes) (answer_text told ++ more) entry (sym (moved same)))
     next_message held other (head digest ∷ ts) turns kinds entries same x after y =
         let first = same_first (room digest) (message at bytes) (texts_of (entries_of ts)) (answer_text told ++ more) (All-head IsEntry (room digest) (entries_of ts) entries) entry (moved same) in
@@ -110,7 +121,8 @@ module _ (step : Step) (zone : Zone) (digest_of : DigestOf) (terminals : List Te
     next_message held other (left_out n sent ∷ ts) turns kinds entries same x after y =
         absurd (no_status_next ts told more (first_message n sent (entries_of ts) entries same).1)
 
-  the_room : (outs : List Timed) (answers : List (List ℕ)) (text : List ℕ) → AreKept message_text answer_text outs answers text
+  the_room : (outs : List Timed) (answers : List (List ℕ)) (text : List ℕ)
+      → AreKept message_text answer_text outs answers text
       → (held other : Room) (ts : List Turn) → Replayed outs answers held text ts other
   the_room [] [] text kept held other [] turns kinds entries same x after y = (x ∙ sym y, refl)
   the_room [] [] text kept held other (t ∷ ts) turns kinds entries same x after y = absurd (some_turn t ts entries (same ∙ kept))

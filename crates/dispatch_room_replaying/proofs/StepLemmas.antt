@@ -26,19 +26,23 @@ use Rattle.dispatch_room_replaying.proofs.EntryLemmas.{layout_of_mark, taken, ta
 use Rattle.dispatch_room_replaying.proofs.TurnLemmas.{one_by}
 
 -- the message was played, with this answer
-abbrev pub WasPlayed : Step → Zone → Type 0 → (List Terminal → Room → Type 0) → (List Terminal → Room → Type 0) → ℕ → List ℕ → List ℕ → Type 0
+abbrev pub WasPlayed : Step → Zone → Type 0 → (List Terminal → Room → Type 0)
+    → (List Terminal → Room → Type 0) → ℕ → List ℕ → List ℕ → Type 0
 WasPlayed step zone trusted stood stands at sent told =
     (p : Play) × (p.at ≡ at) × (p.sent ≡ sent) × (p.told ≡ told) × IsPlay p
     × (trusted → (terminals : List Terminal) (room : Room) → stood terminals room
-    → (after : Room) × IsReplyTo step zone terminals room (timed p) after p.told × stands terminals after)
+    → (after : Room) × IsReplyTo step zone terminals room (timed p) after p.told
+    × stands terminals after)
 
 -- the digest of the room is this one, or it is not
 abbrev pub Tells : DigestOf → Type 0 → (List Terminal → Room → Type 0) → List ℕ → Bool → Type 0
 Tells digest_of trusted stood digest is =
     trusted → (terminals : List Terminal) (room : Room) → stood terminals room → (IsTrue is ↔ (digest_of terminals room ≡ digest))
 
-module _ (step : Step) (zone : Zone) (digest_of : DigestOf) (trusted : Type 0) (stood stands : List Terminal → Room → Type 0) (at : ℕ) (sent : List ℕ) where
-  pub answered_turn : (told : List ℕ) (status : ℕ) → WasPlayed step zone trusted stood stands at sent told → status_in told ≡ decimal status
+module _ (step : Step) (zone : Zone) (digest_of : DigestOf) (trusted : Type 0)
+    (stood stands : List Terminal → Room → Type 0) (at : ℕ) (sent : List ℕ) where
+  pub answered_turn : (told : List ℕ) (status : ℕ)
+      → WasPlayed step zone trusted stood stands at sent told → status_in told ≡ decimal status
       → TurnOf step zone digest_of trusted stood stands at sent (answer status ∷ []) false
   answered_turn told status x same = record {
     turn = answered x.0 status;
@@ -50,26 +54,31 @@ module _ (step : Step) (zone : Zone) (digest_of : DigestOf) (trusted : Type 0) (
     leads = λ trust terminals room stood_for. let y = x.5 trust terminals room stood_for in (y.0, (y.0, y.1, refl), y.2);
   }
 
-  leads_tried : (told : List ℕ) (x : WasPlayed step zone trusted stood stands at sent told) → Leads step zone digest_of trusted stood stands (tried x.0 ∷ [])
+  leads_tried : (told : List ℕ) (x : WasPlayed step zone trusted stood stands at sent told)
+      → Leads step zone digest_of trusted stood stands (tried x.0 ∷ [])
   leads_tried told x trust terminals held stood_for = let y = x.5 trust terminals held stood_for in (y.0, (y.0, y.1, refl), y.2)
 
   -- the status is another
-  pub differs_stops : (told : List ℕ) (status : ℕ) → WasPlayed step zone trusted stood stands at sent told → ¬ (status_in told ≡ decimal status)
+  pub differs_stops : (told : List ℕ) (status : ℕ)
+      → WasPlayed step zone trusted stood stands at sent told → ¬ (status_in told ≡ decimal status)
       → StopsAt step zone digest_of trusted stood stands at sent (line_of (answer status)) Differs
   differs_stops told status x other =
       inr (x.0, x.1, x.2, x.4, leads_tried told x, inl (refl, status, refl, λ same. other (ap status_in (sym x.3) ∙ same)))
 
   -- memory or storage is wanting after it was played
-  pub wanting_stops : (told : List ℕ) (line : Line) (fault : ReplayFault) → WasPlayed step zone trusted stood stands at sent told → IsWanting fault
+  pub wanting_stops : (told : List ℕ) (line : Line) (fault : ReplayFault)
+      → WasPlayed step zone trusted stood stands at sent told → IsWanting fault
       → StopsAt step zone digest_of trusted stood stands at sent line fault
   wanting_stops told line fault x want = inr (x.0, x.1, x.2, x.4, leads_tried told x, inr (inr want))
 
   -- a line is that of its entry
-  pub settles_line : (line other : Line) (result : Result Bool ReplayFault) → line ≡ other → Settles step zone digest_of trusted stood stands at sent other result
+  pub settles_line : (line other : Line) (result : Result Bool ReplayFault) → line ≡ other
+      → Settles step zone digest_of trusted stood stands at sent other result
       → Settles step zone digest_of trusted stood stands at sent line result
   settles_line line other result is x = subst (λ (l : Line). Settles step zone digest_of trusted stood stands at sent l result) (sym is) x
 
-  pub left_turn : Stays trusted stood stands → TurnOf step zone digest_of trusted stood stands at sent [] true
+  pub left_turn : Stays trusted stood stands
+      → TurnOf step zone digest_of trusted stood stands at sent [] true
   left_turn stays = record {
     turn = left_out at sent;
     is = tt;
@@ -81,12 +90,18 @@ module _ (step : Step) (zone : Zone) (digest_of : DigestOf) (trusted : Type 0) (
   }
 
 -- what holds at a time, and then what a look at the digest leaves
-module _ (step : Step) (zone : Zone) (digest_of : DigestOf) (early late : Type 0) (earlier : late → early) (stood mid stands : List Terminal → Room → Type 0) (at : ℕ) (sent : List ℕ) where
-  pub played_later : (told : List ℕ) → Stays late mid stands → WasPlayed step zone early stood mid at sent told → WasPlayed step zone late stood stands at sent told
+module _ (step : Step) (zone : Zone) (digest_of : DigestOf) (early late : Type 0)
+    (earlier : late → early) (stood mid stands : List Terminal → Room → Type 0) (at : ℕ)
+    (sent : List ℕ) where
+  pub played_later : (told : List ℕ) → Stays late mid stands
+      → WasPlayed step zone early stood mid at sent told
+      → WasPlayed step zone late stood stands at sent told
   played_later told stays x =
       (x.0, x.1, x.2, x.3, x.4, λ trust terminals room stood_for. let y = x.5 (earlier trust) terminals room stood_for in (y.0, y.1, stays trust terminals y.0 y.2))
 
-  pub comes_to : (told digest : List ℕ) (is : Bool) → Stays late mid stands → Tells digest_of late mid digest is → is ≡ true → WasPlayed step zone early stood mid at sent told
+  pub comes_to : (told digest : List ℕ) (is : Bool) → Stays late mid stands
+      → Tells digest_of late mid digest is → is ≡ true
+      → WasPlayed step zone early stood mid at sent told
       → ComesTo step zone digest_of late stood stands at sent digest
   comes_to told digest is stays tells said x = (
     x.0,
@@ -98,8 +113,10 @@ module _ (step : Step) (zone : Zone) (digest_of : DigestOf) (early late : Type 0
         (y.0, y.1, (tells trust terminals y.0 y.2).0 said, stays trust terminals y.0 y.2),
   )
 
-  pub caught_turn : (digest : List ℕ) (is : Bool) → Stays early stood mid → Tells digest_of early stood digest is → is ≡ false
-      → ComesTo step zone digest_of late mid stands at sent digest → TurnOf step zone digest_of late stood stands at sent (room digest ∷ []) false
+  pub caught_turn : (digest : List ℕ) (is : Bool) → Stays early stood mid
+      → Tells digest_of early stood digest is → is ≡ false
+      → ComesTo step zone digest_of late mid stands at sent digest
+      → TurnOf step zone digest_of late stood stands at sent (room digest ∷ []) false
   caught_turn digest is stays tells said x = record {
     turn = caught_up (x.0) digest;
     is = x.3;
@@ -114,7 +131,9 @@ module _ (step : Step) (zone : Zone) (digest_of : DigestOf) (early late : Type 0
   }
 
   -- the room has come to another digest
-  pub elsewhere_stops : (told digest : List ℕ) (is : Bool) → Stays late mid stands → Tells digest_of late mid digest is → is ≡ false → WasPlayed step zone early stood mid at sent told
+  pub elsewhere_stops : (told digest : List ℕ) (is : Bool) → Stays late mid stands
+      → Tells digest_of late mid digest is → is ≡ false
+      → WasPlayed step zone early stood mid at sent told
       → StopsAt step zone digest_of late stood stands at sent (line_of (room digest)) Another
   elsewhere_stops told digest is stays tells said x =
       inr (
@@ -133,30 +152,36 @@ module _ (step : Step) (zone : Zone) (digest_of : DigestOf) (early late : Type 0
         )),
       )
 
-  deviates_later : (p : Play) (line : Line) (fault : ReplayFault) → Stays early stood mid → Deviates step zone digest_of late mid stands p line fault
+  deviates_later : (p : Play) (line : Line) (fault : ReplayFault) → Stays early stood mid
+      → Deviates step zone digest_of late mid stands p line fault
       → Deviates step zone digest_of late stood stands p line fault
   deviates_later p line fault stays (inl x) = inl x
   deviates_later p line fault stays (inr (inl x)) =
       inr (inl (x.0, x.1, x.2, λ trust terminals room stood_for. x.3 trust terminals room (stays (earlier trust) terminals room stood_for)))
   deviates_later p line fault stays (inr (inr x)) = inr (inr x)
 
-  pub stops_later : (line : Line) (fault : ReplayFault) → Stays early stood mid → StopsAt step zone digest_of late mid stands at sent line fault
+  pub stops_later : (line : Line) (fault : ReplayFault) → Stays early stood mid
+      → StopsAt step zone digest_of late mid stands at sent line fault
       → StopsAt step zone digest_of late stood stands at sent line fault
   stops_later line fault stays (inl x) = inl (λ trust terminals room stood_for. x.0 trust terminals room (stays (earlier trust) terminals room stood_for), x.1)
   stops_later line fault stays (inr x) =
       inr (x.0, x.1, x.2, x.3, λ trust terminals room stood_for. x.4 trust terminals room (stays (earlier trust) terminals room stood_for), deviates_later x.0 line fault stays x.5)
 
 -- what follows a message explains why it stopped the replay
-abbrev pub Shows : Bool → Step → Zone → DigestOf → Type 0 → (List Terminal → Room → Type 0) → (List Terminal → Room → Type 0) → ReplayFault → List Turn → List ℕ → Type 0
+abbrev pub Shows : Bool → Step → Zone → DigestOf → Type 0 → (List Terminal → Room → Type 0)
+    → (List Terminal → Room → Type 0) → ReplayFault → List Turn → List ℕ → Type 0
 Shows waits step zone digest_of trusted stood stands fault last = Explains waits (true ≡ false) ⊥ (LeadsElsewhere step zone digest_of trusted stood stands last) last fault
 
 -- why a message stopped the replay
-module _ (waits : Bool) (step : Step) (zone : Zone) (digest_of : DigestOf) (trusted : Type 0) (stood stands : List Terminal → Room → Type 0) (before : Option (List ℕ)) (at : ℕ) (sent : List ℕ)
+module _ (waits : Bool) (step : Step) (zone : Zone) (digest_of : DigestOf) (trusted : Type 0)
+    (stood stands : List Terminal → Room → Type 0) (before : Option (List ℕ)) (at : ℕ)
+    (sent : List ℕ)
     (is : IsEntry (message at sent)) (read_failed write_failed : Bool) where
   abbrev Stops : ReplayFault → List Turn → Type 0
   Stops fault last = StopsIn step zone digest_of trusted stood stands waits before (Some at) true fault read_failed write_failed last
 
-  unplayed_stops : (fault : ReplayFault) → Stays trusted stood stands → BeginsWith before [] (Shows waits step zone digest_of trusted stood stands fault [])
+  unplayed_stops : (fault : ReplayFault) → Stays trusted stood stands
+      → BeginsWith before [] (Shows waits step zone digest_of trusted stood stands fault [])
       → IsDueTo read_failed write_failed fault → Stops fault []
   unplayed_stops fault stays begins due = record {
     few = inl refl;
@@ -165,8 +190,11 @@ module _ (waits : Bool) (step : Step) (zone : Zone) (digest_of : DigestOf) (trus
     due = due;
   }
 
-  pub played_stops : (p : Play) (fault : ReplayFault) → p.at ≡ at → p.sent ≡ sent → IsPlay p → Leads step zone digest_of trusted stood stands (tried p ∷ [])
-      → BeginsWith before (message at sent ∷ []) (Shows waits step zone digest_of trusted stood stands fault (tried p ∷ [])) → IsDueTo read_failed write_failed fault → Stops fault (tried p ∷ [])
+  pub played_stops : (p : Play) (fault : ReplayFault) → p.at ≡ at → p.sent ≡ sent → IsPlay p
+      → Leads step zone digest_of trusted stood stands (tried p ∷ [])
+      → BeginsWith before (message at sent ∷ [])
+      (Shows waits step zone digest_of trusted stood stands fault (tried p ∷ []))
+      → IsDueTo read_failed write_failed fault → Stops fault (tried p ∷ [])
   played_stops p fault same_at same_sent played leads begins due =
       let all : message at sent ∷ [] ≡ message p.at p.sent ∷ [] = λ i. message (sym same_at i) (sym same_sent i) ∷ [] in
       record {
@@ -176,9 +204,11 @@ module _ (waits : Bool) (step : Step) (zone : Zone) (digest_of : DigestOf) (trus
         due = due;
       }
 
-  module _ (mid : Option (List ℕ)) (took : Consumes before mid (texts_of (message at sent ∷ []))) where
+  module _ (mid : Option (List ℕ)) (took : Consumes before mid
+      (texts_of (message at sent ∷ []))) where
     -- it was not played, since its bytes are no message, or memory or storage is wanting
-    pub refused_stops : (fault : ReplayFault) → read_failed ≡ false → write_failed ≡ false → Stays trusted stood stands → Refuses sent fault → Stops fault []
+    pub refused_stops : (fault : ReplayFault) → read_failed ≡ false → write_failed ≡ false
+        → Stays trusted stood stands → Refuses sent fault → Stops fault []
     refused_stops fault read write stays refuses =
         unplayed_stops fault stays
         (λ text known.
@@ -188,7 +218,8 @@ module _ (waits : Bool) (step : Step) (zone : Zone) (digest_of : DigestOf) (trus
         (refuses_due read_failed write_failed sent fault read write refuses)
 
     -- it was not played, since what follows it was not read
-    pub unread_stops : (fault : Fault) → waits ≡ true → Stays trusted stood stands → ((text : List ℕ) → mid ≡ Some text → FirstIs text (Err fault))
+    pub unread_stops : (fault : Fault) → waits ≡ true → Stays trusted stood stands
+        → ((text : List ℕ) → mid ≡ Some text → FirstIs text (Err fault))
         → IsDueTo read_failed write_failed (read_fault fault) → Stops (read_fault fault) []
     unread_stops fault wait stays first due =
         unplayed_stops (read_fault fault) stays
@@ -202,8 +233,10 @@ module _ (waits : Bool) (step : Step) (zone : Zone) (digest_of : DigestOf) (trus
         due
 
     -- it was played, and is not as the line after it says
-    deviates_explains : (p : Play) (layout : Layout) (e : Entry) (fault : ReplayFault) (text : List ℕ) → IsLayout text layout e
-        → Deviates step zone digest_of trusted stood stands p layout.line fault → Shows waits step zone digest_of trusted stood stands fault (tried p ∷ []) text
+    deviates_explains : (p : Play) (layout : Layout) (e : Entry) (fault : ReplayFault)
+        (text : List ℕ) → IsLayout text layout e
+        → Deviates step zone digest_of trusted stood stands p layout.line fault
+        → Shows waits step zone digest_of trusted stood stands fault (tried p ∷ []) text
     deviates_explains p layout e fault text l (inl x) =
         subst (λ (f : ReplayFault). Shows waits step zone digest_of trusted stood stands f (tried p ∷ []) text) (sym x.0)
         (p, x.1, drop layout.end text, refl, (layout_of_mark text layout e (answer x.1) l tt x.2).begins, x.3)
@@ -213,14 +246,18 @@ module _ (waits : Bool) (step : Step) (zone : Zone) (digest_of : DigestOf) (trus
     deviates_explains p layout e fault text l (inr (inr x)) =
         wanting_explains waits (true ≡ false) ⊥ (LeadsElsewhere step zone digest_of trusted stood stands (tried p ∷ [])) (tried p ∷ []) fault text x
 
-    deviates_due : (p : Play) (line : Line) (fault : ReplayFault) → read_failed ≡ false → write_failed ≡ false → Deviates step zone digest_of trusted stood stands p line fault
+    deviates_due : (p : Play) (line : Line) (fault : ReplayFault) → read_failed ≡ false
+        → write_failed ≡ false → Deviates step zone digest_of trusted stood stands p line fault
         → IsDueTo read_failed write_failed fault
     deviates_due p line fault read write (inl x) = subst (λ (f : ReplayFault). IsDueTo read_failed write_failed f) (sym x.0) (read, write)
     deviates_due p line fault read write (inr (inl x)) = subst (λ (f : ReplayFault). IsDueTo read_failed write_failed f) (sym x.0) (read, write)
     deviates_due p line fault read write (inr (inr x)) = wanting_due read_failed write_failed fault read write x
 
-    settled_stops : (layout : Layout) (fault : ReplayFault) → ((text : List ℕ) → mid ≡ Some text → FirstIs text (Ok (Some layout))) → read_failed ≡ false → write_failed ≡ false
-        → StopsAt step zone digest_of trusted stood stands at sent layout.line fault → (last : List Turn) × Stops fault last
+    settled_stops : (layout : Layout) (fault : ReplayFault)
+        → ((text : List ℕ) → mid ≡ Some text → FirstIs text (Ok (Some layout)))
+        → read_failed ≡ false → write_failed ≡ false
+        → StopsAt step zone digest_of trusted stood stands at sent layout.line fault
+        → (last : List Turn) × Stops fault last
     settled_stops layout fault first read write (inl x) = ([], refused_stops fault read write x.0 x.1)
     settled_stops layout fault first read write (inr x) = (
       tried x.0 ∷ [],
@@ -233,30 +270,36 @@ module _ (waits : Bool) (step : Step) (zone : Zone) (digest_of : DigestOf) (trus
     )
 
 -- a message was copied
-pub copied : (kept : List ℕ) (layout : Layout) (at : ℕ) (sent copy : List ℕ) → IsLayout kept layout (message at sent) → copy ≡ sent → IsLayout kept layout (message at copy)
+pub copied : (kept : List ℕ) (layout : Layout) (at : ℕ) (sent copy : List ℕ)
+    → IsLayout kept layout (message at sent) → copy ≡ sent → IsLayout kept layout (message at copy)
 copied kept layout at sent copy x same = subst (λ (t : List ℕ). IsLayout kept layout (message at t)) (sym same) x
 
 -- a message was copied and taken, and then the next entry was read
-module _ {R : Type 0} (left : R → Option (List ℕ)) (has_failed has_ended : R → Bool) (old new : R) (step : Step) (zone : Zone) (digest_of : DigestOf) (trusted : Type 0)
+module _ {R : Type 0} (left : R → Option (List ℕ)) (has_failed has_ended : R → Bool) (old new : R)
+    (step : Step) (zone : Zone) (digest_of : DigestOf) (trusted : Type 0)
     (stood stands : List Terminal → Room → Type 0) (kept mid ahead : List ℕ) (at : ℕ) (layout next : Layout) (sent copy : List ℕ) (is : IsLayout kept layout (message at sent)) (same : copy ≡ sent)
     (gone : mid ≡ drop layout.end kept) (found : Option Layout) (some : found ≡ Some next) (came : ReadsEntry left has_failed has_ended old new mid ahead (Ok found)) where
   front : IsLayout kept layout (message at copy)
   front = copied kept layout at sent copy is same
 
-  took : Consumes (prepend_known kept (left old)) (prepend_known mid (left old)) (texts_of (message at copy ∷ []))
+  took : Consumes (prepend_known kept (left old)) (prepend_known mid (left old))
+      (texts_of (message at copy ∷ []))
   took = taken (prepend_known kept (left old)) (left old) kept mid layout (message at copy) front (Keeps-refl (prepend_known kept (left old))) gone
 
   read : ReadsEntry left has_failed has_ended old new mid ahead (Ok (Some next))
   read = subst (λ (o : Option Layout). ReadsEntry left has_failed has_ended old new mid ahead (Ok o)) some came
 
-  took_one : Consumes (prepend_known kept (left old)) (prepend_known ahead (left new)) (texts_of (message at copy ∷ []))
+  took_one : Consumes (prepend_known kept (left old)) (prepend_known ahead (left new))
+      (texts_of (message at copy ∷ []))
   took_one = Consumes-kept (prepend_known kept (left old)) (prepend_known mid (left old)) (prepend_known ahead (left new)) (texts_of (message at copy ∷ [])) took read.same
 
   abbrev Settled : Bool → Type 0
   Settled takes = Settles step zone digest_of trusted stood stands at copy next.line (Ok takes)
 
-  pub settled_played : (rest : List ℕ) (takes : Bool) → takes ≡ true → Settled takes → rest ≡ drop next.end ahead
-      → MessageIs step zone digest_of trusted stood stands (prepend_known kept (left old)) (prepend_known rest (left new)) (has_failed new) at (Ok Played)
+  pub settled_played : (rest : List ℕ) (takes : Bool) → takes ≡ true → Settled takes
+      → rest ≡ drop next.end ahead
+      → MessageIs step zone digest_of trusted stood stands (prepend_known kept (left old))
+      (prepend_known rest (left new)) (has_failed new) at (Ok Played)
   settled_played rest takes true_is x out =
       let y = subst Settled true_is x in
       let mark = layout_of_mark ahead next read.says.0.0 y.0 read.says.0.1 y.1 y.2 in
@@ -264,12 +307,15 @@ module _ {R : Type 0} (left : R → Option (List ℕ)) (has_failed has_ended : R
       (copy, y.0, y.1, y.3, front.begins.0, mark.begins.0, taken_two _ _ _ (message at copy) y.0 took_one second, read.says.1)
 
   pub settled_left : (takes : Bool) → takes ≡ false → Settled takes
-      → MessageIs step zone digest_of trusted stood stands (prepend_known kept (left old)) (prepend_known ahead (left new)) (has_failed new) at (Ok LeftOut)
+      → MessageIs step zone digest_of trusted stood stands (prepend_known kept (left old))
+      (prepend_known ahead (left new)) (has_failed new) at (Ok LeftOut)
   settled_left takes false_is x =
       let y = subst Settled false_is x in (copy, y.0, front.begins.0, took_one, read.says.1, no_status_front (left new) ahead next read.says.0.0 read.says.0.1 y.1)
 
-  pub settled_fault : (fault : ReplayFault) → StopsAt step zone digest_of trusted stood stands at copy next.line fault
-      → MessageIs step zone digest_of trusted stood stands (prepend_known kept (left old)) (prepend_known ahead (left new)) (has_failed new) at (Err fault)
+  pub settled_fault : (fault : ReplayFault)
+      → StopsAt step zone digest_of trusted stood stands at copy next.line fault
+      → MessageIs step zone digest_of trusted stood stands (prepend_known kept (left old))
+      (prepend_known ahead (left new)) (has_failed new) at (Err fault)
   settled_fault fault x =
       settled_stops true step zone digest_of trusted stood stands (prepend_known kept (left old)) at copy front.begins.0 (has_failed new) false (prepend_known mid (left old)) took next fault read.first
       read.says.1 refl x

@@ -36,7 +36,8 @@ ends_open-snoc [] t = refl
 ends_open-snoc (u ∷ []) t = refl
 ends_open-snoc (u ∷ v ∷ us) t = ends_open-snoc (v ∷ us) t
 
-ends_unanswered-append : (us ts : List Turn) → length ts ≡ 1 → ends_unanswered (us ++ ts) ≡ ends_unanswered ts
+ends_unanswered-append : (us ts : List Turn) → length ts ≡ 1
+    → ends_unanswered (us ++ ts) ≡ ends_unanswered ts
 ends_unanswered-append [] ts one = refl
 ends_unanswered-append (u ∷ []) [] one = absurd (omega arith)
 ends_unanswered-append (u ∷ []) (t ∷ ts) one = refl
@@ -65,7 +66,8 @@ none_begun : (b : Bool) (us : List Turn) → StartsBy b us → (us ++ [] ≡ [])
 none_begun true us x = inr (begun-append us [] x)
 none_begun false us x = inl (append-nil us ∙ x)
 
-head_begins : (b : Bool) (us : List Turn) (digest : List ℕ) → StartsBy b us → IsBegun (us ++ head digest ∷ [])
+head_begins : (b : Bool) (us : List Turn) (digest : List ℕ) → StartsBy b us
+    → IsBegun (us ++ head digest ∷ [])
 head_begins true us digest x = begun-append us (head digest ∷ []) x
 head_begins false us digest x = (digest, [], ap (λ l. l ++ head digest ∷ []) x)
 
@@ -73,25 +75,30 @@ head_begins false us digest x = (digest, [], ap (λ l. l ++ head digest ∷ []) 
 pub no_progress : (p : Progress) → Progresses p p []
 no_progress p us x = subst (λ l. IsProgress p l) (sym (append-nil us)) x
 
-pub new_progress : (p : Progress) → p ≡ record { records = 0; is_open = false; is_begun = false } → IsProgress p []
+pub new_progress : (p : Progress) → p ≡ record { records = 0; is_open = false; is_begun = false }
+    → IsProgress p []
 new_progress p is = record {
   records = ap (λ q. q.records) is;
   opens = ap (λ q. q.is_open) is;
   begun = subst (λ b. StartsBy b []) (sym (ap (λ q. q.is_begun) is)) refl;
 }
 
-head_progress : (digest : List ℕ) (old new : Progress) → new ≡ record old { is_open = false; is_begun = true } → Progresses old new (head digest ∷ [])
+head_progress : (digest : List ℕ) (old new : Progress)
+    → new ≡ record old { is_open = false; is_begun = true } → Progresses old new (head digest ∷ [])
 head_progress digest old new is us x = record {
   records = ap (λ p. p.records) is ∙ x.records ∙ ap (λ n. min n (2 ^ 64 - 1)) (sym (counted us));
   opens = ap (λ p. p.is_open) is ∙ sym (ends_open-snoc us (head digest));
   begun = subst (λ b. StartsBy b (us ++ head digest ∷ [])) (sym (ap (λ p. p.is_begun) is)) (head_begins old.is_begun us digest x.begun);
 }
   where
-    counted : (us : List Turn) → count_by has_message (us ++ head digest ∷ []) ≡ count_by has_message us
+    counted : (us : List Turn) → count_by has_message (us ++ head digest ∷ [])
+        ≡ count_by has_message us
     counted us = omega (arith, sum_by-append (λ t. cond (has_message t) 1 0) us (head digest ∷ []))
 
-pub message_progress : (t : Turn) (left : Bool) (old new : Progress) → has_message t ≡ true → is_left_out t ≡ left → old.is_begun ≡ true
-    → new ≡ record old { records = min (old.records + 1) (2 ^ 64 - 1); is_open = left } → Progresses old new (t ∷ [])
+pub message_progress : (t : Turn) (left : Bool) (old new : Progress) → has_message t ≡ true
+    → is_left_out t ≡ left → old.is_begun ≡ true
+    → new ≡ record old { records = min (old.records + 1) (2 ^ 64 - 1); is_open = left }
+    → Progresses old new (t ∷ [])
 message_progress t left old new has is begun new_is us x = record {
   records = ap (λ p. p.records) new_is ∙ ap (λ n. min (n + 1) (2 ^ 64 - 1)) x.records ∙ stops (count_by has_message us) ∙ ap (λ n. min n (2 ^ 64 - 1)) (sym counted);
   opens = ap (λ p. p.is_open) new_is ∙ sym is ∙ sym (ends_open-snoc us t);
@@ -108,7 +115,8 @@ message_progress t left old new has is begun new_is us x = record {
     counted = omega (arith, sum_by-append (λ t. cond (has_message t) 1 0) us (t ∷ []), counts)
 
 -- what is known of the text
-pub keeps_consumes : (a b c : Option (List ℕ)) (bs : List ℕ) → Keeps a b → Consumes b c bs → Consumes a c bs
+pub keeps_consumes : (a b c : Option (List ℕ)) (bs : List ℕ) → Keeps a b → Consumes b c bs
+    → Consumes a c bs
 keeps_consumes None b c bs same first = tt
 keeps_consumes (Some x) None c bs same first = absurd same
 keeps_consumes (Some x) (Some y) None bs same first = absurd first
@@ -119,13 +127,15 @@ keeps_nothing None b same = tt
 keeps_nothing (Some x) None same = absurd same
 keeps_nothing (Some x) (Some y) same = sym same
 
-pub keeps_begins : (a b : Option (List ℕ)) (entries : List Entry) (follows : List ℕ → Type 0) → Keeps a b → BeginsWith b entries follows → BeginsWith a entries follows
+pub keeps_begins : (a b : Option (List ℕ)) (entries : List Entry) (follows : List ℕ → Type 0)
+    → Keeps a b → BeginsWith b entries follows → BeginsWith a entries follows
 keeps_begins None b entries follows same begins text is = absurd (cc)
 keeps_begins (Some x) None entries follows same begins text is = absurd same
 keeps_begins (Some x) (Some y) entries follows same begins text is = begins text (ap (λ t. Some t) same ∙ is)
 
 -- what was taken, and then what the text goes on with
-pub consumes_begins : (a b : Option (List ℕ)) (entries more : List Entry) (follows : List ℕ → Type 0) → Consumes a b (texts_of entries) → BeginsWith b more follows
+pub consumes_begins : (a b : Option (List ℕ)) (entries more : List Entry)
+    (follows : List ℕ → Type 0) → Consumes a b (texts_of entries) → BeginsWith b more follows
     → BeginsWith a (entries ++ more) follows
 consumes_begins None b entries more follows took begins text is = absurd (cc)
 consumes_begins (Some x) None entries more follows took begins text is = absurd took
@@ -135,7 +145,8 @@ consumes_begins (Some x) (Some y) entries more follows took begins text is =
     (next.0, sym same ∙ took ∙ ap (λ t. texts_of entries ++ t) next.1 ∙ sym (append_assoc (texts_of entries) (texts_of more) next.0) ∙ ap (λ t. t ++ next.0) (sym (flat_map-append text_of entries more)), next.2)
 
 -- what was taken was the rest
-consumes_all : (a b : Option (List ℕ)) (entries : List Entry) (until : Option ℕ) → Consumes a b (texts_of entries) → IsAtEnd b → BeginsWith a entries (EndsAt until)
+consumes_all : (a b : Option (List ℕ)) (entries : List Entry) (until : Option ℕ)
+    → Consumes a b (texts_of entries) → IsAtEnd b → BeginsWith a entries (EndsAt until)
 consumes_all None b entries until took end text is = absurd (cc)
 consumes_all (Some x) None entries until took end text is = absurd took
 consumes_all (Some x) (Some y) entries until took end text is =
@@ -148,11 +159,13 @@ mark_by (Some until) (room digest) mark = tt
 mark_by (Some until) (message at sent) mark = absurd mark
 mark_by (Some until) (answer status) mark = tt
 
-message_by : (until : Option ℕ) (at : ℕ) (sent other : List ℕ) → IsBy until (message at sent) → IsBy until (message at other)
+message_by : (until : Option ℕ) (at : ℕ) (sent other : List ℕ) → IsBy until (message at sent)
+    → IsBy until (message at other)
 message_by None at sent other x = tt
 message_by (Some until) at sent other x = x
 
-earlier_by : (until : Option ℕ) (at then : ℕ) (sent other : List ℕ) → IsBy until (message at sent) → then ≤ at → IsBy until (message then other)
+earlier_by : (until : Option ℕ) (at then : ℕ) (sent other : List ℕ) → IsBy until (message at sent)
+    → then ≤ at → IsBy until (message then other)
 earlier_by None at then sent other x early = tt
 earlier_by (Some until) at then sent other x early = omega (arith, x, early)
 
@@ -162,25 +175,32 @@ all_one P x is = All-cons P x [] is (All-nil P)
 abbrev pub IsIn : Option ℕ → Entry → Type 0
 IsIn until e = IsEntry e × IsBy until e
 
-pub one_by : (until : Option ℕ) (at : ℕ) (sent other : List ℕ) → IsBy until (message at sent) → IsEntry (message at other) → AreBy until (message at other ∷ [])
+pub one_by : (until : Option ℕ) (at : ℕ) (sent other : List ℕ) → IsBy until (message at sent)
+    → IsEntry (message at other) → AreBy until (message at other ∷ [])
 one_by until at sent other by is = all_one (IsIn until) (message at other) (is, message_by until at sent other by)
 
-pub two_by : (until : Option ℕ) (at : ℕ) (sent other : List ℕ) (e : Entry) → IsBy until (message at sent) → IsEntry (message at other) → IsMark e → IsEntry e
+pub two_by : (until : Option ℕ) (at : ℕ) (sent other : List ℕ) (e : Entry)
+    → IsBy until (message at sent) → IsEntry (message at other) → IsMark e → IsEntry e
     → AreBy until (message at other ∷ e ∷ [])
 two_by until at sent other e by is mark e_is =
     All-cons (IsIn until) (message at other) (e ∷ []) (is, message_by until at sent other by) (all_one (IsIn until) e (e_is, mark_by until e mark))
 
-head_by : (until : Option ℕ) (digest : List ℕ) → IsEntry (room digest) → AreBy until (room digest ∷ [])
+head_by : (until : Option ℕ) (digest : List ℕ) → IsEntry (room digest)
+    → AreBy until (room digest ∷ [])
 head_by until digest is = all_one (IsIn until) (room digest) (is, mark_by until (room digest) tt)
 
 module _ (step : Step) (zone : Zone) (digest_of : DigestOf) where
   -- what holds before a look at the room
-  pub Leads-after : (early late : Type 0) (stood mid stands : List Terminal → Room → Type 0) (ts : List Turn) → (late → early) → Stays early stood mid
-      → Leads step zone digest_of late mid stands ts → Leads step zone digest_of late stood stands ts
+  pub Leads-after : (early late : Type 0) (stood mid stands : List Terminal → Room → Type 0)
+      (ts : List Turn) → (late → early) → Stays early stood mid
+      → Leads step zone digest_of late mid stands ts
+      → Leads step zone digest_of late stood stands ts
   Leads-after early late stood mid stands ts earlier stays leads trust terminals held stood_for = leads trust terminals held (stays (earlier trust) terminals held stood_for)
 
-  module _ (trusted : Type 0) (stood stands : List Terminal → Room → Type 0) (before after : Option (List ℕ)) (until : Option ℕ) where
-    pub passes_none : (Kind : Turn → Type 0) → Keeps before after → Stays trusted stood stands → Passes step zone digest_of trusted stood stands before after until Kind []
+  module _ (trusted : Type 0) (stood stands : List Terminal → Room → Type 0)
+      (before after : Option (List ℕ)) (until : Option ℕ) where
+    pub passes_none : (Kind : Turn → Type 0) → Keeps before after → Stays trusted stood stands
+        → Passes step zone digest_of trusted stood stands before after until Kind []
     passes_none Kind same stays = record {
       turns = All-nil IsTurn;
       kinds = All-nil Kind;
@@ -190,8 +210,10 @@ module _ (step : Step) (zone : Zone) (digest_of : DigestOf) where
       leads = λ trust terminals held stood_for. (held, refl, stays trust terminals held stood_for);
     }
 
-    pub passes_one : (Kind : Turn → Type 0) (t : Turn) (entries : List Entry) → IsTurn t → Kind t → entries_in t ≡ entries → AreBy until entries → Consumes before after (texts_of entries)
-        → Leads step zone digest_of trusted stood stands (t ∷ []) → (is_unanswered t ≡ true → BeginsWith after [] HasNoStatus)
+    pub passes_one : (Kind : Turn → Type 0) (t : Turn) (entries : List Entry) → IsTurn t → Kind t
+        → entries_in t ≡ entries → AreBy until entries → Consumes before after (texts_of entries)
+        → Leads step zone digest_of trusted stood stands (t ∷ [])
+        → (is_unanswered t ≡ true → BeginsWith after [] HasNoStatus)
         → Passes step zone digest_of trusted stood stands before after until Kind (t ∷ [])
     passes_one Kind t entries is kind same by read leads unanswered =
         let all : entries ≡ entries_of (t ∷ []) = sym same ∙ sym (append-nil (entries_in t)) in record {
@@ -204,14 +226,20 @@ module _ (step : Step) (zone : Zone) (digest_of : DigestOf) where
         }
 
 -- a head is next
-module _ (step : Step) (zone : Zone) (digest_of : DigestOf) (trusted : Type 0) (stood stands : List Terminal → Room → Type 0) (before after : Option (List ℕ)) (until : Option ℕ) (Kind : Turn → Type 0)
+module _ (step : Step) (zone : Zone) (digest_of : DigestOf) (trusted : Type 0)
+    (stood stands : List Terminal → Room → Type 0) (before after : Option (List ℕ))
+    (until : Option ℕ) (Kind : Turn → Type 0)
     (kind : (digest : List ℕ) → Kind (head digest)) (failed : Bool) (kept : List ℕ) (old new : Progress) (noted : new ≡ record old { is_open = false; is_begun = true }) (next : Next) (is : next ≡ Head) where
-  pub head_turn : NextIs digest_of trusted stood stands before after failed until old.is_begun kept (Ok next)
-      → (digest : List ℕ) × Passes step zone digest_of trusted stood stands before after until Kind (head digest ∷ []) × Progresses old new (head digest ∷ []) × (failed ≡ false)
+  pub head_turn : NextIs digest_of trusted stood stands before after failed until old.is_begun kept
+      (Ok next)
+      → (digest : List ℕ) × Passes step zone digest_of trusted stood stands before after until Kind
+      (head digest ∷ []) × Progresses old new (head digest ∷ []) × (failed ≡ false)
   head_turn found = go (subst (λ (n : Next). NextIs digest_of trusted stood stands before after failed until old.is_begun kept (Ok n)) is found)
     where
-      go : NextIs digest_of trusted stood stands before after failed until old.is_begun kept (Ok Head)
-          → (digest : List ℕ) × Passes step zone digest_of trusted stood stands before after until Kind (head digest ∷ []) × Progresses old new (head digest ∷ []) × (failed ≡ false)
+      go : NextIs digest_of trusted stood stands before after failed until old.is_begun kept
+          (Ok Head)
+          → (digest : List ℕ) × Passes step zone digest_of trusted stood stands before after until
+          Kind (head digest ∷ []) × Progresses old new (head digest ∷ []) × (failed ≡ false)
       go x = (
         x.0,
         passes_one step zone digest_of trusted stood stands before after until Kind (head x.0) (room x.0 ∷ []) tt (kind x.0) refl (head_by until x.0 x.1) x.2
@@ -221,10 +249,16 @@ module _ (step : Step) (zone : Zone) (digest_of : DigestOf) (trusted : Type 0) (
       )
 
 -- what stood next stopped it
-module _ (waits : Bool) (step : Step) (zone : Zone) (digest_of : DigestOf) (trusted : Type 0) (stood stands : List Terminal → Room → Type 0) (before : Option (List ℕ)) (until : Option ℕ) where
-  pub next_stops : (is_begun : Bool) (fault : ReplayFault) (read_failed write_failed : Bool) → Stays trusted stood stands
-      → BeginsWith before [] (Explains waits (is_begun ≡ false) ⊥ (IsElsewhere digest_of trusted stood stands) [] fault) → IsDueTo read_failed write_failed fault
-      → StopsIn step zone digest_of trusted stood stands waits before until is_begun fault read_failed write_failed []
+module _ (waits : Bool) (step : Step) (zone : Zone) (digest_of : DigestOf) (trusted : Type 0)
+    (stood stands : List Terminal → Room → Type 0) (before : Option (List ℕ))
+    (until : Option ℕ) where
+  pub next_stops : (is_begun : Bool) (fault : ReplayFault) (read_failed write_failed : Bool)
+      → Stays trusted stood stands
+      → BeginsWith before [] (Explains waits (is_begun ≡ false) ⊥
+      (IsElsewhere digest_of trusted stood stands) [] fault)
+      → IsDueTo read_failed write_failed fault
+      → StopsIn step zone digest_of trusted stood stands waits before until is_begun fault
+      read_failed write_failed []
   next_stops is_begun fault read_failed write_failed stays begins due = record {
     few = inl refl;
     begins = begins_explain before [] waits (is_begun ≡ false) ⊥ (is_begun ≡ false) ⊥ (IsElsewhere digest_of trusted stood stands) (LeadsElsewhere step zone digest_of trusted stood stands []) [] fault
@@ -234,19 +268,25 @@ module _ (waits : Bool) (step : Step) (zone : Zone) (digest_of : DigestOf) (trus
   }
 
 -- a message that is next stopped it
-module _ (waits : Bool) (step : Step) (zone : Zone) (digest_of : DigestOf) (early late : Type 0) (earlier : late → early) (stood mid stands : List Terminal → Room → Type 0)
+module _ (waits : Bool) (step : Step) (zone : Zone) (digest_of : DigestOf) (early late : Type 0)
+    (earlier : late → early) (stood mid stands : List Terminal → Room → Type 0)
     (a b : Option (List ℕ)) (until : Option ℕ) (at : ℕ) (sent : List ℕ) (stays : Stays early stood mid) (same : Keeps a b) (by : IsBy until (message at sent)) where
   few_turn : (is_begun : Bool) (last : List Turn) → is_begun ≡ true
-      → (last ≡ []) ⊎ ((p : Play) × IsPlay p × AreBy (Some at) (message p.at p.sent ∷ []) × (true ≡ true) × (last ≡ tried p ∷ []))
-      → (last ≡ []) ⊎ ((p : Play) × IsPlay p × AreBy until (message p.at p.sent ∷ []) × (is_begun ≡ true) × (last ≡ tried p ∷ []))
+      → (last ≡ []) ⊎ ((p : Play) × IsPlay p × AreBy (Some at) (message p.at p.sent ∷ [])
+      × (true ≡ true) × (last ≡ tried p ∷ []))
+      → (last ≡ []) ⊎ ((p : Play) × IsPlay p × AreBy until (message p.at p.sent ∷ [])
+      × (is_begun ≡ true) × (last ≡ tried p ∷ []))
   few_turn is_begun last begun (inl x) = inl x
   few_turn is_begun last begun (inr x) =
       let is = All-head (IsIn (Some at)) (message x.0.at x.0.sent) [] x.2 in
       inr (x.0, x.1, all_one (IsIn until) (message x.0.at x.0.sent) (is.0, earlier_by until at x.0.at sent x.0.sent by is.1), begun, x.4)
 
-  turn_stops : (is_begun : Bool) (fault : ReplayFault) (read_failed write_failed : Bool) (last : List Turn) → is_begun ≡ true
-      → StopsIn step zone digest_of late mid stands waits b (Some at) true fault read_failed write_failed last
-      → StopsIn step zone digest_of late stood stands waits a until is_begun fault read_failed write_failed last
+  turn_stops : (is_begun : Bool) (fault : ReplayFault) (read_failed write_failed : Bool)
+      (last : List Turn) → is_begun ≡ true
+      → StopsIn step zone digest_of late mid stands waits b
+      (Some at) true fault read_failed write_failed last
+      → StopsIn step zone digest_of late stood stands waits a until is_begun fault read_failed
+      write_failed last
   turn_stops is_begun fault read_failed write_failed last begun x = record {
     few = few_turn is_begun last begun x.few;
     begins = keeps_begins a b (entries_of last) (Explains waits (is_begun ≡ false) ⊥ (LeadsElsewhere step zone digest_of late stood stands last) last fault) same
@@ -269,39 +309,57 @@ goes_on LeftOut = true
 goes_on Last = false
 
 -- a message is next, and it stopped the replay, or this became of it
-module _ (step : Step) (zone : Zone) (digest_of : DigestOf) (early late : Type 0) (earlier : late → early) (stood mid stands : List Terminal → Room → Type 0)
+module _ (step : Step) (zone : Zone) (digest_of : DigestOf) (early late : Type 0)
+    (earlier : late → early) (stood mid stands : List Terminal → Room → Type 0)
     (a b : Option (List ℕ)) (until : Option ℕ) (kept : List ℕ) (looked : Bool) (at : ℕ) (layout : Layout) (next : Next) (is : next ≡ Message at layout) (old : Progress)
     (x : NextIs digest_of early stood mid a b looked until old.is_begun kept (Ok next)) where
-  front : NextIs digest_of early stood mid a b looked until old.is_begun kept (Ok (Message at layout))
+  front : NextIs digest_of early stood mid a b looked until old.is_begun kept
+      (Ok (Message at layout))
   front = subst (λ (n : Next). NextIs digest_of early stood mid a b looked until old.is_begun kept (Ok n)) is x
 
-  pub stops_message : (waits : Bool) (fault : ReplayFault) (read_failed write_failed : Bool) (last : List Turn)
-      → StopsIn step zone digest_of late mid stands waits b (Some at) true fault read_failed write_failed last
-      → StopsIn step zone digest_of late stood stands waits a until old.is_begun fault read_failed write_failed last
+  pub stops_message : (waits : Bool) (fault : ReplayFault) (read_failed write_failed : Bool)
+      (last : List Turn)
+      → StopsIn step zone digest_of late mid stands waits b
+      (Some at) true fault read_failed write_failed last
+      → StopsIn step zone digest_of late stood stands waits a until old.is_begun fault read_failed
+      write_failed last
   stops_message waits fault read_failed write_failed last y =
       turn_stops waits step zone digest_of early late earlier stood mid stands a b until at front.0 front.6 front.3 front.2 old.is_begun fault read_failed write_failed last front.4 y
 
   module _ (c : Option (List ℕ)) (failed : Bool) (new : Progress) where
-    one_passes : (sent : List ℕ) (taken : List Entry) (left : Bool) (t : TurnOf step zone digest_of late mid stands at sent taken left) → AreBy until (message at sent ∷ taken)
-        → Consumes b c (texts_of (message at sent ∷ taken)) → (is_unanswered t.turn ≡ true → BeginsWith c [] HasNoStatus)
+    one_passes : (sent : List ℕ) (taken : List Entry) (left : Bool)
+        (t : TurnOf step zone digest_of late mid stands at sent taken left)
+        → AreBy until (message at sent ∷ taken)
+        → Consumes b c (texts_of (message at sent ∷ taken))
+        → (is_unanswered t.turn ≡ true → BeginsWith c [] HasNoStatus)
         → Passes step zone digest_of late stood stands a c until IsReplayed (t.turn ∷ [])
     one_passes sent taken left t by took unanswered =
         passes_one step zone digest_of late stood stands a c until IsReplayed t.turn (message at sent ∷ taken) t.is t.replayed t.entries by
         (keeps_consumes a b c (texts_of (message at sent ∷ taken)) front.3 took)
         (Leads-after step zone digest_of early late stood mid stands (t.turn ∷ []) earlier front.6 t.leads) unanswered
 
-    left_passes : (sent : List ℕ) (t : TurnOf step zone digest_of late mid stands at sent [] true) → IsEntry (message at sent) → Consumes b c (texts_of (message at sent ∷ []))
-        → BeginsWith c [] HasNoStatus → Passes step zone digest_of late stood stands a c until IsReplayed (t.turn ∷ [])
+    left_passes : (sent : List ℕ) (t : TurnOf step zone digest_of late mid stands at sent [] true)
+        → IsEntry (message at sent) → Consumes b c (texts_of (message at sent ∷ []))
+        → BeginsWith c [] HasNoStatus → Passes step zone digest_of late stood stands a c until
+        IsReplayed (t.turn ∷ [])
     left_passes sent t entry took none = one_passes sent [] true t (one_by until at front.0 sent front.2 entry) took (λ _. none)
 
-    pub takes_message : (turned : Turned) (r : Turned) → r ≡ turned → MessageIs step zone digest_of late mid stands b c failed at (Ok r)
+    pub takes_message : (turned : Turned) (r : Turned) → r ≡ turned
+        → MessageIs step zone digest_of late mid stands b c failed at (Ok r)
         → new ≡ record old { records = min (old.records + 1) (2 ^ 64 - 1); is_open = leaves turned }
-        → TakesTurn step zone digest_of late stood stands a c until IsReplayed old new failed (Ok (goes_on turned))
+        → TakesTurn step zone digest_of late stood stands a c until IsReplayed old new failed
+        (Ok (goes_on turned))
     takes_message turned r same y noted = go turned (subst (λ (t : Turned). MessageIs step zone digest_of late mid stands b c failed at (Ok t)) same y) noted
       where
-        go : (turned : Turned) → MessageIs step zone digest_of late mid stands b c failed at (Ok turned)
-            → new ≡ record old { records = min (old.records + 1) (2 ^ 64 - 1); is_open = leaves turned }
-            → TakesTurn step zone digest_of late stood stands a c until IsReplayed old new failed (Ok (goes_on turned))
+        go : (turned : Turned) → MessageIs step zone digest_of late mid stands b c failed at
+            (Ok turned)
+            → new ≡ record old {
+              records = min (old.records + 1)
+                  (2 ^ 64 - 1);
+              is_open = leaves turned;
+            }
+            → TakesTurn step zone digest_of late stood stands a c until IsReplayed old new failed
+            (Ok (goes_on turned))
         go Played y noted = (
           y.3.turn ∷ [],
           one_passes y.0 (y.1 ∷ []) false y.3 (two_by until at front.0 y.0 y.1 front.2 y.4 y.2 y.5) y.6 (λ ends. absurd (replayed_answered y.3.turn y.3.replayed y.3.leaves ends)),
@@ -326,13 +384,17 @@ module _ (step : Step) (zone : Zone) (digest_of : DigestOf) (early late : Type 0
             )
 
 module _ (step : Step) (zone : Zone) (digest_of : DigestOf) (terminals : List Terminal) where
-  IsReplay-append : (held mid after : Room) (us ts : List Turn) → IsReplay step zone digest_of terminals held us mid → IsReplay step zone digest_of terminals mid ts after
+  IsReplay-append : (held mid after : Room) (us ts : List Turn)
+      → IsReplay step zone digest_of terminals held us mid
+      → IsReplay step zone digest_of terminals mid ts after
       → IsReplay step zone digest_of terminals held (us ++ ts) after
   IsReplay-append held mid after [] ts first second = subst (λ (r : Room). IsReplay step zone digest_of terminals r ts after) first second
   IsReplay-append held mid after (u ∷ us) ts first second = (first.0, first.1, IsReplay-append first.0 mid after us ts first.2 second)
 
   -- what is played is a talk
-  pub talk_of : (held : Room) (ts : List Turn) (after : Room) → IsReplay step zone digest_of terminals held ts after → IsTalk step zone terminals held (arrivals_of ts) after (bytes_of ts)
+  pub talk_of : (held : Room) (ts : List Turn) (after : Room)
+      → IsReplay step zone digest_of terminals held ts after
+      → IsTalk step zone terminals held (arrivals_of ts) after (bytes_of ts)
   talk_of held [] after x = (x, refl)
   talk_of held (head digest ∷ ts) after x =
       subst (λ (r : Room). IsTalk step zone terminals r (arrivals_of ts) after (bytes_of ts)) x.1.0 (talk_of x.0 ts after x.2)
@@ -342,30 +404,40 @@ module _ (step : Step) (zone : Zone) (digest_of : DigestOf) (terminals : List Te
   talk_of held (left_out at sent ∷ ts) after x =
       subst (λ (r : Room). IsTalk step zone terminals r (arrivals_of ts) after (bytes_of ts)) x.1 (talk_of x.0 ts after x.2)
 
-module _ (step : Step) (zone : Zone) (digest_of : DigestOf) (early late : Type 0) (earlier : late → early) (stood mid stands : List Terminal → Room → Type 0) (us ts : List Turn) where
-  pub Leads-append : Leads step zone digest_of early stood mid us → Leads step zone digest_of late mid stands ts → Leads step zone digest_of late stood stands (us ++ ts)
+module _ (step : Step) (zone : Zone) (digest_of : DigestOf) (early late : Type 0)
+    (earlier : late → early) (stood mid stands : List Terminal → Room → Type 0)
+    (us ts : List Turn) where
+  pub Leads-append : Leads step zone digest_of early stood mid us
+      → Leads step zone digest_of late mid stands ts
+      → Leads step zone digest_of late stood stands (us ++ ts)
   Leads-append first second trust terminals held stood_for =
       let x = first (earlier trust) terminals held stood_for in
       let y = second trust terminals x.0 x.2 in
       (y.0, IsReplay-append step zone digest_of terminals held x.0 y.0 us ts x.1 y.1, y.2)
 
-  Elsewhere-append : (digest : List ℕ) → Leads step zone digest_of early stood mid us → LeadsElsewhere step zone digest_of late mid stands ts digest
+  Elsewhere-append : (digest : List ℕ) → Leads step zone digest_of early stood mid us
+      → LeadsElsewhere step zone digest_of late mid stands ts digest
       → LeadsElsewhere step zone digest_of late stood stands (us ++ ts) digest
   Elsewhere-append digest first second trust terminals held stood_for =
       let x = first (earlier trust) terminals held stood_for in
       let y = second trust terminals x.0 x.2 in
       (y.0, IsReplay-append step zone digest_of terminals held x.0 y.0 us ts x.1 y.1, y.2, y.3)
 
-  pub Talks-append : Leads step zone digest_of early stood mid us → Leads step zone digest_of late mid stands ts → LeadsTalking step zone digest_of late stood stands (us ++ ts)
+  pub Talks-append : Leads step zone digest_of early stood mid us
+      → Leads step zone digest_of late mid stands ts
+      → LeadsTalking step zone digest_of late stood stands (us ++ ts)
   Talks-append first second trust terminals held stood_for =
       let x = Leads-append first second trust terminals held stood_for in
       (x.0, x.1, talk_of step zone digest_of terminals held (us ++ ts) x.0 x.1, x.2)
 
-  module _ (a b : Option (List ℕ)) (until : Option ℕ) (Kind : Turn → Type 0) (first : Passes step zone digest_of early stood mid a b until Kind us) where
+  module _ (a b : Option (List ℕ)) (until : Option ℕ) (Kind : Turn → Type 0)
+      (first : Passes step zone digest_of early stood mid a b until Kind us) where
     entries_append : entries_of us ++ entries_of ts ≡ entries_of (us ++ ts)
     entries_append = sym (flat_map-append entries_in us ts)
 
-    pub passes_more : (c : Option (List ℕ)) → length ts ≡ 1 → Passes step zone digest_of late mid stands b c until Kind ts → Passes step zone digest_of late stood stands a c until Kind (us ++ ts)
+    pub passes_more : (c : Option (List ℕ)) → length ts ≡ 1
+        → Passes step zone digest_of late mid stands b c until Kind ts
+        → Passes step zone digest_of late stood stands a c until Kind (us ++ ts)
     passes_more c one second = record {
       turns = All-append IsTurn us ts first.turns second.turns;
       kinds = All-append Kind us ts first.kinds second.kinds;
@@ -380,7 +452,8 @@ module _ (step : Step) (zone : Zone) (digest_of : DigestOf) (early late : Type 0
     starts_begun true l x = inr x
     starts_begun false l x = inl x
 
-    pub are_turns : (follows : List ℕ → Type 0) → All IsTurn ts → AreBy until (entries_of ts) → BeginsWith b (entries_of ts) follows → (us ++ ts ≡ []) ⊎ IsBegun (us ++ ts)
+    pub are_turns : (follows : List ℕ → Type 0) → All IsTurn ts → AreBy until (entries_of ts)
+        → BeginsWith b (entries_of ts) follows → (us ++ ts ≡ []) ⊎ IsBegun (us ++ ts)
         → AreTurns a until (us ++ ts) follows
     are_turns follows turns entries begins begun = record {
       turns = All-append IsTurn us ts first.turns turns;
@@ -390,8 +463,11 @@ module _ (step : Step) (zone : Zone) (digest_of : DigestOf) (early late : Type 0
     }
 
     -- the turns of a replay that has ended
-    pub ended : (c : Option (List ℕ)) (new : Progress) → Passes step zone digest_of late mid stands b c until Kind ts → BeginsWith b (entries_of ts) (EndsAt until) → IsProgress new (us ++ ts)
-        → All Kind (us ++ ts) × AreTurns a until (us ++ ts) (EndsAt until) × LeadsTalking step zone digest_of late stood stands (us ++ ts)
+    pub ended : (c : Option (List ℕ)) (new : Progress)
+        → Passes step zone digest_of late mid stands b c until Kind ts
+        → BeginsWith b (entries_of ts) (EndsAt until) → IsProgress new (us ++ ts)
+        → All Kind (us ++ ts) × AreTurns a until (us ++ ts) (EndsAt until)
+        × LeadsTalking step zone digest_of late stood stands (us ++ ts)
     ended c new second begins progress = (
       All-append Kind us ts first.kinds second.kinds,
       are_turns (EndsAt until) second.turns second.entries begins (starts_begun new.is_begun (us ++ ts) progress.begun),
@@ -399,15 +475,20 @@ module _ (step : Step) (zone : Zone) (digest_of : DigestOf) (early late : Type 0
     )
 
     -- the turns of a replay that has stopped
-    module _ (waits : Bool) (old : Progress) (progress : IsProgress old us) (fault : ReplayFault) (read_failed write_failed : Bool) (s : Stopped)
+    module _ (waits : Bool) (old : Progress) (progress : IsProgress old us) (fault : ReplayFault)
+        (read_failed write_failed : Bool) (s : Stopped)
         (is : s ≡ record { fault = fault; number = min (old.records + 1) (2 ^ 64 - 1) }) where
       number : min (old.records + 1) (2 ^ 64 - 1) ≡ min (count_by has_message us + 1) (2 ^ 64 - 1)
       number = omega (arith, progress.records)
 
-      stops_after : (ts ≡ []) ⊎ ((p : Play) × (ts ≡ tried p ∷ [])) → All IsTurn ts → AreBy until (entries_of ts)
-          → BeginsWith b (entries_of ts) (Explains waits (us ≡ []) (length us ≡ 2 ^ 64 - 1) (LeadsElsewhere step zone digest_of late stood stands (us ++ ts)) ts fault)
-          → (us ++ ts ≡ []) ⊎ IsBegun (us ++ ts) → Leads step zone digest_of late mid stands ts → IsDueTo read_failed write_failed fault
-          → StopsAfter step zone digest_of late stood stands a until waits Kind read_failed write_failed s us ts
+      stops_after : (ts ≡ []) ⊎ ((p : Play) × (ts ≡ tried p ∷ [])) → All IsTurn ts
+          → AreBy until (entries_of ts)
+          → BeginsWith b (entries_of ts) (Explains waits (us ≡ []) (length us ≡ 2 ^ 64 - 1)
+          (LeadsElsewhere step zone digest_of late stood stands (us ++ ts)) ts fault)
+          → (us ++ ts ≡ []) ⊎ IsBegun (us ++ ts) → Leads step zone digest_of late mid stands ts
+          → IsDueTo read_failed write_failed fault
+          → StopsAfter step zone digest_of late stood stands a until waits Kind read_failed
+          write_failed s us ts
       stops_after few turns entries begins begun leads due =
           subst (λ (t : Stopped). StopsAfter step zone digest_of late stood stands a until waits Kind read_failed write_failed t us ts) (sym is) (record {
             kinds = first.kinds;
@@ -420,17 +501,23 @@ module _ (step : Step) (zone : Zone) (digest_of : DigestOf) (early late : Type 0
             number = number;
           })
 
-      pub stopped : StopsIn step zone digest_of late mid stands waits b until old.is_begun fault read_failed write_failed ts
-          → StopsAfter step zone digest_of late stood stands a until waits Kind read_failed write_failed s us ts
+      pub stopped : StopsIn step zone digest_of late mid stands waits b until old.is_begun fault
+          read_failed write_failed ts
+          → StopsAfter step zone digest_of late stood stands a until waits Kind read_failed
+          write_failed s us ts
       stopped x = go x.few
         where
-          begins : BeginsWith b (entries_of ts) (Explains waits (us ≡ []) (length us ≡ 2 ^ 64 - 1) (LeadsElsewhere step zone digest_of late stood stands (us ++ ts)) ts fault)
+          begins : BeginsWith b (entries_of ts)
+              (Explains waits (us ≡ []) (length us ≡ 2 ^ 64 - 1)
+              (LeadsElsewhere step zone digest_of late stood stands (us ++ ts)) ts fault)
           begins = begins_explain b (entries_of ts) waits (old.is_begun ≡ false) ⊥ (us ≡ []) (length us ≡ 2 ^ 64 - 1) (LeadsElsewhere step zone digest_of late mid stands ts)
               (LeadsElsewhere step zone digest_of late stood stands (us ++ ts)) ts fault
               (λ none. unbegun old.is_begun us none progress.begun) (λ never. absurd never) (λ digest y. Elsewhere-append digest first.leads y) x.begins
 
-          go : (ts ≡ []) ⊎ ((p : Play) × IsPlay p × AreBy until (message p.at p.sent ∷ []) × (old.is_begun ≡ true) × (ts ≡ tried p ∷ []))
-              → StopsAfter step zone digest_of late stood stands a until waits Kind read_failed write_failed s us ts
+          go : (ts ≡ []) ⊎ ((p : Play) × IsPlay p × AreBy until (message p.at p.sent ∷ [])
+              × (old.is_begun ≡ true) × (ts ≡ tried p ∷ []))
+              → StopsAfter step zone digest_of late stood stands a until waits Kind read_failed
+              write_failed s us ts
           go (inl none) =
               stops_after (inl none) (subst (λ (l : List Turn). All IsTurn l) (sym none) (All-nil IsTurn)) (subst (λ (l : List Turn). AreBy until (entries_of l)) (sym none) (All-nil (IsIn until)))
               begins (subst (λ (l : List Turn). (us ++ l ≡ []) ⊎ IsBegun (us ++ l)) (sym none) (none_begun old.is_begun us progress.begun)) x.leads x.due
@@ -439,20 +526,27 @@ module _ (step : Step) (zone : Zone) (digest_of : DigestOf) (early late : Type 0
               begins (inr (begun-append us ts (begun_by old.is_begun us y.3 progress.begun))) x.leads x.due
 
 -- no more turns are taken
-module _ (step : Step) (zone : Zone) (digest_of : DigestOf) (trusted : Type 0) (stood stands : List Terminal → Room → Type 0) (a b : Option (List ℕ)) (until : Option ℕ)
+module _ (step : Step) (zone : Zone) (digest_of : DigestOf) (trusted : Type 0)
+    (stood stands : List Terminal → Room → Type 0) (a b : Option (List ℕ)) (until : Option ℕ)
     (Kind : Turn → Type 0) (us : List Turn) where
-  pub exhausted : (waits : Bool) (old : Progress) (read_failed write_failed : Bool) (s : Stopped) → Passes step zone digest_of trusted stood stands a b until Kind us → IsProgress old us
-      → s ≡ record { fault = Bad; number = min (old.records + 1) (2 ^ 64 - 1) } → length us ≡ 2 ^ 64 - 1 → read_failed ≡ false → write_failed ≡ false
-      → StopsAfter step zone digest_of trusted stood stands a until waits Kind read_failed write_failed s us []
+  pub exhausted : (waits : Bool) (old : Progress) (read_failed write_failed : Bool) (s : Stopped)
+      → Passes step zone digest_of trusted stood stands a b until Kind us → IsProgress old us
+      → s ≡ record { fault = Bad; number = min (old.records + 1) (2 ^ 64 - 1) }
+      → length us ≡ 2 ^ 64 - 1 → read_failed ≡ false → write_failed ≡ false
+      → StopsAfter step zone digest_of trusted stood stands a until waits Kind read_failed
+      write_failed s us []
   exhausted waits old read_failed write_failed s first progress is full read write =
       stops_after step zone digest_of trusted trusted (λ trust. trust) stood stands stands us [] a b until Kind first waits old progress Bad read_failed write_failed s is
       (inl refl) (All-nil IsTurn) (All-nil (IsIn until)) (λ text known. (text, refl, too_many full)) (none_begun old.is_begun us progress.begun)
       (λ trust terminals held stood_for. (held, refl, stood_for)) (read, write)
 
 -- nothing was done
-pub nothing_done : (waits : Bool) (step : Step) (zone : Zone) (digest_of : DigestOf) (trusted : Type 0) (stands : List Terminal → Room → Type 0) (left : Option (List ℕ)) (until : Option ℕ)
+pub nothing_done : (waits : Bool) (step : Step) (zone : Zone) (digest_of : DigestOf)
+    (trusted : Type 0) (stands : List Terminal → Room → Type 0) (left : Option (List ℕ))
+    (until : Option ℕ)
     (Kind : Turn → Type 0) (read_failed write_failed : Bool) (s : Stopped) → s ≡ record { fault = Want Memory; number = 1 } → read_failed ≡ false → write_failed ≡ false
-    → StopsAfter step zone digest_of trusted stands stands left until waits Kind read_failed write_failed s [] []
+    → StopsAfter step zone digest_of trusted stands stands left until waits Kind read_failed
+    write_failed s [] []
 nothing_done waits step zone digest_of trusted stands left until Kind read_failed write_failed s is read write =
     subst (λ (t : Stopped). StopsAfter step zone digest_of trusted stands stands left until waits Kind read_failed write_failed t [] []) (sym is) (record {
       kinds = All-nil Kind;

@@ -29,16 +29,20 @@ IsNoMessage sent = (m : WholeMessage) → ¬ (HasMessage sent m [])
 abbrev pub IsWanting : ReplayFault → Type 0
 IsWanting fault = (r : Refusal) × (fault ≡ Want r) × IsWant r
 
--- Why what stands after the turns is bad. It is no journal; or it is a status that no message stands
--- before; or a message that no head stands before, where nothing came before it (`none`); or a
--- message that is none. Or no more turns are taken (`full`). Where a message waits for what stands
--- after it (`waits`), it is not played where that is no journal.
+-- Why what stands after the turns is bad. It is no journal; or it is a status that no message
+-- stands before; or a message that no head stands before, where nothing came before it (`none`); or
+-- a message that is none. Or no more turns are taken (`full`). Where a message waits for what
+-- stands after it (`waits`), it is not played where that is no journal.
 pub data IsBad (waits : Bool) (none full : Type 0) (last : List Turn) (rest : List ℕ) : Type 0 where
   broken : (waits ≡ true → last ≡ []) → IsBroken rest → IsBad waits none full last rest
-  broken_after : (at : ℕ) (sent more : List ℕ) → waits ≡ true → last ≡ [] → Begins rest (message at sent) more → IsBroken more → IsBad waits none full last rest
-  unasked : (status : ℕ) (more : List ℕ) → last ≡ [] → Begins rest (answer status) more → IsBad waits none full last rest
-  headless : (at : ℕ) (sent more : List ℕ) → last ≡ [] → Begins rest (message at sent) more → none → IsBad waits none full last rest
-  no_message : (at : ℕ) (sent more : List ℕ) → last ≡ [] → Begins rest (message at sent) more → IsNoMessage sent → IsBad waits none full last rest
+  broken_after : (at : ℕ) (sent more : List ℕ) → waits ≡ true → last ≡ []
+      → Begins rest (message at sent) more → IsBroken more → IsBad waits none full last rest
+  unasked : (status : ℕ) (more : List ℕ) → last ≡ [] → Begins rest (answer status) more
+      → IsBad waits none full last rest
+  headless : (at : ℕ) (sent more : List ℕ) → last ≡ [] → Begins rest (message at sent) more → none
+      → IsBad waits none full last rest
+  no_message : (at : ℕ) (sent more : List ℕ) → last ≡ [] → Begins rest (message at sent) more
+      → IsNoMessage sent → IsBad waits none full last rest
   too_many : full → IsBad waits none full last rest
 
 -- What stands after the turns, by the fault that is told: a status that is not that of the message
@@ -47,8 +51,10 @@ module _ (waits : Bool) (none full : Type 0) (Elsewhere : List ℕ → Type 0) (
   abbrev pub Explains : ReplayFault → List ℕ → Type 0
   Explains Bad rest = IsBad waits none full last rest
   Explains Differs rest =
-      (p : Play) × (status : ℕ) × (more : List ℕ) × (last ≡ tried p ∷ []) × Begins rest (answer status) more × (¬ (status_in p.told ≡ decimal status))
-  Explains Another rest = (digest : List ℕ) × (more : List ℕ) × Begins rest (room digest) more × Elsewhere digest
+      (p : Play) × (status : ℕ) × (more : List ℕ) × (last ≡ tried p ∷ [])
+      × Begins rest (answer status) more × (¬ (status_in p.told ≡ decimal status))
+  Explains Another rest =
+      (digest : List ℕ) × (more : List ℕ) × Begins rest (room digest) more × Elsewhere digest
   Explains ReadFailed rest = ⊤
   Explains WriteFailed rest = ⊤
   Explains (Want r) rest = ⊤

@@ -29,42 +29,60 @@ frame_of told = frame_line told ++ (told ++ 10 ∷ [])
 abbrev pub frames_of : List Turn → List ℕ
 frames_of ts = flat_map (λ p. frame_of p.told) (plays_of ts)
 
--- a status that follows an answer is the answer's, and was taken; or something else follows; or why it stopped
-abbrev pub FollowIs : Option (List ℕ) → Option (List ℕ) → Bool → List ℕ → Result Bool ReplayFault → Type 0
+-- a status that follows an answer is the answer's, and was taken; or something else follows; or why
+-- it stopped
+abbrev pub FollowIs : Option (List ℕ) → Option (List ℕ) → Bool → List ℕ → Result Bool ReplayFault
+    → Type 0
 FollowIs before after failed told (Ok true) =
-    (status : ℕ) × (status_in told ≡ decimal status) × IsEntry (answer status) × Consumes before after (texts_of (answer status ∷ [])) × (failed ≡ false)
-FollowIs before after failed told (Ok false) = Keeps before after × (failed ≡ false) × BeginsWith after [] HasNoStatus
+    (status : ℕ) × (status_in told ≡ decimal status) × IsEntry (answer status)
+    × Consumes before after (texts_of (answer status ∷ [])) × (failed ≡ false)
+FollowIs before after failed told (Ok false) =
+    Keeps before after × (failed ≡ false) × BeginsWith after [] HasNoStatus
 FollowIs before after failed told (Err fault) =
-    ((p : Play) → p.told ≡ told → BeginsWith before [] (Explains false ⊥ ⊥ (λ digest. ⊥) (tried p ∷ []) fault)) × IsDueTo failed false fault
+    ((p : Play) → p.told ≡ told → BeginsWith before []
+    (Explains false ⊥ ⊥ (λ digest. ⊥) (tried p ∷ []) fault)) × IsDueTo failed false fault
 
-module _ (step : Step) (zone : Zone) (digest_of : DigestOf) (trusted : Type 0) (stood stands : List Terminal → Room → Type 0)
+module _ (step : Step) (zone : Zone) (digest_of : DigestOf) (trusted : Type 0)
+    (stood stands : List Terminal → Room → Type 0)
     (before after : Option (List ℕ)) (held holds : Option (List ℕ)) where
-  -- the message was played, and its answer was written; or why it stopped, and the first bytes of the answer
+  -- the message was played, and its answer was written; or why it stopped, and the first bytes of
+  -- the answer
   abbrev pub EachIs : ℕ → Bool → Bool → Result (Unit {0}) ReplayFault → Type 0
   EachIs at read_failed write_failed (Ok done) =
-      (t : Turn) × Passes step zone digest_of trusted stood stands before after None IsPlayed (t ∷ []) × (has_message t ≡ true) × (is_left_out t ≡ false)
+      (t : Turn) × Passes step zone digest_of trusted stood stands before after None IsPlayed
+      (t ∷ []) × (has_message t ≡ true) × (is_left_out t ≡ false)
       × (read_failed ≡ false) × (write_failed ≡ false) × Appends held holds (frames_of (t ∷ []))
   EachIs at read_failed write_failed (Err fault) =
-      (last : List Turn) × StopsIn step zone digest_of trusted stood stands false before (Some at) true fault read_failed write_failed last
+      (last : List Turn) × StopsIn step zone digest_of trusted stood stands false before
+      (Some at) true fault read_failed write_failed last
       × (front : List ℕ) × IsFront front (frames_of last) × Appends held holds front
 
-  -- What one call does that takes a turn: whether it goes on, or the end was found; or why it stopped.
+  -- What one call does that takes a turn: whether it goes on, or the end was found; or why it
+  -- stopped.
   abbrev pub AnswersTurn : Progress → Progress → Bool → Bool → Result Bool ReplayFault → Type 0
   AnswersTurn old new read_failed write_failed (Ok goes_on) =
-      (ts : List Turn) × Passes step zone digest_of trusted stood stands before after None IsPlayed ts × Progresses old new ts
-      × (goes_on ≡ true → (read_failed ≡ false) × (write_failed ≡ false) × (length ts ≡ 1)) × (goes_on ≡ false → BeginsWith before (entries_of ts) (EndsAt None))
+      (ts : List Turn) × Passes step zone digest_of trusted stood stands before after None IsPlayed
+      ts × Progresses old new ts
+      × (goes_on ≡ true → (read_failed ≡ false) × (write_failed ≡ false) × (length ts ≡ 1))
+      × (goes_on ≡ false → BeginsWith before (entries_of ts) (EndsAt None))
       × Appends held holds (frames_of ts)
   AnswersTurn old new read_failed write_failed (Err fault) =
-      (last : List Turn) × StopsIn step zone digest_of trusted stood stands false before None old.is_begun fault read_failed write_failed last × (new ≡ old)
+      (last : List Turn) × StopsIn step zone digest_of trusted stood stands false before None
+      old.is_begun fault read_failed write_failed last × (new ≡ old)
       × (front : List ℕ) × IsFront front (frames_of last) × Appends held holds front
 
 -- All messages of a list were played, and their answers written; or it stopped, and those of some
--- turns were, and the first bytes of the answer to the last. No message waits for what stands after it.
-module _ (step : Step) (zone : Zone) (digest_of : DigestOf) (trusted : Type 0) (stood stands : List Terminal → Room → Type 0) (left held holds : Option (List ℕ)) where
+-- turns were, and the first bytes of the answer to the last. No message waits for what stands after
+-- it.
+module _ (step : Step) (zone : Zone) (digest_of : DigestOf) (trusted : Type 0)
+    (stood stands : List Terminal → Room → Type 0) (left held holds : Option (List ℕ)) where
   abbrev pub AnswersEach : Bool → Bool → Result ℕ Stopped → Type 0
   AnswersEach read_failed write_failed (Ok records) =
-      (ts : List Turn) × All IsPlayed ts × AreTurns left None ts (EndsAt None) × LeadsTalking step zone digest_of trusted stood stands ts
+      (ts : List Turn) × All IsPlayed ts × AreTurns left None ts (EndsAt None)
+      × LeadsTalking step zone digest_of trusted stood stands ts
       × (records ≡ min (count_by has_message ts) (2 ^ 64 - 1)) × Appends held holds (frames_of ts)
   AnswersEach read_failed write_failed (Err stopped) =
-      (ts last : List Turn) × StopsAfter step zone digest_of trusted stood stands left None false IsPlayed read_failed write_failed stopped ts last
-      × ((front : List ℕ) × IsFront front (frames_of last) × Appends held holds (frames_of ts ++ front))
+      (ts last : List Turn) × StopsAfter step zone digest_of trusted stood stands left None false
+      IsPlayed read_failed write_failed stopped ts last
+      × ((front : List ℕ) × IsFront front (frames_of last)
+      × Appends held holds (frames_of ts ++ front))

@@ -31,7 +31,8 @@ module _ (step : Step) (zone : Zone) (digest_of : DigestOf) (terminals : List Te
   abbrev pub Does : Room → Turn → Room → Type 0
   Does room (head digest) after = (after ≡ room) × (digest_of terminals room ≡ digest)
   Does room (answered p status) after = Answers room p after
-  Does room (caught_up p digest) after = (¬ (digest_of terminals room ≡ digest)) × Answers room p after × (digest_of terminals after ≡ digest)
+  Does room (caught_up p digest) after = (¬ (digest_of terminals room ≡ digest))
+      × Answers room p after × (digest_of terminals after ≡ digest)
   Does room (tried p) after = Answers room p after
   Does room (left_out at sent) after = after ≡ room
 
@@ -42,32 +43,41 @@ module _ (step : Step) (zone : Zone) (digest_of : DigestOf) (terminals : List Te
 
 -- Where the room is kept by what gives back what was written: the turns lead from the room that it
 -- stood for to the one that it stands for now.
-abbrev pub Leads : Step → Zone → DigestOf → Type 0 → (List Terminal → Room → Type 0) → (List Terminal → Room → Type 0) → List Turn → Type 0
+abbrev pub Leads : Step → Zone → DigestOf → Type 0 → (List Terminal → Room → Type 0)
+    → (List Terminal → Room → Type 0) → List Turn → Type 0
 Leads step zone digest_of trusted stood stands ts =
     trusted → (terminals : List Terminal) (room : Room) → stood terminals room
     → (after : Room) × IsReplay step zone digest_of terminals room ts after × stands terminals after
 
 -- the same, to a room that has another digest than this
-abbrev pub LeadsElsewhere : Step → Zone → DigestOf → Type 0 → (List Terminal → Room → Type 0) → (List Terminal → Room → Type 0) → List Turn → List ℕ → Type 0
+abbrev pub LeadsElsewhere : Step → Zone → DigestOf → Type 0 → (List Terminal → Room → Type 0)
+    → (List Terminal → Room → Type 0) → List Turn → List ℕ → Type 0
 LeadsElsewhere step zone digest_of trusted stood stands ts digest =
     trusted → (terminals : List Terminal) (room : Room) → stood terminals room
-    → (after : Room) × IsReplay step zone digest_of terminals room ts after × (¬ (digest_of terminals after ≡ digest)) × stands terminals after
+    → (after : Room) × IsReplay step zone digest_of terminals room ts after
+    × (¬ (digest_of terminals after ≡ digest)) × stands terminals after
 
 -- as `Leads`, and what is played is a talk
-abbrev pub LeadsTalking : Step → Zone → DigestOf → Type 0 → (List Terminal → Room → Type 0) → (List Terminal → Room → Type 0) → List Turn → Type 0
+abbrev pub LeadsTalking : Step → Zone → DigestOf → Type 0 → (List Terminal → Room → Type 0)
+    → (List Terminal → Room → Type 0) → List Turn → Type 0
 LeadsTalking step zone digest_of trusted stood stands ts =
     trusted → (terminals : List Terminal) (room : Room) → stood terminals room
-    → (after : Room) × IsReplay step zone digest_of terminals room ts after × IsTalk step zone terminals room (arrivals_of ts) after (bytes_of ts) × stands terminals after
+    → (after : Room) × IsReplay step zone digest_of terminals room ts after
+    × IsTalk step zone terminals room (arrivals_of ts) after (bytes_of ts) × stands terminals after
 
-module _ (step : Step) (zone : Zone) (digest_of : DigestOf) (trusted : Type 0) (stood stands : List Terminal → Room → Type 0) (left : Option (List ℕ)) (until : Option ℕ) where
+module _ (step : Step) (zone : Zone) (digest_of : DigestOf) (trusted : Type 0)
+    (stood stands : List Terminal → Room → Type 0) (left : Option (List ℕ)) (until : Option ℕ) where
   -- Why it stopped, after turns of this kind that were done with. One more message may have been
   -- played and not compared (`last`). No status stands after a message that was done with without
   -- one. The number is that of the message after those that were done with.
-  pub record StopsAfter (waits : Bool) (Kind : Turn → Type 0) (read_failed write_failed : Bool) (stopped : Stopped) (ts last : List Turn) : Type 0 where
+  pub record StopsAfter (waits : Bool) (Kind : Turn → Type 0) (read_failed write_failed : Bool)
+      (stopped : Stopped) (ts last : List Turn) : Type 0 where
     pub kinds : All Kind ts
     pub few : (last ≡ []) ⊎ ((p : Play) × (last ≡ tried p ∷ []))
     pub turns : AreTurns left until (ts ++ last)
-        (Explains waits (ts ≡ []) (length ts ≡ 2 ^ 64 - 1) (LeadsElsewhere step zone digest_of trusted stood stands (ts ++ last)) last stopped.fault)
+        (Explains waits (ts ≡ []) (length ts ≡ 2 ^ 64 - 1)
+        (LeadsElsewhere step zone digest_of trusted stood stands (ts ++ last)) last
+        stopped.fault)
     pub unanswered : ends_unanswered ts ≡ true → BeginsWith left (entries_of ts) HasNoStatus
     pub leads : LeadsTalking step zone digest_of trusted stood stands (ts ++ last)
     pub due : IsDueTo read_failed write_failed stopped.fault
@@ -80,7 +90,8 @@ module _ (step : Step) (zone : Zone) (digest_of : DigestOf) (trusted : Type 0) (
       (ts : List Turn) × All IsReplayed ts × AreTurns left until ts (EndsAt until)
       × LeadsTalking step zone digest_of trusted stood stands ts
       × (done.records ≡ min (count_by has_message ts) (2 ^ 64 - 1)) × (done.is_open ≡ ends_open ts)
-  Replays read_failed (Err stopped) = (ts last : List Turn) × StopsAfter true IsReplayed read_failed false stopped ts last
+  Replays read_failed (Err stopped) =
+      (ts last : List Turn) × StopsAfter true IsReplayed read_failed false stopped ts last
 
 -- unless memory or storage was wanting
 abbrev pub Unless : ReplayFault → Type 0 → Type 0

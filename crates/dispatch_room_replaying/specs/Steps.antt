@@ -23,16 +23,21 @@ use Rattle.dispatch_room_replaying.specs.Faults.{IsWanting, Refuses, Explains, I
 use Rattle.dispatch_room_replaying.specs.Replays.{DigestOf, Leads, LeadsElsewhere}
 
 -- what it stands for is what it stood for
-abbrev pub Stays : Type 0 → (List Terminal → Room → Type 0) → (List Terminal → Room → Type 0) → Type 0
-Stays trusted stood stands = trusted → (terminals : List Terminal) (room : Room) → stood terminals room → stands terminals room
+abbrev pub Stays : Type 0 → (List Terminal → Room → Type 0) → (List Terminal → Room → Type 0)
+    → Type 0
+Stays trusted stood stands = trusted → (terminals : List Terminal) (room : Room)
+    → stood terminals room → stands terminals room
 
 -- The bytes are one message, and the room answered it; or nothing was done, and why.
-abbrev pub Plays : {A : Type 0} → Step → Zone → Type 0 → (List Terminal → Room → Type 0) → (List Terminal → Room → Type 0) → ℕ → List ℕ → Result (Vec ℕ A) ReplayFault → Type 0
+abbrev pub Plays : {A : Type 0} → Step → Zone → Type 0 → (List Terminal → Room → Type 0)
+    → (List Terminal → Room → Type 0) → ℕ → List ℕ → Result (Vec ℕ A) ReplayFault → Type 0
 Plays step zone trusted stood stands at sent (Ok told) =
     (p : Play) × (p.at ≡ at) × (p.sent ≡ sent) × (p.told ≡ told.items) × IsPlay p
     × (trusted → (terminals : List Terminal) (room : Room) → stood terminals room
-    → (after : Room) × IsReplyTo step zone terminals room (timed p) after p.told × stands terminals after)
-Plays step zone trusted stood stands at sent (Err fault) = Stays trusted stood stands × Refuses sent fault
+    → (after : Room) × IsReplyTo step zone terminals room (timed p) after p.told
+    × stands terminals after)
+Plays step zone trusted stood stands at sent (Err fault) =
+    Stays trusted stood stands × Refuses sent fault
 
 -- the entry is a head or a status
 abbrev pub IsMark : Entry → Type 0
@@ -40,7 +45,8 @@ IsMark (room digest) = ⊤
 IsMark (message at sent) = ⊥
 IsMark (answer status) = ⊤
 
-module _ (step : Step) (zone : Zone) (digest_of : DigestOf) (trusted : Type 0) (stood stands : List Terminal → Room → Type 0) where
+module _ (step : Step) (zone : Zone) (digest_of : DigestOf) (trusted : Type 0)
+    (stood stands : List Terminal → Room → Type 0) where
   -- a turn of the message and of the entries that it takes with it
   pub record TurnOf (at : ℕ) (sent : List ℕ) (taken : List Entry) (left_out : Bool) : Type 0 where
     pub turn : Turn
@@ -54,34 +60,44 @@ module _ (step : Step) (zone : Zone) (digest_of : DigestOf) (trusted : Type 0) (
   -- a message that was played is not as this line says, or memory or storage is wanting
   abbrev pub Deviates : Play → Line → ReplayFault → Type 0
   Deviates p line fault =
-      ((fault ≡ Differs) × (status : ℕ) × (line ≡ line_of (answer status)) × (¬ (status_in p.told ≡ decimal status)))
-      ⊎ ((fault ≡ Another) × (digest : List ℕ) × (line ≡ line_of (room digest)) × LeadsElsewhere step zone digest_of trusted stood stands (tried p ∷ []) digest)
+      ((fault ≡ Differs) × (status : ℕ) × (line ≡ line_of (answer status))
+      × (¬ (status_in p.told ≡ decimal status)))
+      ⊎ ((fault ≡ Another) × (digest : List ℕ) × (line ≡ line_of (room digest))
+      × LeadsElsewhere step zone digest_of trusted stood stands (tried p ∷ []) digest)
       ⊎ IsWanting fault
 
   -- a message before this line was not played, or it was and is not as the line says
   abbrev pub StopsAt : ℕ → List ℕ → Line → ReplayFault → Type 0
   StopsAt at sent line fault =
       (Stays trusted stood stands × Refuses sent fault)
-      ⊎ ((p : Play) × (p.at ≡ at) × (p.sent ≡ sent) × IsPlay p × Leads step zone digest_of trusted stood stands (tried p ∷ []) × Deviates p line fault)
+      ⊎ ((p : Play) × (p.at ≡ at) × (p.sent ≡ sent) × IsPlay p
+      × Leads step zone digest_of trusted stood stands (tried p ∷ []) × Deviates p line fault)
 
   -- the message was played, and the room has come to this digest
   abbrev pub ComesTo : ℕ → List ℕ → List ℕ → Type 0
   ComesTo at sent digest =
       (p : Play) × (p.at ≡ at) × (p.sent ≡ sent) × IsPlay p
       × (trusted → (terminals : List Terminal) (room : Room) → stood terminals room
-      → (after : Room) × IsReplyTo step zone terminals room (timed p) after p.told × (digest_of terminals after ≡ digest) × stands terminals after)
+      → (after : Room) × IsReplyTo step zone terminals room (timed p) after p.told
+      × (digest_of terminals after ≡ digest) × stands terminals after)
 
   -- what becomes of a message before this line: it takes the line's entry with it, or is left out
   abbrev pub Settles : ℕ → List ℕ → Line → Result Bool ReplayFault → Type 0
-  Settles at sent line (Ok true) = (e : Entry) × IsMark e × (line ≡ line_of e) × TurnOf at sent (e ∷ []) false
-  Settles at sent line (Ok false) = TurnOf at sent [] true × ((status : ℕ) → ¬ (line ≡ line_of (answer status)))
+  Settles at sent line (Ok true) =
+      (e : Entry) × IsMark e × (line ≡ line_of e) × TurnOf at sent (e ∷ []) false
+  Settles at sent line (Ok false) =
+      TurnOf at sent [] true × ((status : ℕ) → ¬ (line ≡ line_of (answer status)))
   Settles at sent line (Err fault) = StopsAt at sent line fault
 
-  -- Why it stopped, after a head or not, with the text before: nothing more was done, or one message
-  -- up to this moment was played.
-  pub record StopsIn (waits : Bool) (before : Option (List ℕ)) (until : Option ℕ) (is_begun : Bool) (fault : ReplayFault) (read_failed write_failed : Bool) (last : List Turn) : Type 0 where
-    pub few : (last ≡ []) ⊎ ((p : Play) × IsPlay p × AreBy until (message p.at p.sent ∷ []) × (is_begun ≡ true) × (last ≡ tried p ∷ []))
-    pub begins : BeginsWith before (entries_of last) (Explains waits (is_begun ≡ false) ⊥ (LeadsElsewhere step zone digest_of trusted stood stands last) last fault)
+  -- Why it stopped, after a head or not, with the text before: nothing more was done, or one
+  -- message up to this moment was played.
+  pub record StopsIn (waits : Bool) (before : Option (List ℕ)) (until : Option ℕ) (is_begun : Bool)
+      (fault : ReplayFault) (read_failed write_failed : Bool) (last : List Turn) : Type 0 where
+    pub few : (last ≡ []) ⊎ ((p : Play) × IsPlay p × AreBy until (message p.at p.sent ∷ [])
+        × (is_begun ≡ true) × (last ≡ tried p ∷ []))
+    pub begins : BeginsWith before (entries_of last)
+        (Explains waits (is_begun ≡ false) ⊥
+        (LeadsElsewhere step zone digest_of trusted stood stands last) last fault)
     pub leads : Leads step zone digest_of trusted stood stands last
     pub due : IsDueTo read_failed write_failed fault
 
@@ -91,35 +107,47 @@ module _ (step : Step) (zone : Zone) (digest_of : DigestOf) (trusted : Type 0) (
     abbrev pub LeavesOut : ℕ → Type 0
     LeavesOut at =
         (sent : List ℕ) × TurnOf at sent [] true × IsEntry (message at sent)
-        × Consumes before after (texts_of (message at sent ∷ [])) × (failed ≡ false) × BeginsWith after [] HasNoStatus
+        × Consumes before after (texts_of (message at sent ∷ [])) × (failed ≡ false)
+        × BeginsWith after [] HasNoStatus
 
     -- What became of a message at this moment. Where it was the last one, nothing is left.
     abbrev pub MessageIs : ℕ → Result Turned ReplayFault → Type 0
     MessageIs at (Ok Played) =
-        (sent : List ℕ) × (e : Entry) × IsMark e × TurnOf at sent (e ∷ []) false × IsEntry (message at sent) × IsEntry e
+        (sent : List ℕ) × (e : Entry) × IsMark e × TurnOf at sent (e ∷ []) false
+        × IsEntry (message at sent) × IsEntry e
         × Consumes before after (texts_of (message at sent ∷ e ∷ [])) × (failed ≡ false)
     MessageIs at (Ok LeftOut) = LeavesOut at
     MessageIs at (Ok Last) = LeavesOut at × IsAtEnd after
-    MessageIs at (Err fault) = (last : List Turn) × StopsIn true before (Some at) true fault failed false last
+    MessageIs at (Err fault) =
+        (last : List Turn) × StopsIn true before (Some at) true fault failed false last
 
 -- the room has another digest than this
-abbrev pub IsElsewhere : DigestOf → Type 0 → (List Terminal → Room → Type 0) → (List Terminal → Room → Type 0) → List ℕ → Type 0
+abbrev pub IsElsewhere : DigestOf → Type 0 → (List Terminal → Room → Type 0)
+    → (List Terminal → Room → Type 0) → List ℕ → Type 0
 IsElsewhere digest_of trusted stood stands digest =
-    trusted → (terminals : List Terminal) (held : Room) → stood terminals held → (¬ (digest_of terminals held ≡ digest)) × stands terminals held
+    trusted → (terminals : List Terminal) (held : Room) → stood terminals held
+    → (¬ (digest_of terminals held ≡ digest)) × stands terminals held
 
-module _ (digest_of : DigestOf) (trusted : Type 0) (stood stands : List Terminal → Room → Type 0) (before after : Option (List ℕ)) (failed : Bool) where
-  -- What stands next, up to this moment: a head, which was taken and is that of the room; a message,
-  -- which is at the front; or the end. A head came before a message.
+module _ (digest_of : DigestOf) (trusted : Type 0) (stood stands : List Terminal → Room → Type 0)
+    (before after : Option (List ℕ)) (failed : Bool) where
+  -- What stands next, up to this moment: a head, which was taken and is that of the room; a
+  -- message, which is at the front; or the end. A head came before a message.
   abbrev pub NextIs : Option ℕ → Bool → List ℕ → Result Next ReplayFault → Type 0
   NextIs until begun kept (Ok next.Head) =
-      (digest : List ℕ) × IsEntry (room digest) × Consumes before after (texts_of (room digest ∷ [])) × (failed ≡ false)
-      × (trusted → (terminals : List Terminal) (held : Room) → stood terminals held → (digest_of terminals held ≡ digest) × stands terminals held)
+      (digest : List ℕ) × IsEntry (room digest)
+      × Consumes before after (texts_of (room digest ∷ [])) × (failed ≡ false)
+      × (trusted → (terminals : List Terminal) (held : Room) → stood terminals held
+      → (digest_of terminals held ≡ digest) × stands terminals held)
   NextIs until begun kept (Ok (next.Message at layout)) =
-      (sent : List ℕ) × IsLayout kept layout (message at sent) × IsBy until (message at sent) × Keeps before after
+      (sent : List ℕ) × IsLayout kept layout (message at sent) × IsBy until (message at sent)
+      × Keeps before after
       × (begun ≡ true) × (failed ≡ false) × Stays trusted stood stands
-  NextIs until begun kept (Ok next.End) = Keeps before after × BeginsWith before [] (EndsAt until) × Stays trusted stood stands
+  NextIs until begun kept (Ok next.End) =
+      Keeps before after × BeginsWith before [] (EndsAt until) × Stays trusted stood stands
   NextIs until begun kept (Err fault) =
-      Stays trusted stood stands × ((waits : Bool) → BeginsWith before [] (Explains waits (begun ≡ false) ⊥ (IsElsewhere digest_of trusted stood stands) [] fault)) × IsDueTo failed false fault
+      Stays trusted stood stands × ((waits : Bool)
+      → BeginsWith before [] (Explains waits (begun ≡ false) ⊥
+      (IsElsewhere digest_of trusted stood stands) [] fault)) × IsDueTo failed false fault
 
 -- the progress is that of these turns
 pub record IsProgress (progress : Progress) (ts : List Turn) : Type 0 where
@@ -131,7 +159,9 @@ pub record IsProgress (progress : Progress) (ts : List Turn) : Type 0 where
 abbrev pub Progresses : Progress → Progress → List Turn → Type 0
 Progresses old new ts = (us : List Turn) → IsProgress old us → IsProgress new (us ++ ts)
 
-module _ (step : Step) (zone : Zone) (digest_of : DigestOf) (trusted : Type 0) (stood stands : List Terminal → Room → Type 0) (before after : Option (List ℕ)) (until : Option ℕ) where
+module _ (step : Step) (zone : Zone) (digest_of : DigestOf) (trusted : Type 0)
+    (stood stands : List Terminal → Room → Type 0) (before after : Option (List ℕ))
+    (until : Option ℕ) where
   -- turns of this kind, from the text before to the text after
   pub record Passes (Kind : Turn → Type 0) (ts : List Turn) : Type 0 where
     pub turns : All IsTurn ts
@@ -141,10 +171,14 @@ module _ (step : Step) (zone : Zone) (digest_of : DigestOf) (trusted : Type 0) (
     pub unanswered : ends_unanswered ts ≡ true → BeginsWith after [] HasNoStatus
     pub leads : Leads step zone digest_of trusted stood stands ts
 
-  -- What one call does that takes a turn: whether it goes on, or the end was found; or why it stopped.
-  abbrev pub TakesTurn : (Turn → Type 0) → Progress → Progress → Bool → Result Bool ReplayFault → Type 0
+  -- What one call does that takes a turn: whether it goes on, or the end was found; or why it
+  -- stopped.
+  abbrev pub TakesTurn : (Turn → Type 0) → Progress → Progress → Bool → Result Bool ReplayFault
+      → Type 0
   TakesTurn Kind old new failed (Ok goes_on) =
-      (ts : List Turn) × Passes Kind ts × Progresses old new ts × (goes_on ≡ true → (failed ≡ false) × (length ts ≡ 1))
+      (ts : List Turn) × Passes Kind ts × Progresses old new ts
+      × (goes_on ≡ true → (failed ≡ false) × (length ts ≡ 1))
       × (goes_on ≡ false → BeginsWith before (entries_of ts) (EndsAt until))
   TakesTurn Kind old new failed (Err fault) =
-      (last : List Turn) × StopsIn step zone digest_of trusted stood stands true before until old.is_begun fault failed false last × (new ≡ old)
+      (last : List Turn) × StopsIn step zone digest_of trusted stood stands true before until
+      old.is_begun fault failed false last × (new ≡ old)

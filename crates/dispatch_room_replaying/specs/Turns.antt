@@ -7,17 +7,18 @@ use Rattle.room_http_messages.specs.Messages.{WholeMessage, HasMessage}
 use Rattle.room_http.specs.Arrivals.{message as arrived}
 use Rattle.room_http.specs.Talk.{Timed}
 
--- a message that is played: its moment, its bytes, the message that they are, and the bytes of its answer
+-- a message that is played: its moment, its bytes, the message that they are, and the bytes of its
+-- answer
 pub record Play : Type 0 where
   pub at : ℕ
   pub sent : List ℕ
   pub whole : WholeMessage
   pub told : List ℕ
 
--- What is done with the next entry, or with the next two. A head is compared with the room. A message
--- that has a status after it is played, and its status compared. An open one, which has none, is
--- played before a head to which the room has not come (`caught_up`), or without a look at what
--- follows it (`tried`), or it is left out.
+-- What is done with the next entry, or with the next two. A head is compared with the room. A
+-- message that has a status after it is played, and its status compared. An open one, which has
+-- none, is played before a head to which the room has not come (`caught_up`), or without a look at
+-- what follows it (`tried`), or it is left out.
 pub data Turn : Type 0 where
   head : List ℕ → Turn
   answered : Play → ℕ → Turn
@@ -141,11 +142,13 @@ StartsBy false ts = ts ≡ []
 -- the text, where it is known, begins with these entries, and something is said of what follows
 abbrev pub BeginsWith : Option (List ℕ) → List Entry → (List ℕ → Type 0) → Type 0
 BeginsWith left entries follows =
-    (text : List ℕ) → left ≡ Some text → (rest : List ℕ) × (text ≡ texts_of entries ++ rest) × follows rest
+    (text : List ℕ) → left ≡ Some text
+    → (rest : List ℕ) × (text ≡ texts_of entries ++ rest) × follows rest
 
 -- nothing follows, or a message whose moment is after this one
 abbrev pub EndsAt : Option ℕ → List ℕ → Type 0
-EndsAt until rest = (rest ≡ []) ⊎ ((at : ℕ) × (sent : List ℕ) × (after : List ℕ) × (rest ≡ texts_of (message at sent ∷ []) ++ after) × IsAfter until at)
+EndsAt until rest = (rest ≡ []) ⊎ ((at : ℕ) × (sent : List ℕ) × (after : List ℕ)
+    × (rest ≡ texts_of (message at sent ∷ []) ++ after) × IsAfter until at)
 
 -- the last turn leaves a message out
 abbrev pub ends_open : List Turn → Bool
@@ -169,7 +172,8 @@ AreBy until entries = All (λ e. IsEntry e × IsBy until e) entries
 
 -- The turns are of the first entries of the text, of which the first is a head, and none is of a
 -- message after this moment.
-pub record AreTurns (left : Option (List ℕ)) (until : Option ℕ) (ts : List Turn) (follows : List ℕ → Type 0) : Type 0 where
+pub record AreTurns (left : Option (List ℕ)) (until : Option ℕ) (ts : List Turn)
+    (follows : List ℕ → Type 0) : Type 0 where
   pub turns : All IsTurn ts
   pub entries : AreBy until (entries_of ts)
   pub begins : BeginsWith left (entries_of ts) follows

@@ -1,4 +1,5 @@
--- What is served on some connections and then on others is served on all of them, one after another.
+-- What is served on some connections and then on others is served on all of them, one after
+-- another.
 use Rattle.std.proofs.Common.{◌≡◌, ◌∙◌, ap, append-nil, append_assoc, arith, length, length-append, refl, subst, sym, ℕ, List, [], ◌∷◌, ◌++◌, ◌<◌, Option, None, Some, Ok, Err}
 use Rattle.std.proofs.lemmas.List.{map-append}
 use Rattle.std.proofs.lemmas.List.Elements.{All-append, All-cons, All-nil}
@@ -26,7 +27,8 @@ pub grows_none : {A : Type 0} (known : Option (List A)) → Grows known known []
 grows_none None = tt
 grows_none (Some xs) = sym (append-nil xs)
 
-pub grows_more : {A : Type 0} (a b c : Option (List A)) (xs ys : List A) → Grows a b xs → Grows b c ys → Grows a c (xs ++ ys)
+pub grows_more : {A : Type 0} (a b c : Option (List A)) (xs ys : List A) → Grows a b xs
+    → Grows b c ys → Grows a c (xs ++ ys)
 grows_more None b c xs ys first second = tt
 grows_more (Some known) None c xs ys first second = absurd first
 grows_more (Some known) (Some more) None xs ys first second = second
@@ -34,19 +36,23 @@ grows_more (Some known) (Some more) (Some most) xs ys first second = second ∙ 
 
 -- nothing was heard or told
 -- ---- all that was exchanged
-together_more : (xss yss : List (List Exchange)) → together (xss ++ yss) ≡ together xss ++ together yss
+together_more : (xss yss : List (List Exchange))
+    → together (xss ++ yss) ≡ together xss ++ together yss
 together_more [] yss = refl
 together_more (xs ∷ xss) yss = ap (λ more. xs ++ more) (together_more xss yss) ∙ sym (append_assoc xs _ _)
 
 module _ {S : Type 0} where
-  pub connected_more : (calls more : List (Option (Conversation S))) → connected (calls ++ more) ≡ connected calls ++ connected more
+  pub connected_more : (calls more : List (Option (Conversation S)))
+      → connected (calls ++ more) ≡ connected calls ++ connected more
   connected_more [] more = refl
   connected_more (None ∷ calls) more = connected_more calls more
   connected_more (Some c ∷ calls) more = ap (λ cs. c ∷ cs) (connected_more calls more)
 
 module _ {S : Type 0} (g : Ghosts S) (zone : Zone) (terminals : List Terminal) where
-  served_more : (cs ds : List (Conversation S)) (xss yss : List (List Exchange)) (room : Room) → AreServed g zone terminals cs xss room
-      → AreServed g zone terminals ds yss (room_by (together xss) room) → AreServed g zone terminals (cs ++ ds) (xss ++ yss) room
+  served_more : (cs ds : List (Conversation S)) (xss yss : List (List Exchange)) (room : Room)
+      → AreServed g zone terminals cs xss room
+      → AreServed g zone terminals ds yss (room_by (together xss) room)
+      → AreServed g zone terminals (cs ++ ds) (xss ++ yss) room
   served_more [] ds [] yss room first second = second
   served_more [] ds (xs ∷ xss) yss room first second = absurd first
   served_more (c ∷ cs) ds [] yss room first second = absurd first
@@ -55,8 +61,10 @@ module _ {S : Type 0} (g : Ghosts S) (zone : Zone) (terminals : List Terminal) w
     served_more cs ds xss yss (room_by xs room) first.1 (subst (AreServed g zone terminals ds yss) (room_split xs (together xss) room) second),
   )
 
-  joined_more : (cs ds : List (Conversation S)) (mid last : Store S) (room : Room) → AreTerminals room terminals → IsWellFormed room
-      → (first : AreJoined g zone terminals cs mid room) → AreJoined g zone terminals ds last (room_by (together first.talks) room)
+  joined_more : (cs ds : List (Conversation S)) (mid last : Store S) (room : Room)
+      → AreTerminals room terminals → IsWellFormed room
+      → (first : AreJoined g zone terminals cs mid room)
+      → AreJoined g zone terminals ds last (room_by (together first.talks) room)
       → AreJoined g zone terminals (cs ++ ds) last room
   joined_more cs ds mid last room fit formed first second =
       let here = together first.talks in
@@ -71,13 +79,21 @@ module _ {S : Type 0} (g : Ghosts S) (zone : Zone) (terminals : List Terminal) w
         promises = rw all (promises_kept zone terminals (here ++ there) room formed run);
       }
 
-  pub joined_none : (store : Store S) (room : Room) → IsRoom g store terminals room → AreJoined g zone terminals [] store room
+  pub joined_none : (store : Store S) (room : Room) → IsRoom g store terminals room
+      → AreJoined g zone terminals [] store room
   joined_none store room is =
       let run : IsRun zone terminals [] room = record { addressed = tt; answered = tt } in
-      record { talks = []; served = tt; run = run; after = is; promises = promises_kept zone terminals [] room is.formed run }
+      record {
+        talks = [];
+        served = tt;
+        run = run;
+        after = is;
+        promises = promises_kept zone terminals [] room is.formed run;
+      }
 
   pub joined_one : (c : Conversation S) (room : Room)
-      → Served zone (AreFirst c.before.left c.before.given c.after.given) c.before.held c.after.held (IsKept g c.from) (IsRoom g c.store) (LeavesOneOf g c.store) terminals room
+      → Served zone (AreFirst c.before.left c.before.given c.after.given) c.before.held
+      c.after.held (IsKept g c.from) (IsRoom g c.store) (LeavesOneOf g c.store) terminals room
       → AreJoined g zone terminals (c ∷ []) c.store room
   joined_one c room s = record {
     talks = s.exchanges ∷ [];
@@ -87,8 +103,11 @@ module _ {S : Type 0} (g : Ghosts S) (zone : Zone) (terminals : List Terminal) w
     promises = rw append-nil s.promises;
   }
 
-module _ {S : Type 0} (g : Ghosts S) (zone : Zone) (came_text : ℕ → List ℕ → List ℕ) (told_text : List ℕ → List ℕ) where
-  next_more : (cs ds : List (Conversation S)) (a b c : Stage S) → AreNext g zone came_text told_text cs a b → AreNext g zone came_text told_text ds b c → AreNext g zone came_text told_text (cs ++ ds) a c
+module _ {S : Type 0} (g : Ghosts S) (zone : Zone) (came_text : ℕ → List ℕ → List ℕ)
+    (told_text : List ℕ → List ℕ) where
+  next_more : (cs ds : List (Conversation S)) (a b c : Stage S)
+      → AreNext g zone came_text told_text cs a b → AreNext g zone came_text told_text ds b c
+      → AreNext g zone came_text told_text (cs ++ ds) a c
   next_more [] ds a b c first second = rw (← first) second
   next_more (x ∷ cs) ds a b c first second = (first.0, next_more cs ds (stage_after x) b c first.1 second)
 
@@ -103,7 +122,9 @@ module _ {S : Type 0} (g : Ghosts S) (zone : Zone) (came_text : ℕ → List ℕ
   }
 
   -- a call of which no connection came
-  pub attended_nothing : (old new : Service S) → Grows old.heard new.heard (None ∷ []) → new.told ≡ old.told → new.stage ≡ old.stage → AreAttended g zone came_text told_text (None ∷ []) old new
+  pub attended_nothing : (old new : Service S) → Grows old.heard new.heard (None ∷ [])
+      → new.told ≡ old.told → new.stage ≡ old.stage
+      → AreAttended g zone came_text told_text (None ∷ []) old new
   attended_nothing old new heard same stage = record {
     heard = heard;
     told = rw same (grows_none old.told);
@@ -113,9 +134,14 @@ module _ {S : Type 0} (g : Ghosts S) (zone : Zone) (came_text : ℕ → List ℕ
   }
 
   -- a connection that was served
-  pub attended_one : (c : Conversation S) (old new : Service S) → Grows old.heard new.heard (Some (opening_of c) ∷ []) → Grows old.told new.told (c.after.held ∷ [])
-      → new.stage ≡ stage_after c → IsNext g zone came_text told_text old.stage c → (HasCleanDisk (state g c.store.conn) → HasCleanDisk (state g old.stage.store.conn))
-      → KeepsPromises zone (AreFirst c.before.left c.before.given c.after.given) c.before.held c.after.held (HasCleanDisk (state g c.store.conn)) (IsKept g c.from) (IsRoom g old.stage.store) (IsRoom g c.store) (LeavesOneOf g c.store)
+  pub attended_one : (c : Conversation S) (old new : Service S)
+      → Grows old.heard new.heard (Some (opening_of c) ∷ [])
+      → Grows old.told new.told (c.after.held ∷ [])
+      → new.stage ≡ stage_after c → IsNext g zone came_text told_text old.stage c
+      → (HasCleanDisk (state g c.store.conn) → HasCleanDisk (state g old.stage.store.conn))
+      → KeepsPromises zone (AreFirst c.before.left c.before.given c.after.given) c.before.held
+      c.after.held (HasCleanDisk (state g c.store.conn)) (IsKept g c.from)
+      (IsRoom g old.stage.store) (IsRoom g c.store) (LeavesOneOf g c.store)
       → AreAttended g zone came_text told_text (Some c ∷ []) old new
   attended_one c old new heard back stage next trusted promised = record {
     heard = heard;
@@ -125,7 +151,9 @@ module _ {S : Type 0} (g : Ghosts S) (zone : Zone) (came_text : ℕ → List ℕ
     joined = λ clean terminals room is. rw stage (joined_one g zone terminals c room (promised (rw stage at clean) terminals room is is.formed));
   }
 
-  pub attended_more : (calls more : List (Option (Conversation S))) (old mid new : Service S) → AreAttended g zone came_text told_text calls old mid → AreAttended g zone came_text told_text more mid new
+  pub attended_more : (calls more : List (Option (Conversation S))) (old mid new : Service S)
+      → AreAttended g zone came_text told_text calls old mid
+      → AreAttended g zone came_text told_text more mid new
       → AreAttended g zone came_text told_text (calls ++ more) old new
   attended_more calls more old mid new first second =
       let all = connected_more calls more in
@@ -146,23 +174,28 @@ has_none : (fault : Option Failure) → Ok tt ≡ done_or fault → fault ≡ No
 has_none None is = refl
 has_none (Some fault) is = cc
 
-has_some : (fault : Failure) (found : Option Failure) → Err fault ≡ done_or found → found ≡ Some fault
+has_some : (fault : Failure) (found : Option Failure) → Err fault ≡ done_or found
+    → found ≡ Some fault
 has_some fault None is = cc
 has_some fault (Some other) is = cc
 
 module _ {S : Type 0} where
-  go_on_one : (call : Option (Conversation S)) → Ok tt ≡ done_or (option_and_then fault_after call) → GoOn (call ∷ [])
+  go_on_one : (call : Option (Conversation S)) → Ok tt ≡ done_or (option_and_then fault_after call)
+      → GoOn (call ∷ [])
   go_on_one None is = All-nil GoesOn
   go_on_one (Some c) is = All-cons GoesOn c [] (has_none (fault_after c) is) (All-nil GoesOn)
 
   pub go_on_none : GoOn {S = S} []
   go_on_none = All-nil GoesOn
 
-  pub go_on_more : (calls : List (Option (Conversation S))) (call : Option (Conversation S)) → GoOn calls → Ok tt ≡ done_or (option_and_then fault_after call) → GoOn (calls ++ call ∷ [])
+  pub go_on_more : (calls : List (Option (Conversation S))) (call : Option (Conversation S))
+      → GoOn calls → Ok tt ≡ done_or (option_and_then fault_after call) → GoOn (calls ++ call ∷ [])
   go_on_more calls call go is =
       rw (connected_more calls (call ∷ [])) (All-append GoesOn (connected calls) (connected (call ∷ [])) go (go_on_one call is))
 
-  pub ends_after : (calls : List (Option (Conversation S))) (call : Option (Conversation S)) (most : ℕ) (fault : Failure) → GoOn calls → length calls < most
-      → Err fault ≡ done_or (option_and_then fault_after call) → EndsAs (calls ++ call ∷ []) most (Err fault)
+  pub ends_after : (calls : List (Option (Conversation S))) (call : Option (Conversation S))
+      (most : ℕ) (fault : Failure) → GoOn calls → length calls < most
+      → Err fault ≡ done_or (option_and_then fault_after call)
+      → EndsAs (calls ++ call ∷ []) most (Err fault)
   ends_after calls None most fault go within is = cc
   ends_after calls (Some c) most fault go within is = (calls, c, refl, rw length-append (omega (arith, within)), go, has_some fault (fault_after c) is)

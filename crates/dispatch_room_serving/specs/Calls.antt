@@ -1,7 +1,8 @@
 -- The calls that come at a room, and what each begins with.
 use Rattle.std.specs.Prelude.{◌≡◌, ⊤, ℕ, List, ◌++◌, Option, None, Some}
 
--- what a call begins with: the bytes that its reader has to give, and those that its writer holds, where they are known
+-- what a call begins with: the bytes that its reader has to give, and those that its writer holds,
+-- where they are known
 pub record Opening : Type 0 where
   pub left : Option (List ℕ)
   pub held : Option (List ℕ)

@@ -24,14 +24,15 @@ use Rattle.dispatch_room_endings.specs.declared.endings.Failure.TheVariants.{Jou
 use Rattle.dispatch_room_serving.specs.declared.connections.TheConstants.{MOST_READS}
 use Rattle.dispatch_room_serving.specs.Calls.{Grows, Opening}
 
--- where serving stands between two connections: what is known of the moments given and of what the witness keeps, and the store
+-- where serving stands between two connections: what is known of the moments given and of what the
+-- witness keeps, and the store
 pub record Stage (S : Type 0) : Type 0 where
   pub given : Option (List ℕ)
   pub kept : Option (List ℕ)
   pub store : Store S
 
--- A connection that was served: its sides before and after, what was left unread, how serving it ended, and the store and what the
--- witness keeps, before and after it.
+-- A connection that was served: its sides before and after, what was left unread, how serving it
+-- ended, and the store and what the witness keeps, before and after it.
 pub record Conversation (S : Type 0) : Type 0 where
   pub before : Sides
   pub after : Finish
@@ -42,7 +43,8 @@ pub record Conversation (S : Type 0) : Type 0 where
   pub kept : Option (List ℕ)
   pub keeps : Option (List ℕ)
 
--- what is known of all that is served, at one moment: the calls that came, what they were told, and where serving stands
+-- what is known of all that is served, at one moment: the calls that came, what they were told, and
+-- where serving stands
 pub record Service (S : Type 0) : Type 0 where
   pub heard : Option (List (Option Opening))
   pub told : Option (List (Option (List ℕ)))
@@ -53,7 +55,8 @@ abbrev pub fault_of_store : Bool → Option Failure
 fault_of_store true = None
 fault_of_store false = Some Storage
 
--- why no more is served after a connection that ended so, if it is so, with a store that is sound or is not
+-- why no more is served after a connection that ended so, if it is so, with a store that is sound
+-- or is not
 abbrev pub fault_by : ServeEnd → Bool → Option Failure
 fault_by end.Memory is_sound = Some Memory
 fault_by end.Unkept is_sound = Some Journal
@@ -76,7 +79,8 @@ module _ {S : Type 0} where
   abbrev pub stage_after : Conversation S → Stage S
   stage_after c = record { given = c.after.given; kept = c.keeps; store = c.store }
 
-  -- what is known of the moments, of what the witness keeps and of what was written, before it and after it
+  -- what is known of the moments, of what the witness keeps and of what was written, before it and
+  -- after it
   abbrev pub tapes_before : Conversation S → Tapes
   tapes_before c = record { given = c.before.given; kept = c.kept; held = c.before.held }
 
@@ -99,11 +103,14 @@ module _ {S : Type 0} where
   abbrev pub GoOn : List (Option (Conversation S)) → Type 0
   GoOn calls = All GoesOn (connected calls)
 
-  -- How serving so many calls ended. Well: all came, and after each more was served. With a fault: it is that after which no more is served, of the last.
+  -- How serving so many calls ended. Well: all came, and after each more was served. With a fault:
+  -- it is that after which no more is served, of the last.
   abbrev pub EndsAs : List (Option (Conversation S)) → ℕ → Result Done Failure → Type 0
   EndsAs calls most (Ok done) = (done ≡ Whole) × (length calls ≡ most) × GoOn calls
   EndsAs calls most (Err fault) =
-      (before : List (Option (Conversation S))) × (last : Conversation S) × (calls ≡ before ++ Some last ∷ []) × (length calls ≤ most) × GoOn before × (fault_after last ≡ Some fault)
+      (before : List (Option (Conversation S))) × (last : Conversation S)
+      × (calls ≡ before ++ Some last ∷ []) × (length calls ≤ most) × GoOn before
+      × (fault_after last ≡ Some fault)
 
 -- all that was exchanged, one after another
 abbrev pub together : List (List Exchange) → List Exchange
@@ -112,7 +119,8 @@ together talks = flat_map (λ xs. xs) talks
 module _ {S : Type 0} (g : Ghosts S) (zone : Zone) (terminals : List Terminal) where
   -- on the connection these exchanges were served, from this room
   pub record IsServed (c : Conversation S) (xs : List Exchange) (room : Room) : Type 0 where
-    pub served : Served zone (AreFirst c.before.left c.before.given c.after.given) c.before.held c.after.held (IsKept g c.from) (IsRoom g c.store) (LeavesOneOf g c.store) terminals room
+    pub served : Served zone (AreFirst c.before.left c.before.given c.after.given) c.before.held
+        c.after.held (IsKept g c.from) (IsRoom g c.store) (LeavesOneOf g c.store) terminals room
     pub exchanged : served.exchanges ≡ xs
 
   -- on each connection its exchanges were served, from the room that the one before left
@@ -122,8 +130,8 @@ module _ {S : Type 0} (g : Ghosts S) (zone : Zone) (terminals : List Terminal) w
   AreServed (c ∷ cs) [] room = ⊥
   AreServed (c ∷ cs) (xs ∷ more) room = IsServed c xs room × AreServed cs more (room_by xs room)
 
-  -- The connections are joined: all their exchanges, one after another, are one run from this room. It leads to the room
-  -- that the store stands for at the end, and keeps the promises.
+  -- The connections are joined: all their exchanges, one after another, are one run from this room.
+  -- It leads to the room that the store stands for at the end, and keeps the promises.
   pub record AreJoined (cs : List (Conversation S)) (last : Store S) (room : Room) : Type 0 where
     pub talks : List (List Exchange)
     pub served : AreServed cs talks room
@@ -132,15 +140,21 @@ module _ {S : Type 0} (g : Ghosts S) (zone : Zone) (terminals : List Terminal) w
     pub promises : Promises terminals (together talks) room
 
 -- where a witness keeps so much of a message at its moment, and of an answer
-module _ {S : Type 0} (g : Ghosts S) (zone : Zone) (came_text : ℕ → List ℕ → List ℕ) (told_text : List ℕ → List ℕ) where
+module _ {S : Type 0} (g : Ghosts S) (zone : Zone) (came_text : ℕ → List ℕ → List ℕ)
+    (told_text : List ℕ → List ℕ) where
   -- it was served as one connection is, from where serving stood, and witnessed
   pub record IsNext (stage : Stage S) (c : Conversation S) : Type 0 where
     pub begins : stage_before c ≡ stage
     pub reads : ReadsAtMost MOST_READS c.before.reads c.after.reads
-    pub talk : ServeIs machine zone c.before c.after (HasCleanDisk (state g c.store.conn)) (IsRoom g c.from)
-        (Stays (IsKept g c.from) (IsRoom g c.store) (LeavesOneOf g c.store)) (Wants machine zone (IsKept g c.from) (IsRoom g c.store) (LeavesOneOf g c.store)) MOST_READS c.end
+    pub talk : ServeIs machine zone c.before c.after (HasCleanDisk (state g c.store.conn))
+        (IsRoom g c.from)
+        (Stays (IsKept g c.from) (IsRoom g c.store) (LeavesOneOf g c.store))
+        (Wants machine zone (IsKept g c.from) (IsRoom g c.store) (LeavesOneOf g c.store))
+        MOST_READS c.end
     pub none_missed : MissesNone c.before.left c.unread c.before.given c.after.given c.end
-    pub witnessed : KeepsEach came_text told_text (ActsOnEach machine zone (HasCleanDisk (state g c.store.conn)) (IsRoom g c.from) (IsRoom g c.store)) c.before.left
+    pub witnessed : KeepsEach came_text told_text
+        (ActsOnEach machine zone (HasCleanDisk (state g c.store.conn)) (IsRoom g c.from)
+        (IsRoom g c.store)) c.before.left
         (tapes_before c) (tapes_after c)
 
   -- each was served from where the one before left serving; there it stands at the end
@@ -148,13 +162,17 @@ module _ {S : Type 0} (g : Ghosts S) (zone : Zone) (came_text : ℕ → List ℕ
   AreNext [] stage last = last ≡ stage
   AreNext (c ∷ cs) stage last = IsNext stage c × AreNext cs (stage_after c) last
 
-  -- what was done with these calls: each was heard and told, served in its turn, and joined to the others
-  pub record AreAttended (calls : List (Option (Conversation S))) (old new : Service S) : Type 0 where
+  -- what was done with these calls: each was heard and told, served in its turn, and joined to the
+  -- others
+  pub record AreAttended (calls : List (Option (Conversation S)))
+      (old new : Service S) : Type 0 where
     pub heard : Grows old.heard new.heard (map (option_map opening_of) calls)
     pub told : Grows old.told new.told (map (λ c. c.after.held) (connected calls))
     pub in_turn : AreNext (connected calls) old.stage new.stage
-    pub trusted : HasCleanDisk (state g new.stage.store.conn) → HasCleanDisk (state g old.stage.store.conn)
-    pub joined : HasCleanDisk (state g new.stage.store.conn) → (terminals : List Terminal) (room : Room) → IsRoom g old.stage.store terminals room
+    pub trusted : HasCleanDisk (state g new.stage.store.conn)
+        → HasCleanDisk (state g old.stage.store.conn)
+    pub joined : HasCleanDisk (state g new.stage.store.conn)
+        → (terminals : List Terminal) (room : Room) → IsRoom g old.stage.store terminals room
         → AreJoined g zone terminals (connected calls) new.stage.store room
 
   -- so many calls were served, or those up to one after which no more is served
@@ -169,7 +187,9 @@ done_or None = Ok tt
 done_or (Some fault) = Err fault
 
 -- the next call was attended to, and why no more is served after it, if it is so
-pub record AttendsNext {S : Type 0} (g : Ghosts S) (zone : Zone) (came_text : ℕ → List ℕ → List ℕ) (told_text : List ℕ → List ℕ) (old new : Service S) (result : Result (Unit {0}) Failure) : Type 0 where
+pub record AttendsNext {S : Type 0} (g : Ghosts S) (zone : Zone) (came_text : ℕ → List ℕ → List ℕ)
+    (told_text : List ℕ → List ℕ) (old new : Service S)
+    (result : Result (Unit {0}) Failure) : Type 0 where
   pub call : Option (Conversation S)
   pub attended : AreAttended g zone came_text told_text (call ∷ []) old new
   pub ends : result ≡ done_or (option_and_then fault_after call)

@@ -29,7 +29,8 @@ module _ {S : Type 0} (g : Ghosts S) where
   -- The store was looked at, and stands for what it stood for.
   pub record Looks (old new : Store S) : Type 0 where
     pub trusted : HasCleanDisk (state g new.conn) → HasCleanDisk (state g old.conn)
-    pub same : HasCleanDisk (state g new.conn) → (terminals : List Terminal) (room : Room) → IsRoom g old terminals room → IsRoom g new terminals room
+    pub same : HasCleanDisk (state g new.conn) → (terminals : List Terminal) (room : Room)
+        → IsRoom g old terminals room → IsRoom g new terminals room
 
   -- and what was kept is kept
   pub record LooksOnly (old new : Store S) : Type 0 where
@@ -39,7 +40,8 @@ module _ {S : Type 0} (g : Ghosts S) where
   -- the digest of the room that a store stood for, in digits
   abbrev pub IsDigestOf : Store S → Store S → List ℕ → Type 0
   IsDigestOf old new digest =
-      HasCleanDisk (state g new.conn) → (terminals : List Terminal) (room : Room) → IsRoom g old terminals room → digest ≡ encode_lower (sha256 (digest_text terminals room))
+      HasCleanDisk (state g new.conn) → (terminals : List Terminal) (room : Room)
+      → IsRoom g old terminals room → digest ≡ encode_lower (sha256 (digest_text terminals room))
 
   -- where a watcher wants the digest of the room's rows, or doesn't, and what it keeps of it
   module _ (wants : Bool) (begun_text : List ℕ → List ℕ) where
@@ -50,39 +52,57 @@ module _ {S : Type 0} (g : Ghosts S) where
       pub told : text ≡ if wants then begun_text digest else []
 
     -- it keeps that; or, where serving doesn't begin, nothing or some first bytes of it
-    abbrev pub KeepsHead : Store S → Store S → Option (List ℕ) → Option (List ℕ) → Result (Unit {0}) Failure → Type 0
-    KeepsHead old new kept keeps (Ok told) = (text : List ℕ) × IsHead old new text × Appends kept keeps text
-    KeepsHead old new kept keeps (Err fault) = (keeps ≡ kept) ⊎ ((text front : List ℕ) × IsHead old new text × IsFront front text × Appends kept keeps front)
+    abbrev pub KeepsHead : Store S → Store S → Option (List ℕ) → Option (List ℕ)
+        → Result (Unit {0}) Failure → Type 0
+    KeepsHead old new kept keeps (Ok told) =
+        (text : List ℕ) × IsHead old new text × Appends kept keeps text
+    KeepsHead old new kept keeps (Err fault) = (keeps ≡ kept)
+        ⊎ ((text front : List ℕ) × IsHead old new text × IsFront front text
+        × Appends kept keeps front)
 
     -- the watcher was told where the room begins, or serving does not begin
-    abbrev pub Announces : Store S → Store S → Option (List ℕ) → Option (List ℕ) → Result (Unit {0}) Failure → Type 0
-    Announces old new kept keeps (Ok told) = LooksOnly old new × KeepsHead old new kept keeps (Ok told)
-    Announces old new kept keeps (Err fault) = IsUnbegun fault × Looks old new × KeepsHead old new kept keeps (Err fault)
+    abbrev pub Announces : Store S → Store S → Option (List ℕ) → Option (List ℕ)
+        → Result (Unit {0}) Failure → Type 0
+    Announces old new kept keeps (Ok told) =
+        LooksOnly old new × KeepsHead old new kept keeps (Ok told)
+    Announces old new kept keeps (Err fault) =
+        IsUnbegun fault × Looks old new × KeepsHead old new kept keeps (Err fault)
 
     -- serving did not begin, and nothing was heard
     pub record IsUnheard (old new : Service S) (result : Result Done Failure) : Type 0 where
       pub fault : Failure
       pub why : IsUnbegun fault
       pub told : result ≡ Err fault
-      pub unheard : (new.heard ≡ old.heard) × (new.told ≡ old.told) × (new.stage.given ≡ old.stage.given)
+      pub unheard : (new.heard ≡ old.heard) × (new.told ≡ old.told)
+          × (new.stage.given ≡ old.stage.given)
       pub looks : Looks old.stage.store new.stage.store
       pub head : KeepsHead old.stage.store new.stage.store old.stage.kept new.stage.kept (Err fault)
 
     module _ (came_text : ℕ → List ℕ → List ℕ) (told_text : List ℕ → List ℕ) where
       -- from the store that was looked at so many calls were served
-      pub record ServesFrom (zone : Zone) (old new : Service S) (most : ℕ) (result : Result Done Failure) : Type 0 where
+      pub record ServesFrom (zone : Zone) (old new : Service S) (most : ℕ)
+          (result : Result Done Failure) : Type 0 where
         pub store : Store S
         pub kept : Option (List ℕ)
         pub looks : LooksOnly old.stage.store store
         pub head : KeepsHead old.stage.store store old.stage.kept kept (Ok tt)
-        pub serves : Serves g zone came_text told_text (record { heard = old.heard; told = old.told; stage = record { given = old.stage.given; kept = kept; store = store } }) new most result
+        pub serves : Serves g zone came_text told_text
+            (record {
+              heard = old.heard;
+              told = old.told;
+              stage =
+                  record { given = old.stage.given; kept = kept; store = store };
+            }) new most result
 
       -- serving did not begin, or so many calls were served
       abbrev pub Attends : Zone → Service S → Service S → ℕ → Result Done Failure → Type 0
-      Attends zone old new most result = IsUnheard old new result ⊎ ServesFrom zone old new most result
+      Attends zone old new most result =
+          IsUnheard old new result ⊎ ServesFrom zone old new most result
 
-      -- The room that the tables of a connection stood for was opened and attended to, in the zone of its plan.
-      pub record ServesRoom (conn : Held S) (old new : Store S → Service S) (most : ℕ) (worked : Result Done Failure × Held S) : Type 0 where
+      -- The room that the tables of a connection stood for was opened and attended to, in the zone
+      -- of its plan.
+      pub record ServesRoom (conn : Held S) (old new : Store S → Service S) (most : ℕ)
+          (worked : Result Done Failure × Held S) : Type 0 where
         -- the store as it was opened, and as it was closed
         pub first : Store S
         pub last : Store S

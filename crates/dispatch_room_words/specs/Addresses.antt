@@ -11,4 +11,5 @@ IsLoopback address = MatchIp (socket_ip address) IsLoopbackV4 IsLoopbackV6
 
 -- the text is no address with a port, or one that more than this machine reaches
 abbrev pub IsElsewhere : List ℕ → Type 0
-IsElsewhere text = ((address : SocketAddr) → ¬ (IsSocketText text address)) ⊎ ((address : SocketAddr) × IsSocketText text address × (¬ (IsLoopback address)))
+IsElsewhere text = ((address : SocketAddr) → ¬ (IsSocketText text address))
+    ⊎ ((address : SocketAddr) × IsSocketText text address × (¬ (IsLoopback address)))

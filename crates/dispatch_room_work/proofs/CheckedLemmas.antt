@@ -17,9 +17,12 @@ use Rattle.dispatch_room_endings.specs.declared.endings.Failure.TheVariants.{Fil
 use Rattle.dispatch_room_work.specs.Checked.{HasChecked, failure_of, summary_text}
 
 module _ {S : Type 0} (g : Ghosts S) (old new : Held S) (before after : Option (List ℕ)) where
-  pub room_told : (plan : Layout) (summary : Summary) (done : Result Done Failure) → (HasCleanDisk (state g new) → IsSummaryOf (state g old).now.trees plan summary)
-      → OnOk done (Appends before after (summary_text summary)) → IfOk done (λ d. d ≡ Whole) → OnOk done (IsSome (read_whole plan.zone))
-      → IfErr done (λ f. (f ≡ Network) ⊎ ((f ≡ File) × ¬ IsSome (read_whole plan.zone))) → HasChecked g old new before after done
+  pub room_told : (plan : Layout) (summary : Summary) (done : Result Done Failure)
+      → (HasCleanDisk (state g new) → IsSummaryOf (state g old).now.trees plan summary)
+      → OnOk done (Appends before after (summary_text summary)) → IfOk done (λ d. d ≡ Whole)
+      → OnOk done (IsSome (read_whole plan.zone))
+      → IfErr done (λ f. (f ≡ Network) ⊎ ((f ≡ File) × ¬ IsSome (read_whole plan.zone)))
+      → HasChecked g old new before after done
   room_told plan summary (Ok d) holds text whole rule fault = (whole, record { plan = plan; summary = summary; holds = holds; rule = rule; text = text })
   room_told plan summary (Err f) holds text whole rule fault =
       elim fault [
@@ -27,8 +30,10 @@ module _ {S : Type 0} (g : Ghosts S) (old new : Held S) (before after : Option (
         | inr none ↦ inr (inr (record { told = none.0; plan = plan; summary = summary; holds = holds; no_rule = none.1 }))
       ]
 
-  pub wrong_told : (wrong : Wrong) (done : Result Done Failure) → (HasCleanDisk (state g new) → Explains (state g old).now wrong)
-      → (done ≡ Err (failure_of wrong)) ⊎ (done ≡ Err Network) → HasChecked g old new before after done
+  pub wrong_told : (wrong : Wrong) (done : Result Done Failure)
+      → (HasCleanDisk (state g new) → Explains (state g old).now wrong)
+      → (done ≡ Err (failure_of wrong)) ⊎ (done ≡ Err Network)
+      → HasChecked g old new before after done
   wrong_told wrong done explains told =
       elim told [
         | inl is ↦ subst (HasChecked g old new before after) (sym is) (inr (inl (record { wrong = wrong; told = refl; explains = explains })))

@@ -31,7 +31,8 @@ later_one : (n : ℕ) (b : Bool) → suc (one_more n b) ≡ one_more (suc n) b
 later_one n true = refl
 later_one n false = refl
 
-filter_last : (passes : ℕ → Bool) (x : ℕ) (xs : List ℕ) → length (filter passes (xs ++ x ∷ [])) ≡ one_more (length (filter passes xs)) (passes x)
+filter_last : (passes : ℕ → Bool) (x : ℕ) (xs : List ℕ)
+    → length (filter passes (xs ++ x ∷ [])) ≡ one_more (length (filter passes xs)) (passes x)
 filter_last passes x [] = elim (passes x) as (λ b. length (cond b (x ∷ []) []) ≡ one_more 0 b) [ true ↦ refl | false ↦ refl ]
 filter_last passes x (y ∷ ys) =
     let rest = filter_last passes x ys in
@@ -41,20 +42,25 @@ filter_last passes x (y ∷ ys) =
     [ true ↦ ap suc rest ∙ later_one (length fewer) (passes x) | false ↦ rest ]
 
 -- the next number counts where it passes
-pub passing_more : (passes : ℕ → Bool) (n : ℕ) (b : Bool) → passes (suc n) ≡ b → passing_to passes (suc n) ≡ one_more (passing_to passes n) b
+pub passing_more : (passes : ℕ → Bool) (n : ℕ) (b : Bool) → passes (suc n) ≡ b
+    → passing_to passes (suc n) ≡ one_more (passing_to passes n) b
 passing_more passes n b e = filter_last passes (suc n) (numbers_to n) ∙ ap (one_more (passing_to passes n)) e
 
 -- the line tells the amounts of the file
-pub amounts_told : (file : PlanFile) (divisions terminals : ℕ) (areas : List Area) → divisions ≡ division_count file.plan.areas → areas ≡ file.plan.areas → terminals ≡ vec_len file.terminals
+pub amounts_told : (file : PlanFile) (divisions terminals : ℕ) (areas : List Area)
+    → divisions ≡ division_count file.plan.areas → areas ≡ file.plan.areas
+    → terminals ≡ vec_len file.terminals
     → amounts_text divisions (length areas) terminals ≡ created_text file
 amounts_told file divisions terminals areas d a t = rw (d, a, t)
 
 -- a store that was created has the room of the plan's file
-pub created_in : {S : Type 0} (g : Ghosts S) (old : Held S) (store : Store S) (file : PlanFile) (terminals : List Terminal)
+pub created_in : {S : Type 0} (g : Ghosts S) (old : Held S) (store : Store S) (file : PlanFile)
+    (terminals : List Terminal)
     → terminals ≡ file.terminals.items → store.plan.zone ≡ file.plan.zone
     → (HasCleanDisk (state g store.conn) → IsRoom g store (in_order terminals) (new_room file.plan))
     → (HasCleanDisk (state g store.conn) → IsSettled (state g store.conn))
-    → MayBegin (state g old).now.schema file.plan terminals → Survives (state g old) (state g store.conn) (StandsNew file.plan terminals)
+    → MayBegin (state g old).now.schema file.plan terminals
+    → Survives (state g old) (state g store.conn) (StandsNew file.plan terminals)
     → IsCreated g old store.conn file
 created_in g old store file terminals e same room settled begun survives = record {
   begun = rw e at begun;

@@ -9,11 +9,13 @@ use Rattle.dispatch_room_work.specs.DayReports.{report_in}
 
 -- the answer has the report of the incidents that were opened then
 pub times_shown : (division : ℕ) (from to : ℤ) (room : Room)
-    → report_in (answer_of (show_times division from to room)) ≡ report_of (map times_line (incidents_opened division from to room))
+    → report_in (answer_of (show_times division from to room))
+    ≡ report_of (map times_line (incidents_opened division from to room))
 unfolding show_times
 times_shown division from to room = refl
 
 -- and it changes nothing
-pub times_change_nothing : (division : ℕ) (from to : ℤ) (room : Room) → apply room (changes_of (show_times division from to room)) ≡ room
+pub times_change_nothing : (division : ℕ) (from to : ℤ) (room : Room)
+    → apply room (changes_of (show_times division from to room)) ≡ room
 unfolding show_times
 times_change_nothing division from to room = refl

@@ -13,9 +13,12 @@ use Rattle.dispatch_room_files.specs.declared.fleets.FleetLine.{FleetLine}
 use Rattle.dispatch_room_work.specs.Fates.{good_rows}
 use Rattle.dispatch_room_work.specs.Imported.{HasImported, HasTold}
 
-pub imported_by : {S : Type 0} (g : Ghosts S) (old new : Store S) (lines : List FleetLine) (before after : Option (List ℕ)) (done : Result Done Failure) (terminals : List Terminal) (room : Room)
+pub imported_by : {S : Type 0} (g : Ghosts S) (old new : Store S) (lines : List FleetLine)
+    (before after : Option (List ℕ)) (done : Result Done Failure) (terminals : List Terminal)
+    (room : Room)
     (rows : List FleetRow) (was is told : List RowFate) → rows ≡ good_rows lines → was ≡ [] → told ≡ is
-    → (made : HasEnrolled g old new rows was is terminals room) → OnOk done (made.count ≡ length rows) → HasTold lines told before after done
+    → (made : HasEnrolled g old new rows was is terminals room)
+    → OnOk done (made.count ≡ length rows) → HasTold lines told before after done
     → HasImported g old new lines before after done terminals room
 imported_by g old new lines before after done terminals room rows was is told r w t made whole said = record {
   fates = is;

@@ -18,19 +18,23 @@ use Rattle.dispatch_room_endings.specs.declared.endings.Failure.TheVariants.{Fil
 -- ---- how much a room has
 abbrev pub plan_text : Summary → List ℕ
 plan_text s =
-    codes "version " ++ (decimal 2 ++ (codes "\nareas " ++ (decimal s.areas ++ (codes ", terminals " ++ (decimal s.terminals
-    ++ (codes "\ndivisions " ++ (decimal s.divisions ++ (codes ", points " ++ (decimal s.points ++ codes "\n")))))))))
+    codes "version " ++ (decimal 2 ++ (codes "\nareas "
+    ++ (decimal s.areas ++ (codes ", terminals " ++ (decimal s.terminals
+    ++ (codes "\ndivisions " ++ (decimal s.divisions
+    ++ (codes ", points " ++ (decimal s.points ++ codes "\n")))))))))
 
 abbrev pub calls_text : Summary → List ℕ
 calls_text s =
     codes "calls " ++ (decimal s.calls
-    ++ (codes "\nincidents " ++ (decimal s.incidents ++ (codes ", active " ++ (decimal s.active_incidents ++ codes "\n")))))
+    ++ (codes "\nincidents " ++ (decimal s.incidents
+    ++ (codes ", active " ++ (decimal s.active_incidents ++ codes "\n")))))
 
 abbrev pub fleet_text : Summary → List ℕ
 fleet_text s =
     codes "vehicles " ++ (decimal s.vehicles ++ (codes ", assignments " ++ (decimal s.assignments
     ++ (codes "\nturns " ++ (decimal s.turns ++ (codes ", open " ++ (decimal s.open_turns
-    ++ (codes "\nloans " ++ (decimal s.loans ++ (codes ", offers " ++ (decimal s.offers ++ codes "\n")))))))))))
+    ++ (codes "\nloans " ++ (decimal s.loans
+    ++ (codes ", offers " ++ (decimal s.offers ++ codes "\n")))))))))))
 
 abbrev pub reports_text : Summary → List ℕ
 reports_text s =
@@ -45,7 +49,8 @@ abbrev pub IsTold : Option (List ℕ) → Option (List ℕ) → Type 0
 IsTold before after = (summary : Summary) × Appends before after (summary_text summary)
 
 -- Written is how much the room has that the file holds, and the zone of its plan is a rule.
-pub record HasToldRoom {S : Type 0} (g : Ghosts S) (old new : Held S) (before after : Option (List ℕ)) : Type 0 where
+pub record HasToldRoom {S : Type 0} (g : Ghosts S) (old new : Held S)
+    (before after : Option (List ℕ)) : Type 0 where
   pub plan : Layout
   pub summary : Summary
   pub holds : HasCleanDisk (state g new) → IsSummaryOf (state g old).now.trees plan summary
@@ -61,13 +66,15 @@ failure_of wrong.Storage = Storage
 failure_of other = File
 
 -- this is wrong with the file
-pub record HasFault {S : Type 0} (g : Ghosts S) (old new : Held S) (failure : Failure) : Type 0 where
+pub record HasFault {S : Type 0} (g : Ghosts S) (old new : Held S)
+    (failure : Failure) : Type 0 where
   pub wrong : Wrong
   pub told : failure ≡ failure_of wrong
   pub explains : HasCleanDisk (state g new) → Explains (state g old).now wrong
 
 -- or it holds a room whose days can't be reckoned
-pub record HasNoRule {S : Type 0} (g : Ghosts S) (old new : Held S) (failure : Failure) : Type 0 where
+pub record HasNoRule {S : Type 0} (g : Ghosts S) (old new : Held S)
+    (failure : Failure) : Type 0 where
   pub told : failure ≡ File
   pub plan : Layout
   pub summary : Summary
@@ -75,6 +82,8 @@ pub record HasNoRule {S : Type 0} (g : Ghosts S) (old new : Held S) (failure : F
   pub no_rule : ¬ IsSome (read_whole plan.zone)
 
 -- what came of looking at the file of a database, unless the output fails
-abbrev pub HasChecked : {S : Type 0} → Ghosts S → Held S → Held S → Option (List ℕ) → Option (List ℕ) → Result Done Failure → Type 0
+abbrev pub HasChecked : {S : Type 0} → Ghosts S → Held S → Held S → Option (List ℕ)
+    → Option (List ℕ) → Result Done Failure → Type 0
 HasChecked g old new before after (Ok done) = (done ≡ Whole) × HasToldRoom g old new before after
-HasChecked g old new before after (Err failure) = (failure ≡ Network) ⊎ (HasFault g old new failure ⊎ HasNoRule g old new failure)
+HasChecked g old new before after (Err failure) =
+    (failure ≡ Network) ⊎ (HasFault g old new failure ⊎ HasNoRule g old new failure)

@@ -18,16 +18,19 @@ use Rattle.dispatch_room_endings.specs.declared.endings.Failure.{Failure}
 use Rattle.dispatch_room_endings.specs.declared.endings.Failure.TheVariants.{Network}
 use Rattle.dispatch_room_files.specs.declared.plans.PlanFile.{PlanFile}
 
--- In a database that had nothing, the new room of the plan with its terminals is committed. What a stop may leave is what it could leave before, or that room.
+-- In a database that had nothing, the new room of the plan with its terminals is committed. What a
+-- stop may leave is what it could leave before, or that room.
 pub record IsCreated {S : Type 0} (g : Ghosts S) (old new : Held S) (file : PlanFile) : Type 0 where
   pub begun : MayBegin (state g old).now.schema file.plan file.terminals.items
   pub settled : HasCleanDisk (state g new) → IsSettled (state g new)
-  pub stands : HasCleanDisk (state g new) → StandsNew file.plan file.terminals.items (state g new).now.trees
+  pub stands : HasCleanDisk (state g new)
+      → StandsNew file.plan file.terminals.items (state g new).now.trees
   pub survives : Survives (state g old) (state g new) (StandsNew file.plan file.terminals.items)
 
 -- why no room is created, as the program tells it
 abbrev pub ExplainsNone : Schema → PlanFile → Failure → Type 0
-ExplainsNone schema file failure = (fault : CreateFault) × Explains schema file.plan file.terminals.items fault × (failure ≡ create_fault fault)
+ExplainsNone schema file failure = (fault : CreateFault)
+    × Explains schema file.plan file.terminals.items fault × (failure ≡ create_fault fault)
 
 -- how many divisions have an area
 abbrev pub division_count : List Area → ℕ
@@ -36,11 +39,14 @@ division_count areas = length (filter (has_division areas) division_numbers)
 -- the line of so many divisions, areas and terminals
 abbrev pub amounts_text : ℕ → ℕ → ℕ → List ℕ
 amounts_text divisions areas terminals =
-    codes "created: divisions " ++ (decimal divisions ++ (codes ", areas " ++ (decimal areas ++ (codes ", terminals " ++ (decimal terminals ++ codes "\n")))))
+    codes "created: divisions " ++ (decimal divisions
+    ++ (codes ", areas " ++ (decimal areas
+    ++ (codes ", terminals " ++ (decimal terminals ++ codes "\n")))))
 
 -- the line that tells how much a room has that was created by a plan's file
 abbrev pub created_text : PlanFile → List ℕ
-created_text file = amounts_text (division_count file.plan.areas) (length file.plan.areas) (vec_len file.terminals)
+created_text file =
+    amounts_text (division_count file.plan.areas) (length file.plan.areas) (vec_len file.terminals)
 
 -- the line is written, unless the output fails
 abbrev pub IsTold : PlanFile → Option (List ℕ) → Option (List ℕ) → Result Done Failure → Type 0

@@ -27,7 +27,8 @@ use Rattle.dispatch_room_opening.specs.Opened.{IsOpened}
 -- the seconds, in a zone, of the day that a text writes
 abbrev pub IsSpanOf : TimeZone → List ℕ → ℤ × ℤ → Type 0
 IsSpanOf zone text span =
-    (date : Date) × (day_of text ≡ Some date) × IsSpan zone (days_from_civil (pos date.year) date.month date.day) span
+    (date : Date) × (day_of text ≡ Some date)
+    × IsSpan zone (days_from_civil (pos date.year) date.month date.day) span
 
 -- the report of an answer; only the times of a day have one
 abbrev pub report_in : Result Answer Refusal → List ℕ
@@ -37,14 +38,16 @@ report_in other = []
 -- the report is of the incidents of the division that were opened on the day
 abbrev pub IsDayReport : TimeZone → ℕ → List ℕ → Room → List ℕ → Type 0
 IsDayReport zone division day room report =
-    (span : ℤ × ℤ) × IsSpanOf zone day span × (report ≡ report_of (map times_line (incidents_opened division span.0 span.1 room)))
+    (span : ℤ × ℤ) × IsSpanOf zone day span
+    × (report ≡ report_of (map times_line (incidents_opened division span.0 span.1 room)))
 
 -- there can be a report: the plan has the division, and the text writes a day
 pub record IsAskable (areas : List Area) (division : ℕ) (day : List ℕ) : Type 0 where
   pub has : has_division areas division ≡ true
   pub is_day : IsSome (day_of day)
 
--- why there is none: the division is told first, then the day, and a failing machine only where both can be asked for
+-- why there is none: the division is told first, then the day, and a failing machine only where
+-- both can be asked for
 abbrev pub ExplainsReport : List Area → ℕ → List ℕ → Failure → Type 0
 ExplainsReport areas division day Division = has_division areas division ≡ false
 ExplainsReport areas division day Day = (has_division areas division ≡ true) × (day_of day ≡ None)
@@ -52,8 +55,10 @@ ExplainsReport areas division day Memory = IsAskable areas division day
 ExplainsReport areas division day Storage = IsAskable areas division day
 ExplainsReport areas division day other = ⊥
 
--- The report is of the room of a database, by the zone of its plan, and leaves it as it was; or it tells why there is none.
-pub record HasReported {S : Type 0} (g : Ghosts S) (old new : Held S) (division : ℕ) (day : List ℕ) (done : Result (Vec ℕ Global) Failure) : Type 0 where
+-- The report is of the room of a database, by the zone of its plan, and leaves it as it was; or it
+-- tells why there is none.
+pub record HasReported {S : Type 0} (g : Ghosts S) (old new : Held S) (division : ℕ) (day : List ℕ)
+    (done : Result (Vec ℕ Global) Failure) : Type 0 where
   pub opened : Store S
   pub closed : Store S
   pub conn : closed.conn ≡ new

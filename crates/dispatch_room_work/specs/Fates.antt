@@ -23,7 +23,8 @@ good_rows lines = filter_map row_in lines
 abbrev pub Outcome : Type 0
 Outcome = Option (FleetRow × RowFate)
 
--- What came of each line, by the fates of the good rows in their order. It ends at the first good row that has no fate.
+-- What came of each line, by the fates of the good rows in their order. It ends at the first good
+-- row that has no fate.
 abbrev pub outcomes : List FleetLine → List RowFate → List Outcome
 outcomes [] fates = []
 outcomes (Bad ∷ lines) fates = None ∷ outcomes lines fates

@@ -15,9 +15,12 @@ use Rattle.dispatch_room_files.specs.declared.fleets.FleetLine.{FleetLine}
 use Rattle.dispatch_room_work.specs.Fates.{done_by, fates_text, good_rows, outcomes}
 use Rattle.dispatch_room_opening.specs.Opened.{IsOpened}
 
--- Written is what is told of these lines with these fates, unless the output fails. How much is done is by them.
-abbrev pub HasTold : List FleetLine → List RowFate → Option (List ℕ) → Option (List ℕ) → Result Done Failure → Type 0
-HasTold lines fates before after (Ok done) = Appends before after (fates_text lines fates) × (done ≡ done_by (outcomes lines fates))
+-- Written is what is told of these lines with these fates, unless the output fails. How much is
+-- done is by them.
+abbrev pub HasTold : List FleetLine → List RowFate → Option (List ℕ) → Option (List ℕ)
+    → Result Done Failure → Type 0
+HasTold lines fates before after (Ok done) =
+    Appends before after (fates_text lines fates) × (done ≡ done_by (outcomes lines fates))
 HasTold lines fates before after (Err Memory) = Appends before after (fates_text lines fates)
 HasTold lines fates before after (Err Storage) = Appends before after (fates_text lines fates)
 HasTold lines fates before after (Err Network) = Unit {0}
@@ -27,15 +30,19 @@ HasTold lines fates before after (Err other) = ⊥
 abbrev pub IsTold : List FleetLine → Option (List ℕ) → Option (List ℕ) → Done → Type 0
 IsTold lines before after done = (fates : List RowFate) × HasTold lines fates before after (Ok done)
 
--- Of a fleet's good rows the first ones were enrolled, all of them where nothing failed, and their fates are told.
-pub record HasImported {S : Type 0} (g : Ghosts S) (old new : Store S) (lines : List FleetLine) (before after : Option (List ℕ)) (done : Result Done Failure) (terminals : List Terminal) (room : Room) : Type 0 where
+-- Of a fleet's good rows the first ones were enrolled, all of them where nothing failed, and their
+-- fates are told.
+pub record HasImported {S : Type 0} (g : Ghosts S) (old new : Store S) (lines : List FleetLine)
+    (before after : Option (List ℕ)) (done : Result Done Failure) (terminals : List Terminal)
+    (room : Room) : Type 0 where
   pub fates : List RowFate
   pub enrolled : HasEnrolled g old new (good_rows lines) [] fates terminals room
   pub whole : OnOk done (enrolled.count ≡ length (good_rows lines))
   pub told : HasTold lines fates before after done
 
 -- The lines were imported in the room of a database.
-pub record HasImportedIn {S : Type 0} (g : Ghosts S) (old new : Held S) (lines : List FleetLine) (before after : Option (List ℕ)) (done : Result Done Failure) : Type 0 where
+pub record HasImportedIn {S : Type 0} (g : Ghosts S) (old new : Held S) (lines : List FleetLine)
+    (before after : Option (List ℕ)) (done : Result Done Failure) : Type 0 where
   pub opened : Store S
   pub closed : Store S
   pub conn : closed.conn ≡ new

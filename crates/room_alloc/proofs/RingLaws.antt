@@ -17,7 +17,8 @@ use Rattle.room_alloc.specs.declared.nearness.Candidate.{Candidate}
 use Rattle.room_alloc.specs.declared.nearness.Nearness.{Nearness}
 
 -- ---- what is in the set after a put
-pub put_in : (q : List Nearness) (x e : Nearness) → Among e (put_row nearness_cmp whole q x) → (e ≡ x) ⊎ Among e q
+pub put_in : (q : List Nearness) (x e : Nearness) → Among e (put_row nearness_cmp whole q x)
+    → (e ≡ x) ⊎ Among e q
 put_in [] x e h = elim h [ inl k ↦ inl k | inr k ↦ absurd k ]
 put_in (y ∷ q) x e h = (elim (nearness_cmp x y) as (λ (o : Ordering). Among e (match_ordering o (x ∷ y ∷ q) (x ∷ q) (y ∷ put_row nearness_cmp whole q x)) → (e ≡ x) ⊎ Among e (y ∷ q)) [
   | Less ↦ λ g. g
@@ -25,7 +26,8 @@ put_in (y ∷ q) x e h = (elim (nearness_cmp x y) as (λ (o : Ordering). Among e
   | Greater ↦ λ g. elim g [ inl k ↦ inr (inl k) | inr k ↦ elim (put_in q x e k) [ inl m ↦ inl m | inr m ↦ inr (inr m) ] ]
 ]) h
 
-pub put_keeps : (q : List Nearness) (x e : Nearness) → (e ≡ x) ⊎ Among e q → Among e (put_row nearness_cmp whole q x)
+pub put_keeps : (q : List Nearness) (x e : Nearness) → (e ≡ x) ⊎ Among e q
+    → Among e (put_row nearness_cmp whole q x)
 put_keeps [] x e h = elim h [ inl k ↦ inl k | inr k ↦ absurd k ]
 put_keeps (y ∷ q) x e h = (elim (nearness_cmp x y) as (λ (o : Ordering). nearness_cmp x y ≡ o → Among e (match_ordering o (x ∷ y ∷ q) (x ∷ q) (y ∷ put_row nearness_cmp whole q x))) [
   | Less ↦ λ f. h
@@ -55,7 +57,8 @@ module _ {X : Type 0} where
   among_item (y ∷ ys) (suc k) x low is = inr (among_item ys k x (omega (arith, low)) is)
 
   -- one more is taken
-  pub among_taken : (xs : List X) (k : ℕ) (x c : X) → k < length xs → x ≡ get_or xs k x → Among c (take (suc k) xs) → Among c (take k xs) ⊎ (c ≡ x)
+  pub among_taken : (xs : List X) (k : ℕ) (x c : X) → k < length xs → x ≡ get_or xs k x
+      → Among c (take (suc k) xs) → Among c (take k xs) ⊎ (c ≡ x)
   among_taken [] k x c low is a = absurd a
   among_taken (y ∷ ys) zero x c low is a = elim a [ inl e ↦ inr (e ∙ sym is) | inr none ↦ absurd none ]
   among_taken (y ∷ ys) (suc k) x c low is a = elim a [
@@ -81,7 +84,8 @@ by_ring (x ∷ xs) h = (
   by_ring xs (λ i j d le low. h (suc i) (suc j) d (omega (arith, le)) (omega (arith, low))),
 )
 
-pub sorted_by_ring : (xs ys : List Candidate) → IsPermutation xs ys → IsNonDecreasingBy ring_no ys → AreByRing xs ys
+pub sorted_by_ring : (xs ys : List Candidate) → IsPermutation xs ys → IsNonDecreasingBy ring_no ys
+    → AreByRing xs ys
 sorted_by_ring xs ys moved rises = record {
   only = λ c a. among_moved ys xs c (IsPermutation-sym xs ys moved) a;
   there = λ c a. among_moved xs ys c moved a;
@@ -89,7 +93,8 @@ sorted_by_ring xs ys moved rises = record {
 }
 
 -- each candidate was seen before a place, or its ring is no lesser
-pub seen_or_later : (xs : List Candidate) (k : ℕ) (x c : Candidate) → IsByRing xs → k < length xs → x ≡ get_or xs k x → Among c xs → Among c (take k xs) ⊎ (x.ring ≤ c.ring)
+pub seen_or_later : (xs : List Candidate) (k : ℕ) (x c : Candidate) → IsByRing xs → k < length xs
+    → x ≡ get_or xs k x → Among c xs → Among c (take k xs) ⊎ (x.ring ≤ c.ring)
 seen_or_later [] k x c h low is a = absurd a
 seen_or_later (y ∷ ys) zero x c h low is a = inr (subst (λ (z : Candidate). z.ring ≤ c.ring) (sym is) (elim a [
   | inl e ↦ subst (λ (z : Candidate). y.ring ≤ z.ring) (sym e) (omega arith)
@@ -101,33 +106,41 @@ seen_or_later (y ∷ ys) (suc k) x c h low is a = elim a [
 ]
 
 -- ---- what a search finds
-image : (i : Incident) (xs : List Candidate) (c : Candidate) → Among c xs → Among (nearness_of i c) (map (nearness_of i) xs)
+image : (i : Incident) (xs : List Candidate) (c : Candidate) → Among c xs
+    → Among (nearness_of i c) (map (nearness_of i) xs)
 image i [] c a = absurd a
 image i (x ∷ xs) c a = elim a [ inl e ↦ inl (ap (nearness_of i) e) | inr b ↦ inr (image i xs c b) ]
 
 -- the candidate at a place is put to what was found
-module _ (i : Incident) (xs : List Candidate) (k : ℕ) (x : Candidate) (low : k < length xs) (is : x ≡ get_or xs k x) (q new : List Nearness) (put : new ≡ put_row nearness_cmp whole q (nearness_of i x)) where
-  pub more_only : ((y : Nearness) → Among y q → Among y (map (nearness_of i) xs)) → (y : Nearness) → Among y new → Among y (map (nearness_of i) xs)
+module _ (i : Incident) (xs : List Candidate) (k : ℕ) (x : Candidate) (low : k < length xs)
+    (is : x ≡ get_or xs k x) (q new : List Nearness)
+    (put : new ≡ put_row nearness_cmp whole q (nearness_of i x)) where
+  pub more_only : ((y : Nearness) → Among y q → Among y (map (nearness_of i) xs)) → (y : Nearness)
+      → Among y new → Among y (map (nearness_of i) xs)
   more_only f y a = elim (put_in q (nearness_of i x) y (subst (Among y) put a)) [
     | inl e ↦ subst (λ z. Among z (map (nearness_of i) xs)) (sym e) (image i xs x (among_item xs k x low is))
     | inr b ↦ f y b
   ]
 
-  pub more_there : ((c : Candidate) → Among c (take k xs) → Among (nearness_of i c) q) → (c : Candidate) → Among c (take (k + 1) xs) → Among (nearness_of i c) new
+  pub more_there : ((c : Candidate) → Among c (take k xs) → Among (nearness_of i c) q)
+      → (c : Candidate) → Among c (take (k + 1) xs) → Among (nearness_of i c) new
   more_there f c a = subst (Among (nearness_of i c)) (sym put) (put_keeps q (nearness_of i x) (nearness_of i c) (elim (among_taken xs k x c low is (subst (λ n. Among c (take n xs)) (add-one k) a)) [
     | inl t ↦ inr (f c t)
     | inr e ↦ inl (ap (nearness_of i) e)
   ]))
 
 -- of one order, and so of the other
-images_moved : (i : Incident) (xs ys : List Candidate) → ((c : Candidate) → Among c ys → Among c xs) → (y : Nearness) → Among y (map (nearness_of i) ys) → Among y (map (nearness_of i) xs)
+images_moved : (i : Incident) (xs ys : List Candidate)
+    → ((c : Candidate) → Among c ys → Among c xs) → (y : Nearness)
+    → Among y (map (nearness_of i) ys) → Among y (map (nearness_of i) xs)
 images_moved i xs [] f y a = absurd a
 images_moved i xs (z ∷ ys) f y a = elim a [
   | inl e ↦ subst (λ n. Among n (map (nearness_of i) xs)) (sym e) (image i xs z (f z (inl refl)))
   | inr b ↦ images_moved i xs ys (λ c g. f c (inr g)) y b
 ]
 
-pub searched_as : (n : ℕ) (i : Incident) (xs ys : List Candidate) (found : List Nearness) → AreByRing xs ys → IsSearched n i ys found → IsSearched n i xs found
+pub searched_as : (n : ℕ) (i : Incident) (xs ys : List Candidate) (found : List Nearness)
+    → AreByRing xs ys → IsSearched n i ys found → IsSearched n i xs found
 searched_as n i xs ys found order s = record {
   only = λ y a. images_moved i xs ys order.only y (s.only y a);
   there = λ c a. s.there c (order.there c a);

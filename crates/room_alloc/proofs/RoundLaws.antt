@@ -33,7 +33,8 @@ use Rattle.room_alloc.proofs.CandidateLaws.{candidates_so}
 use Rattle.room_alloc.proofs.FirstLaws.{among_either, among_left, among_right, first_then, same_first}
 
 -- ---- what holds of all candidates
-pub placed_more : (i : Incident) (xs : List Candidate) (x : Candidate) → ArePlaced i xs → IsPlaced i x → ArePlaced i (xs ++ x ∷ [])
+pub placed_more : (i : Incident) (xs : List Candidate) (x : Candidate) → ArePlaced i xs
+    → IsPlaced i x → ArePlaced i (xs ++ x ∷ [])
 placed_more i xs x f h c among = elim (among_either xs (x ∷ []) c among) [
   | inl g ↦ f c g
   | inr g ↦ elim g [ inl e ↦ subst (IsPlaced i) (sym e) h | inr none ↦ absurd none ]
@@ -51,30 +52,41 @@ alike Support Car e = cc
 alike Support Support e = refl
 
 module _ (d : ℕ) (i : Incident) (short : List Point) (k : Kind) (at : ℕ) where
-  of_kind : (vs : List Vehicle) → ((v : Vehicle) → Among v vs → v.kind ≡ k) → AreOfKind k (map (candidate_of d i short) vs)
+  of_kind : (vs : List Vehicle) → ((v : Vehicle) → Among v vs → v.kind ≡ k)
+      → AreOfKind k (map (candidate_of d i short) vs)
   of_kind [] f c h = absurd h
   of_kind (v ∷ vs) f c h = elim h [ inl e ↦ ap (λ (x : Candidate). x.vehicle.kind) e ∙ f v (inl refl) | inr g ↦ of_kind vs (λ u a. f u (inr a)) c g ]
 
-  pub are_of_kind : (vs : List Vehicle) (xs : List Candidate) → xs ≡ candidates_round d i short k at vs → AreOfKind k xs
+  pub are_of_kind : (vs : List Vehicle) (xs : List Candidate)
+      → xs ≡ candidates_round d i short k at vs → AreOfKind k xs
   are_of_kind vs xs e = subst (AreOfKind k) (sym e) (of_kind (filter (is_candidate d at k) vs) (λ v a. alike v.kind k (right_true (is_eligible d at v) (same_kind v.kind k) (among_filter (is_candidate d at k) vs v a).1)))
 
-  below : (c : Callsign) (vs : List Vehicle) → IsBelowAll callsign_cmp vehicle_key c vs → IsBelowAll callsign_cmp (λ (x : Candidate). x.vehicle.callsign) c (map (candidate_of d i short) vs)
+  below : (c : Callsign) (vs : List Vehicle) → IsBelowAll callsign_cmp vehicle_key c vs
+      → IsBelowAll callsign_cmp (λ (x : Candidate). x.vehicle.callsign) c
+      (map (candidate_of d i short) vs)
   below c [] h = tt
   below c (v ∷ vs) h = (h.0, below c vs h.1)
 
-  keyed : (vs : List Vehicle) → IsKeyed callsign_cmp vehicle_key vs → AreApart (map (candidate_of d i short) vs)
+  keyed : (vs : List Vehicle) → IsKeyed callsign_cmp vehicle_key vs
+      → AreApart (map (candidate_of d i short) vs)
   keyed [] h = tt
   keyed (v ∷ vs) h = (below v.callsign vs h.0, keyed vs h.1)
 
-  pub are_apart : (vs : List Vehicle) (xs : List Candidate) → IsKeyed callsign_cmp vehicle_key vs → xs ≡ candidates_round d i short k at vs → AreApart xs
+  pub are_apart : (vs : List Vehicle) (xs : List Candidate) → IsKeyed callsign_cmp vehicle_key vs
+      → xs ≡ candidates_round d i short k at vs → AreApart xs
   are_apart vs xs h e = subst AreApart (sym e) (keyed (filter (is_candidate d at k) vs) (keyed_filter callsign_cmp vehicle_key callsigns_total (is_candidate d at k) vs h))
 
-  as_proposed : (vs : List Vehicle) → map (proposal_at i) (map (candidate_of d i short) vs) ≡ map (proposal_by d i short) vs
+  as_proposed : (vs : List Vehicle)
+      → map (proposal_at i) (map (candidate_of d i short) vs) ≡ map (proposal_by d i short) vs
   as_proposed [] = refl
   as_proposed (v ∷ vs) = ap (λ ps. proposal_by d i short v ∷ ps) (as_proposed vs)
 
   -- the first few of the candidates are what is proposed, and that is one list
-  pub proposed_so : (s : DivisionRows) (n : ℕ) (xs : List Candidate) (few : List Proposal) → IsInOrder (unplanned s) → AreShort d at (unplanned s) short → n ≡ lacking d i (unplanned s) k → xs ≡ candidates_round d i short k at s.vehicles → AreFirst is_before n None (map (proposal_at i) xs) few → few ≡ proposed d i at (unplanned s) k
+  pub proposed_so : (s : DivisionRows) (n : ℕ) (xs : List Candidate) (few : List Proposal)
+      → IsInOrder (unplanned s) → AreShort d at (unplanned s) short
+      → n ≡ lacking d i (unplanned s) k → xs ≡ candidates_round d i short k at s.vehicles
+      → AreFirst is_before n None (map (proposal_at i) xs) few
+      → few ≡ proposed d i at (unplanned s) k
   proposed_so s n xs few order short_so count all first =
       let these : map (proposal_at i) xs ≡ candidates d i k at (unplanned s) = ap (λ ys. map (proposal_at i) ys) all ∙ (as_proposed (filter (is_candidate d at k) s.vehicles) ∙ candidates_so d at i k s short short_so) in
       one_proposed d i at (unplanned s) k few (proposed d i at (unplanned s) k)
@@ -107,23 +119,32 @@ module _ (i : Incident) where
 
   -- the proposals of a mark, of one candidate more
   module _ (x : Candidate) (us ws : List Candidate) where
-    all_keeping : (b : Bool) (y : Proposal) → (Among y (map (proposal_at i) us) → y.breaks ≡ false) → x.breaks ≡ b → Among y (map (proposal_at i) (cond (not b) (x ∷ us) us)) → y.breaks ≡ false
+    all_keeping : (b : Bool) (y : Proposal) → (Among y (map (proposal_at i) us) → y.breaks ≡ false)
+        → x.breaks ≡ b → Among y (map (proposal_at i) (cond (not b) (x ∷ us) us)) → y.breaks ≡ false
     all_keeping true y f e h = f h
     all_keeping false y f e h = elim h [ inl g ↦ ap (λ (p : Proposal). p.breaks) g ∙ e | inr g ↦ f g ]
 
-    all_breaking : (b : Bool) (y : Proposal) → (Among y (map (proposal_at i) ws) → y.breaks ≡ true) → x.breaks ≡ b → Among y (map (proposal_at i) (cond b (x ∷ ws) ws)) → y.breaks ≡ true
+    all_breaking : (b : Bool) (y : Proposal) → (Among y (map (proposal_at i) ws) → y.breaks ≡ true)
+        → x.breaks ≡ b → Among y (map (proposal_at i) (cond b (x ∷ ws) ws)) → y.breaks ≡ true
     all_breaking false y f e h = f h
     all_breaking true y f e h = elim h [ inl g ↦ ap (λ (p : Proposal). p.breaks) g ∙ e | inr g ↦ f g ]
 
-    one_of_both : (b : Bool) (y : Proposal) → Among y (map (proposal_at i) us) ⊎ Among y (map (proposal_at i) ws) → Among y (map (proposal_at i) (cond (not b) (x ∷ us) us)) ⊎ Among y (map (proposal_at i) (cond b (x ∷ ws) ws))
+    one_of_both : (b : Bool) (y : Proposal)
+        → Among y (map (proposal_at i) us) ⊎ Among y (map (proposal_at i) ws)
+        → Among y (map (proposal_at i) (cond (not b) (x ∷ us) us))
+        ⊎ Among y (map (proposal_at i) (cond b (x ∷ ws) ws))
     one_of_both true y h = elim h [ inl g ↦ inl g | inr g ↦ inr (inr g) ]
     one_of_both false y h = elim h [ inl g ↦ inl (inr g) | inr g ↦ inr g ]
 
-    itself : (b : Bool) → Among (proposal_at i x) (map (proposal_at i) (cond (not b) (x ∷ us) us)) ⊎ Among (proposal_at i x) (map (proposal_at i) (cond b (x ∷ ws) ws))
+    itself : (b : Bool) → Among (proposal_at i x) (map (proposal_at i) (cond (not b) (x ∷ us) us))
+        ⊎ Among (proposal_at i x) (map (proposal_at i) (cond b (x ∷ ws) ws))
     itself true = inr (inl refl)
     itself false = inl (inl refl)
 
-    both_count : (b : Bool) (n : ℕ) → length (map (proposal_at i) us) + length (map (proposal_at i) ws) ≡ n → length (map (proposal_at i) (cond (not b) (x ∷ us) us)) + length (map (proposal_at i) (cond b (x ∷ ws) ws)) ≡ suc n
+    both_count : (b : Bool) (n : ℕ) → length (map (proposal_at i) us) + length
+        (map (proposal_at i) ws) ≡ n → length
+        (map (proposal_at i) (cond (not b) (x ∷ us) us)) + length
+        (map (proposal_at i) (cond b (x ∷ ws) ws)) ≡ suc n
     both_count true n e = omega (arith, e)
     both_count false n e = omega (arith, e)
 
@@ -135,26 +156,32 @@ module _ (i : Incident) where
   breaking [] y h = absurd h
   breaking (x ∷ xs) y h = all_breaking x (filter (is_marked false) xs) (filter (is_marked true) xs) x.breaks y (breaking xs y) refl h
 
-  either : (xs : List Candidate) (y : Proposal) → Among y (map (proposal_at i) xs) → Among y (marked false xs) ⊎ Among y (marked true xs)
+  either : (xs : List Candidate) (y : Proposal) → Among y (map (proposal_at i) xs)
+      → Among y (marked false xs) ⊎ Among y (marked true xs)
   either [] y h = absurd h
   either (x ∷ xs) y h = elim h [
     | inl e ↦ subst (λ z. Among z (marked false (x ∷ xs)) ⊎ Among z (marked true (x ∷ xs))) (sym e) (itself x (filter (is_marked false) xs) (filter (is_marked true) xs) x.breaks)
     | inr g ↦ one_of_both x (filter (is_marked false) xs) (filter (is_marked true) xs) x.breaks y (either xs y g)
   ]
 
-  images_among : (b : Bool) (xs : List Candidate) (y : Proposal) → Among y (marked b xs) → Among y (map (proposal_at i) xs)
+  images_among : (b : Bool) (xs : List Candidate) (y : Proposal) → Among y (marked b xs)
+      → Among y (map (proposal_at i) xs)
   images_among b [] y h = absurd h
   images_among b (x ∷ xs) y h = (elim (is_marked b x) as (λ (m : Bool). Among y (map (proposal_at i) (cond m (x ∷ filter (is_marked b) xs) (filter (is_marked b) xs))) → Among y (map (proposal_at i) (x ∷ xs))) [
     | true ↦ λ g. elim g [ inl e ↦ inl e | inr f ↦ inr (images_among b xs y f) ]
     | false ↦ λ g. inr (images_among b xs y g)
   ]) h
 
-  count_both : (xs : List Candidate) → length (marked false xs) + length (marked true xs) ≡ length (map (proposal_at i) xs)
+  count_both : (xs : List Candidate)
+      → length (marked false xs) + length (marked true xs) ≡ length (map (proposal_at i) xs)
   count_both [] = refl
   count_both (x ∷ xs) = both_count x (filter (is_marked false) xs) (filter (is_marked true) xs) x.breaks (length (map (proposal_at i) xs)) (count_both xs)
 
   -- the first few that don't break cover, and then as many of the others as are left
-  pub first_of_both : (n : ℕ) (xs : List Candidate) (ps qs : List Proposal) → AreFirst is_before n None (marked false xs) ps → AreFirst is_before (n - length ps) None (marked true xs) qs → AreFirst is_before n None (map (proposal_at i) xs) (ps ++ qs)
+  pub first_of_both : (n : ℕ) (xs : List Candidate) (ps qs : List Proposal)
+      → AreFirst is_before n None (marked false xs) ps
+      → AreFirst is_before (n - length ps) None (marked true xs) qs
+      → AreFirst is_before n None (map (proposal_at i) xs) (ps ++ qs)
   first_of_both n xs ps qs h g =
       same_first is_before apart steps n (marked false xs ++ marked true xs) (map (proposal_at i) xs) (ps ++ qs)
       (λ y a. elim (among_either (marked false xs) (marked true xs) y a) [ inl b ↦ images_among false xs y b | inr b ↦ images_among true xs y b ])

@@ -37,7 +37,8 @@ apart x y e f = let turned : nearness_cmp y x ≡ Greater = nearness_total.antis
 steps : (x y z : Nearness) → is_nearer x y ≡ true → is_nearer y z ≡ true → is_nearer x z ≡ true
 steps x y z e f = ap is_lt (nearness_total.trans x y z (less _ e) (less _ f))
 
-rising_after : (x : Nearness) (q : List Nearness) → IsBelowAll nearness_cmp whole x q → IsKeyed nearness_cmp whole q → IsRising is_nearer (Some x) q
+rising_after : (x : Nearness) (q : List Nearness) → IsBelowAll nearness_cmp whole x q
+    → IsKeyed nearness_cmp whole q → IsRising is_nearer (Some x) q
 rising_after x [] h g = tt
 rising_after x (y ∷ q) h g = (ap is_lt h.0, rising_after y q g.0 g.1)
 
@@ -49,7 +50,9 @@ nearer : (x y : Nearness) → x.distance < y.distance → is_nearer x y ≡ true
 nearer x y h = ap (λ o. is_lt (ordering_then o (callsign_cmp x.callsign y.callsign))) (sym (nat_cmp_is x.distance y.distance Less h))
 
 -- ---- where the worst of the first few is nearer than the floor, each of them is before what is no nearer
-kept_before : (n : ℕ) (q : List Nearness) (f : ℕ) (y : Nearness) → IsKeyed nearness_cmp whole q → f ≤ y.distance → is_below (first (drop n q)) f ≡ true → (suc n ≤ length q) × AreBefore is_nearer (take (suc n) q) y
+kept_before : (n : ℕ) (q : List Nearness) (f : ℕ) (y : Nearness) → IsKeyed nearness_cmp whole q
+    → f ≤ y.distance → is_below (first (drop n q)) f ≡ true
+    → (suc n ≤ length q) × AreBefore is_nearer (take (suc n) q) y
 kept_before zero [] f y h l t = cc
 kept_before (suc n) [] f y h l t = cc
 kept_before zero (x ∷ q) f y h l t = let near = ltb-true x.distance f t in (omega arith, (nearer x y (omega arith), tt))
@@ -58,7 +61,9 @@ kept_before (suc n) (x ∷ (z ∷ q)) f y h l t =
     let rest = kept_before n (z ∷ q) f y h.1 l t in
     (omega (arith, rest.0), (steps x z y (ap is_lt h.0.0) rest.1.0, rest.1))
 
-enough_before : (n k : ℕ) (q : List Nearness) (y : Nearness) → IsKeyed nearness_cmp whole q → ring_floor k ≤ y.distance → is_enough n k q ≡ true → (n ≤ length q) × AreBefore is_nearer (take n q) y
+enough_before : (n k : ℕ) (q : List Nearness) (y : Nearness) → IsKeyed nearness_cmp whole q
+    → ring_floor k ≤ y.distance → is_enough n k q ≡ true
+    → (n ≤ length q) × AreBefore is_nearer (take n q) y
 enough_before zero k q y h l t = (omega arith, tt)
 enough_before (suc n) k q y h l t = kept_before n q (ring_floor k) y h l t
 
@@ -73,14 +78,17 @@ record IsOf (i : Incident) (xs : List Candidate) (y : Nearness) : Type 0 where
   there : Among candidate xs
   same : y ≡ nearness_of i candidate
 
-found_of : (i : Incident) (xs : List Candidate) (y : Nearness) → Among y (map (nearness_of i) xs) → IsOf i xs y
+found_of : (i : Incident) (xs : List Candidate) (y : Nearness) → Among y (map (nearness_of i) xs)
+    → IsOf i xs y
 found_of i [] y h = absurd h
 found_of i (x ∷ xs) y h = elim h [ inl e ↦ record { candidate = x; there = inl refl; same = e } | inr e ↦ let m = found_of i xs y e in record { candidate = m.candidate; there = inr m.there; same = m.same } ]
 
 abbrev name_of : Candidate → Callsign
 name_of c = c.vehicle.callsign
 
-not_below : (i : Incident) (x : Candidate) (xs : List Candidate) → IsBelowAll callsign_cmp name_of x.vehicle.callsign xs → Among (nearness_of i x) (map (nearness_of i) xs) → ⊥
+not_below : (i : Incident) (x : Candidate) (xs : List Candidate)
+    → IsBelowAll callsign_cmp name_of x.vehicle.callsign xs
+    → Among (nearness_of i x) (map (nearness_of i) xs) → ⊥
 not_below i x [] h a = a
 not_below i x (y ∷ ys) h a = elim a [
   | inl e ↦
@@ -96,7 +104,10 @@ distinct : (i : Incident) (xs : List Candidate) → AreApart xs → AreDistinct 
 distinct i [] h = tt
 distinct i (x ∷ xs) h = (not_below i x xs h.0, distinct i xs h.1)
 
-search_first : (n : ℕ) (b : Bool) (i : Incident) (xs : List Candidate) (found : List Nearness) → ArePlaced i xs → AreApart xs → IsKeyed nearness_cmp whole found → IsSearched n i (filter (is_marked b) xs) found → AreFirst is_nearer n None (map (nearness_of i) (filter (is_marked b) xs)) (take n found)
+search_first : (n : ℕ) (b : Bool) (i : Incident) (xs : List Candidate) (found : List Nearness)
+    → ArePlaced i xs → AreApart xs → IsKeyed nearness_cmp whole found
+    → IsSearched n i (filter (is_marked b) xs) found
+    → AreFirst is_nearer n None (map (nearness_of i) (filter (is_marked b) xs)) (take n found)
 search_first n b i xs found placed separate in_order s =
     let marked = filter (is_marked b) xs in
     let past = λ (y : Nearness) (h : Among y (map (nearness_of i) marked)). let m = found_of i marked y h in
@@ -116,8 +127,10 @@ search_first n b i xs found placed separate in_order s =
     ])
 
 -- ---- the first few of a list, and of its images in order
-module _ {X Y : Type 0} (f : Y → X) (lt : X → X → Bool) (before : Y → Y → Bool) (alike : (x y : Y) → lt (f x) (f y) ≡ before x y) where
-  all_after : {Z : Type 0} (below : Z → Z → Bool) (zs : List Z) → filter (comes_after below None) zs ≡ zs
+module _ {X Y : Type 0} (f : Y → X) (lt : X → X → Bool) (before : Y → Y → Bool)
+    (alike : (x y : Y) → lt (f x) (f y) ≡ before x y) where
+  all_after : {Z : Type 0} (below : Z → Z → Bool) (zs : List Z)
+      → filter (comes_after below None) zs ≡ zs
   all_after below [] = refl
   all_after below (z ∷ zs) = ap (λ ys. z ∷ ys) (all_after below zs)
 
@@ -133,7 +146,8 @@ module _ {X Y : Type 0} (f : Y → X) (lt : X → X → Bool) (before : Y → Y 
   among_images x [] h = absurd h
   among_images x (z ∷ ys) h = elim h [ inl e ↦ (z, inl refl, e) | inr k ↦ let g = among_images x ys k in (g.0, inr g.1, g.2) ]
 
-  rising_images : (z : Y) (ps : List Y) → IsRising before (Some z) ps → IsRising lt (Some (f z)) (map f ps)
+  rising_images : (z : Y) (ps : List Y) → IsRising before (Some z) ps
+      → IsRising lt (Some (f z)) (map f ps)
   rising_images z [] h = tt
   rising_images z (p ∷ ps) h = (alike z p ∙ h.0, rising_images p ps h.1)
 
@@ -145,7 +159,8 @@ module _ {X Y : Type 0} (f : Y → X) (lt : X → X → Bool) (before : Y → Y 
   before_images [] y h = tt
   before_images (p ∷ ps) y h = (alike p y ∙ h.0, before_images ps y h.1)
 
-  first_images : (n : ℕ) (ys ps : List Y) → AreFirst before n None ys ps → AreFirst lt n None (map f ys) (map f ps)
+  first_images : (n : ℕ) (ys ps : List Y) → AreFirst before n None ys ps
+      → AreFirst lt n None (map f ys) (map f ps)
   first_images n ys ps h = record {
     count = same_count ps ∙ (h.count ∙ ap (λ m. min n m) (ap length (all_after before ys) ∙ (sym (same_count ys) ∙ ap length (sym (all_after lt (map f ys))))));
     members = λ x a. let g = among_images x ps a in (subst (λ z. Among z (map f ys)) (sym g.2) (image_among g.0 ys (h.members g.0 g.1).0), refl);
@@ -157,7 +172,8 @@ module _ {X Y : Type 0} (f : Y → X) (lt : X → X → Bool) (before : Y → Y 
   }
 
 -- ---- as proposals
-by_nearness : (b : Bool) (k : Kind) (x y : Nearness) → is_before (proposal_with b k x) (proposal_with b k y) ≡ is_nearer x y
+by_nearness : (b : Bool) (k : Kind) (x y : Nearness)
+    → is_before (proposal_with b k x) (proposal_with b k y) ≡ is_nearer x y
 by_nearness true k x y = refl
 by_nearness false k x y = refl
 
@@ -169,20 +185,28 @@ mark_of false c e = falses c.breaks e
     falses true e = cc
     falses false e = refl
 
-as_proposal : (b : Bool) (k : Kind) (i : Incident) (c : Candidate) → c.breaks ≡ b → c.vehicle.kind ≡ k → proposal_with b k (nearness_of i c) ≡ proposal_at i c
+as_proposal : (b : Bool) (k : Kind) (i : Incident) (c : Candidate) → c.breaks ≡ b
+    → c.vehicle.kind ≡ k → proposal_with b k (nearness_of i c) ≡ proposal_at i c
 as_proposal b k i c e f = ap (λ (m : Bool). record (proposal_at i c) { breaks = m; kind = k }) (sym e) ∙ ap (λ (m : Kind). record (proposal_at i c) { kind = m }) (sym f)
 
-map_map : {X Y Z : Type 0} (g : Y → Z) (f : X → Y) (xs : List X) → map g (map f xs) ≡ map (λ x. g (f x)) xs
+map_map : {X Y Z : Type 0} (g : Y → Z) (f : X → Y) (xs : List X)
+    → map g (map f xs) ≡ map (λ x. g (f x)) xs
 map_map g f [] = refl
 map_map g f (x ∷ xs) = ap (λ zs. g (f x) ∷ zs) (map_map g f xs)
 
-as_proposals : (b : Bool) (k : Kind) (i : Incident) (xs : List Candidate) → AreOfKind k xs → map (proposal_with b k) (map (nearness_of i) (filter (is_marked b) xs)) ≡ map (proposal_at i) (filter (is_marked b) xs)
+as_proposals : (b : Bool) (k : Kind) (i : Incident) (xs : List Candidate) → AreOfKind k xs
+    → map (proposal_with b k) (map (nearness_of i) (filter (is_marked b) xs))
+    ≡ map (proposal_at i) (filter (is_marked b) xs)
 as_proposals b k i xs kinds =
     map_map (proposal_with b k) (nearness_of i) (filter (is_marked b) xs)
     ∙ map_among (λ c. proposal_with b k (nearness_of i c)) (proposal_at i) (filter (is_marked b) xs)
     (λ c among. let m = among_filter (is_marked b) xs c among in as_proposal b k i c (mark_of b c m.1) (kinds c m.0))
 
-pub nearest_first : (n : ℕ) (b : Bool) (k : Kind) (i : Incident) (xs : List Candidate) (found : List Nearness) → ArePlaced i xs → AreOfKind k xs → AreApart xs → IsKeyed nearness_cmp whole found → IsSearched n i (filter (is_marked b) xs) found → AreFirst is_before n None (map (proposal_at i) (filter (is_marked b) xs)) (map (proposal_with b k) (take n found))
+pub nearest_first : (n : ℕ) (b : Bool) (k : Kind) (i : Incident) (xs : List Candidate)
+    (found : List Nearness) → ArePlaced i xs → AreOfKind k xs → AreApart xs
+    → IsKeyed nearness_cmp whole found → IsSearched n i (filter (is_marked b) xs) found
+    → AreFirst is_before n None (map (proposal_at i) (filter (is_marked b) xs))
+    (map (proposal_with b k) (take n found))
 nearest_first n b k i xs found placed kinds separate in_order s =
     subst (λ ps. AreFirst is_before n None ps (map (proposal_with b k) (take n found))) (as_proposals b k i xs kinds)
     (first_images (proposal_with b k) is_before is_nearer (by_nearness b k) n (map (nearness_of i) (filter (is_marked b) xs)) (take n found) (search_first n b i xs found placed separate in_order s))

@@ -34,11 +34,17 @@ AreShort d at r short = (post : Option ℕ) → has_point d short post ≡ break
 
 -- an eligible vehicle, which breaks cover where it is posted to a short point
 abbrev pub proposal_by : ℕ → Incident → List Point → Vehicle → Proposal
-proposal_by d i short v = record { breaks = has_point d short v.post; distance = distance v.place i.place; kind = v.kind; callsign = v.callsign }
+proposal_by d i short v = record {
+  breaks = has_point d short v.post;
+  distance = distance v.place i.place;
+  kind = v.kind;
+  callsign = v.callsign;
+}
 
 -- an eligible vehicle of the kind
 abbrev pub is_candidate : ℕ → ℕ → Kind → Vehicle → Bool
 is_candidate d at k v = is_eligible d at v && same_kind v.kind k
 
 abbrev pub candidates_by : ℕ → Incident → List Point → Kind → ℕ → List Vehicle → List Proposal
-candidates_by d i short k at vehicles = map (proposal_by d i short) (filter (is_candidate d at k) vehicles)
+candidates_by d i short k at vehicles =
+    map (proposal_by d i short) (filter (is_candidate d at k) vehicles)

@@ -9,7 +9,8 @@ use Rattle.room_alloc.specs.declared.nearness.Nearness.{Nearness}
 
 -- the nearer, and then by callsign
 abbrev pub nearness_cmp : Nearness → Nearness → Ordering
-nearness_cmp a b = ordering_then (nat_cmp a.distance b.distance) (callsign_cmp a.callsign b.callsign)
+nearness_cmp a b =
+    ordering_then (nat_cmp a.distance b.distance) (callsign_cmp a.callsign b.callsign)
 
 abbrev pub is_nearer : Nearness → Nearness → Bool
 is_nearer a b = is_lt (nearness_cmp a b)
@@ -20,4 +21,9 @@ whole n = n
 
 -- a vehicle of a kind that is so near, as it may be proposed
 abbrev pub proposal_with : Bool → Kind → Nearness → Proposal
-proposal_with breaks kind n = record { breaks = breaks; distance = n.distance; kind = kind; callsign = n.callsign }
+proposal_with breaks kind n = record {
+  breaks = breaks;
+  distance = n.distance;
+  kind = kind;
+  callsign = n.callsign;
+}

@@ -11,9 +11,11 @@ use Rattle.room_alloc.specs.Nearness.{nearness_cmp}
 use Rattle.room_alloc.specs.declared.nearness.Nearness.{Nearness}
 
 pub nearness_total : IsTotalOrder nearness_cmp
-nearness_total = then_total (on_total (λ (n : Nearness). n.distance) nat_cmp_total) (on_total (λ (n : Nearness). n.callsign) callsigns_total)
+nearness_total = then_total (on_total (λ (n : Nearness). n.distance) nat_cmp_total)
+    (on_total (λ (n : Nearness). n.callsign) callsigns_total)
 
 pub exact_nearness : CmpEqualImpliesEq nearness_cmp
 exact_nearness a b h =
     ap (λ (p : ℕ × Callsign). record { distance = p.0; callsign = p.1 })
-    (exact_pairs nat_cmp callsign_cmp exact_unsigned exact_callsigns (a.distance, a.callsign) (b.distance, b.callsign) h)
+    (exact_pairs nat_cmp callsign_cmp exact_unsigned exact_callsigns (a.distance, a.callsign)
+    (b.distance, b.callsign) h)

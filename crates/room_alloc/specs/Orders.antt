@@ -11,7 +11,9 @@ use Rattle.room_alloc.specs.declared.orders.Mobilised.{Mobilised}
 
 -- the four rows are put, and the order's number and its vehicle told; or the same refusal is given
 abbrev pub as_mobilised : Result Mobilised Refusal → Verdict
-as_mobilised (Ok m) = tell (answer.Mobilised m.turn.order m.vehicle.callsign) (PutIncident m.incident ∷ PutVehicle m.vehicle ∷ PutTurn m.turn ∷ PutAssignment m.assignment ∷ [])
+as_mobilised (Ok m) = tell (answer.Mobilised m.turn.order m.vehicle.callsign)
+    (PutIncident m.incident ∷ PutVehicle m.vehicle ∷ PutTurn m.turn ∷ PutAssignment m.assignment
+    ∷ [])
 as_mobilised (Err e) = Err e
 
 abbrev pub put_turn : Option Turn → List Change

@@ -10,13 +10,15 @@ use Rattle.room_model.specs.Decisions.{Verdict, show}
 use Rattle.room_model.specs.Proposals.{AreProposed}
 use Rattle.room_model.specs.Room.{Room}
 
--- the proposals are what is told; or the same refusal is given, or memory was refused to what would be told
+-- the proposals are what is told; or the same refusal is given, or memory was refused to what would
+-- be told
 abbrev pub AreTold : Result (List Proposal) Refusal → Verdict → Type 0
 AreTold (Ok ps) decided = decided ≡ show (answer.Proposals ps)
 AreTold (Err e) decided = (decided ≡ Err e) ⊎ ((e ≡ Memory) × (is_ok decided ≡ true))
 
 -- the proposals for an incident: those of each kind, one kind after another
-pub record AreForIncident (d : ℕ) (i : Incident) (at : ℕ) (r : Room) (ps : List Proposal) : Type 0 where
+pub record AreForIncident (d : ℕ) (i : Incident) (at : ℕ) (r : Room)
+    (ps : List Proposal) : Type 0 where
   pub ambulances : List Proposal
   pub cars : List Proposal
   pub support : List Proposal

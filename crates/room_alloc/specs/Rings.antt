@@ -15,17 +15,30 @@ use Rattle.room_alloc.specs.declared.nearness.Nearness.{Nearness}
 
 -- ---- candidates
 abbrev pub candidate_of : ℕ → Incident → List Point → Vehicle → Candidate
-candidate_of d i short v = record { ring = ring_of (cell_of v.place) (cell_of i.place); breaks = has_point d short v.post; vehicle = v }
+candidate_of d i short v = record {
+  ring = ring_of (cell_of v.place) (cell_of i.place);
+  breaks = has_point d short v.post;
+  vehicle = v;
+}
 
 abbrev pub candidates_round : ℕ → Incident → List Point → Kind → ℕ → List Vehicle → List Candidate
-candidates_round d i short k at vehicles = map (candidate_of d i short) (filter (is_candidate d at k) vehicles)
+candidates_round d i short k at vehicles =
+    map (candidate_of d i short) (filter (is_candidate d at k) vehicles)
 
 abbrev pub nearness_of : Incident → Candidate → Nearness
-nearness_of i c = record { distance = distance c.vehicle.place i.place; callsign = c.vehicle.callsign }
+nearness_of i c = record {
+  distance = distance c.vehicle.place i.place;
+  callsign = c.vehicle.callsign;
+}
 
 -- the candidate as it may be proposed
 abbrev pub proposal_at : Incident → Candidate → Proposal
-proposal_at i c = record { breaks = c.breaks; distance = distance c.vehicle.place i.place; kind = c.vehicle.kind; callsign = c.vehicle.callsign }
+proposal_at i c = record {
+  breaks = c.breaks;
+  distance = distance c.vehicle.place i.place;
+  kind = c.vehicle.kind;
+  callsign = c.vehicle.callsign;
+}
 
 -- the candidate breaks cover, or does not
 abbrev pub is_marked : Bool → Candidate → Bool
@@ -76,6 +89,7 @@ pub record IsPast (n : ℕ) (found : List Nearness) (c : Candidate) : Type 0 whe
   pub enough : is_enough n ring found ≡ true
 
 -- what was found are candidates; each other one stands past the end
-pub record IsSearched (n : ℕ) (i : Incident) (xs : List Candidate) (found : List Nearness) : Type 0 where
+pub record IsSearched (n : ℕ) (i : Incident) (xs : List Candidate)
+    (found : List Nearness) : Type 0 where
   pub only : (y : Nearness) → Among y found → Among y (map (nearness_of i) xs)
   pub there : (c : Candidate) → Among c xs → Among (nearness_of i c) found ⊎ IsPast n found c

@@ -19,14 +19,16 @@ use Rattle.room_model.specs.WellFormed.{IsWellFormed}
 use Rattle.room_model.specs.Working.{working}
 use Rattle.room_core.specs.Deciding.{AreRead}
 
-module _ (d p : ℕ) (f : CallForm) (at : ℕ) (r : Room) (formed : IsWellFormed r) (none : kept_call p f.serial r ≡ None) (placed : division_of r.plan f.place ≡ Some d) where
+module _ (d p : ℕ) (f : CallForm) (at : ℕ) (r : Room) (formed : IsWellFormed r)
+    (none : kept_call p f.serial r ≡ None) (placed : division_of r.plan f.place ≡ Some d) where
   -- nor is it among some of the calls
   not_among : (q : Call → Bool) → keep q (row_at pair_cmp call_key r.calls (p, f.serial)) ≡ None
   unfolding kept_call
   not_among q = ap (keep q) none
 
   -- by the rows that it reads it is decided as a call in its division
-  by_work : take_call (new_call p f at) r ≡ call_in d (new_call p f at) (working d (ask.Call f) at r)
+  by_work : take_call (new_call p f at) r
+      ≡ call_in d (new_call p f at) (working d (ask.Call f) at r)
   unfolding kept_call
   by_work = sym (call_by_working d r formed p f at none placed) ∙ taken_in d (new_call p f at) (working d (ask.Call f) at r) (row_filter pair_cmp call_key pairs_total _ r.calls (p, f.serial) formed.order.calls ∙ not_among _) placed
 
@@ -35,14 +37,17 @@ module _ (d p : ℕ) (f : CallForm) (at : ℕ) (r : Room) (formed : IsWellFormed
   unfolding kept_call
   by_share = sym (call_by_share d r formed p f at none placed) ∙ taken_in d (new_call p f at) (own d r) (row_filter pair_cmp call_key pairs_total _ r.calls (p, f.serial) formed.order.calls ∙ not_among _) placed
 
-  by_read : (rows : Room) → AreRead d (ask.Call f) at rows r → take_call (new_call p f at) r ≡ call_in d (new_call p f at) rows
+  by_read : (rows : Room) → AreRead d (ask.Call f) at rows r
+      → take_call (new_call p f at) r ≡ call_in d (new_call p f at) rows
   by_read rows read = elim read [
     | inl e ↦ by_work ∙ sym (ap (call_in d (new_call p f at)) e)
     | inr e ↦ by_share ∙ sym (ap (call_in d (new_call p f at)) e)
   ]
 
 -- the same of a call that is of this form
-pub told_by : (d : ℕ) (new : NewCall) (r : Room) (f : CallForm) (rows : Room) → IsWellFormed r → new ≡ new_call new.position f new.at → kept_call new.position f.serial r ≡ None
-    → division_of r.plan f.place ≡ Some d → AreRead d (ask.Call f) new.at rows r → take_call new r ≡ call_in d new rows
+pub told_by : (d : ℕ) (new : NewCall) (r : Room) (f : CallForm) (rows : Room) → IsWellFormed r
+    → new ≡ new_call new.position f new.at → kept_call new.position f.serial r ≡ None
+    → division_of r.plan f.place ≡ Some d → AreRead d (ask.Call f) new.at rows r
+    → take_call new r ≡ call_in d new rows
 told_by d new r f rows formed same none placed read =
     ap (λ n. take_call n r) same ∙ by_read d new.position f new.at r formed none placed rows read ∙ ap (λ n. call_in d n rows) (sym same)

@@ -13,7 +13,8 @@ use Rattle.room_types.specs.declared.answers.Answer.TheVariants as answer
 use Rattle.room_types.specs.declared.asks.Ask.TheVariants as ask
 use Rattle.room_types.specs.declared.refusals.Refusal.TheVariants as refusal
 
--- The decision and a refusal are the machine's. Memory may be refused in their place, and then nothing is decided.
+-- The decision and a refusal are the machine's. Memory may be refused in their place, and then
+-- nothing is decided.
 abbrev pub Decides : Verdict → Result Decision Refusal → Type 0
 Decides wanted (Ok x) = wanted ≡ Ok x
 Decides wanted (Err e) = (e ≡ refusal.Memory) ⊎ (wanted ≡ Err e)
@@ -22,11 +23,13 @@ Decides wanted (Err e) = (e ≡ refusal.Memory) ⊎ (wanted ≡ Err e)
 abbrev pub AreRead : ℕ → Ask → ℕ → Room → Room → Type 0
 AreRead d a at rows r = (rows ≡ working d a at r) ⊎ (rows ≡ own d r)
 
--- The report that a crew's ask reads has this number. An order reads none, so that any number serves.
+-- The report that a crew's ask reads has this number. An order reads none, so that any number
+-- serves.
 abbrev pub IsInHand : Ask → ℕ → Type 0
 IsInHand (ask.Report p) n = n ≡ p.number
 IsInHand a n = Unit {0}
 
 -- a kept report gets its kept answer, and its number no other content
 abbrev pub again : Report → Press → Verdict
-again k p = refuse_if (not (same_press k p)) refusal.NumberReused (show (answer.Reported k.number k.outcome k.status))
+again k p = refuse_if (not (same_press k p)) refusal.NumberReused
+    (show (answer.Reported k.number k.outcome k.status))

@@ -29,6 +29,7 @@ pub same_turn_keeps : (t : Option Turn) → TurnKeepsMoments t t
 same_turn_keeps None = refl
 same_turn_keeps (Some t) = search stays
 
-pub turn_keeps : (b : Button) (at : ℕ) (t : Option Turn) → TurnKeepsMoments t (option_map (turn_after b at) t)
+pub turn_keeps : (b : Button) (at : ℕ) (t : Option Turn)
+    → TurnKeepsMoments t (option_map (turn_after b at) t)
 turn_keeps b at None = refl
 turn_keeps b at (Some t) = keeps b at t

@@ -27,7 +27,8 @@ use Rattle.room_model.specs.WellFormed.{IsWellFormed, LoanAgrees, OpenAgrees, Tu
 use Rattle.room_fleet.specs.Reported.{AreHolders, acted, answered, changes_acted, changes_of, goes_back, put_turn, reported, reported_as}
 
 -- ---- the changes are those of the rows that differ
-turn_put : (b : Button) (at : ℕ) (t : Option Turn) → put_turn (option_map (turn_after b at) t) ≡ turn_changes b at t
+turn_put : (b : Button) (at : ℕ) (t : Option Turn)
+    → put_turn (option_map (turn_after b at) t) ≡ turn_changes b at t
 turn_put b at None = refl
 turn_put b at (Some t) = refl
 
@@ -35,22 +36,29 @@ loan_dropped : (b : Bool) (l : Loan) → is_none (cond b None (Some l)) ≡ b
 loan_dropped false l = refl
 loan_dropped true l = refl
 
-loan_over : (home : Bool) (at : ℕ) (l : Option Loan) → is_some l && is_none (cond (home && is_due at l) None l) ≡ (home && is_due at l)
+loan_over : (home : Bool) (at : ℕ) (l : Option Loan)
+    → is_some l && is_none (cond (home && is_due at l) None l) ≡ (home && is_due at l)
 loan_over false at None = refl
 loan_over true at None = refl
 loan_over home at (Some l) = loan_dropped (home && is_due at (Some l)) l
 
-acts_so : (x : CrewRows) (p : Press) (at : ℕ) (o : Outcome) → report_acts x.vehicle x.turn x.loan p at o (goes_back x p at) ≡ changes_acted x (acted x p at o)
+acts_so : (x : CrewRows) (p : Press) (at : ℕ) (o : Outcome)
+    → report_acts x.vehicle x.turn x.loan p at o (goes_back x p at)
+    ≡ changes_acted x (acted x p at o)
 acts_so x p at o = rw (turn_put p.button at x.turn) (rw (loan_over (is_home p.button) at x.loan) refl)
 
-made_so : (x : CrewRows) (p : Press) (at : ℕ) (o : Outcome) → report_made x.vehicle x.turn x.loan p at o ≡ tell (answered (reported_as x p at o)) (changes_of x (reported_as x p at o))
+made_so : (x : CrewRows) (p : Press) (at : ℕ) (o : Outcome)
+    → report_made x.vehicle x.turn x.loan p at o
+    ≡ tell (answered (reported_as x p at o)) (changes_of x (reported_as x p at o))
 made_so x p at Normal = ap (tell (answered (acted x p at Normal))) (acts_so x p at Normal)
 made_so x p at Skipped = ap (tell (answered (acted x p at Skipped))) (acts_so x p at Skipped)
 made_so x p at Wrong = refl
 made_so x p at Late = refl
 made_so x p at Stale = refl
 
-pub decided_so : (x : CrewRows) (r : Room) (p : Press) (at : ℕ) → AreHolders r x → report_in x.vehicle.holder x.vehicle.callsign p at r ≡ tell (answered (reported x p at)) (changes_of x (reported x p at))
+pub decided_so : (x : CrewRows) (r : Room) (p : Press) (at : ℕ) → AreHolders r x
+    → report_in x.vehicle.holder x.vehicle.callsign p at r
+    ≡ tell (answered (reported x p at)) (changes_of x (reported x p at))
 unfolding report_in
 decided_so x r p at rows =
     ap (λ v. report_held v (open_turn x.vehicle.holder x.vehicle.callsign r) (borrowed x.vehicle.holder x.vehicle.callsign r) p at) rows.vehicle
@@ -59,7 +67,8 @@ decided_so x r p at rows =
     ∙ made_so x p at (outcome_of x.vehicle x.turn p)))
 
 -- ---- a crew's rows of a well-formed room are its holder's
-module _ (c : Callsign) (n : ℕ) (r : Room) (x : CrewRows) (formed : IsWellFormed r) (rows : AreCrewRows c n r x) where
+module _ (c : Callsign) (n : ℕ) (r : Room) (x : CrewRows) (formed : IsWellFormed r)
+    (rows : AreCrewRows c n r x) where
   named : x.vehicle.callsign ≡ c
   named = subst (λ o. IfSome o (λ v. v.callsign ≡ c)) rows.vehicle (row_key callsign_cmp vehicle_key callsigns_total exact_callsigns r.vehicles c)
 
@@ -67,7 +76,8 @@ module _ (c : Callsign) (n : ℕ) (r : Room) (x : CrewRows) (formed : IsWellForm
   unfolding held
   is_held = ap (keep (λ v. v.holder == x.vehicle.holder)) rows.vehicle ∙ ap (λ b. cond b (Some x.vehicle) None) (eq-eqb x.vehicle.holder x.vehicle.holder refl)
 
-  borrower_kept : (v : Vehicle) (l : Option Loan) → LoanAgrees (Some v) l → keep (λ k. k.borrower == v.holder) l ≡ l
+  borrower_kept : (v : Vehicle) (l : Option Loan) → LoanAgrees (Some v) l
+      → keep (λ k. k.borrower == v.holder) l ≡ l
   borrower_kept v None h = refl
   borrower_kept v (Some l) h = rw (eq-eqb l.borrower v.holder h.1) refl
 
@@ -82,19 +92,22 @@ module _ (c : Callsign) (n : ℕ) (r : Room) (x : CrewRows) (formed : IsWellForm
   agreed m = subst (λ o. TurnAgrees o m (turn_of m)) rows.vehicle (formed.turns c m)
 
   -- an open turn is of the last order, and the holder's
-  open_last : (m : ℕ) (t : Turn) → turn_of m ≡ Some t → t.ended ≡ None → (m ≡ x.vehicle.last_order) × (t.division ≡ x.vehicle.holder)
+  open_last : (m : ℕ) (t : Turn) → turn_of m ≡ Some t → t.ended ≡ None
+      → (m ≡ x.vehicle.last_order) × (t.division ≡ x.vehicle.holder)
   open_last m t there unended =
       let h = subst (OpenAgrees x.vehicle m t) unended (subst (TurnAgrees (Some x.vehicle) m) there (agreed m)).2 in
       (h.0, h.1)
 
-  open_found : (o : Option Turn) → open_turn x.vehicle.holder c r ≡ o → keep (λ t. is_none t.ended) (turn_of x.vehicle.last_order) ≡ o
+  open_found : (o : Option Turn) → open_turn x.vehicle.holder c r ≡ o
+      → keep (λ t. is_none t.ended) (turn_of x.vehicle.last_order) ≡ o
   open_found (Some t) e =
       let there = open_there x.vehicle.holder c r formed.order t e in
       let last = open_last t.order t there.0 there.1 in
       ap (keep (λ y. is_none y.ended)) (subst (λ m. turn_of m ≡ Some t) last.0 there.0) ∙ ap (λ m. cond (is_none m) (Some t) None) there.1
   open_found None e = none_kept (turn_of x.vehicle.last_order) refl
     where
-      none_kept : (o : Option Turn) → turn_of x.vehicle.last_order ≡ o → keep (λ t. is_none t.ended) o ≡ None
+      none_kept : (o : Option Turn) → turn_of x.vehicle.last_order ≡ o
+          → keep (λ t. is_none t.ended) o ≡ None
       none_kept None there = refl
       none_kept (Some t) there = (elim (is_none t.ended) as (λ b. is_none t.ended ≡ b → cond b (Some t) None ≡ None) [
         | true ↦ λ f. absurd (open_is x.vehicle.holder c r formed.order None e x.vehicle.last_order t there (none_of t.ended f) (open_last x.vehicle.last_order t there (none_of t.ended f)).1)
@@ -111,7 +124,10 @@ module _ (c : Callsign) (n : ℕ) (r : Room) (x : CrewRows) (formed : IsWellForm
     loan = subst (λ k. borrowed x.vehicle.holder k r ≡ x.loan) (sym named) is_borrowed;
   }
 
-pub asked_so : (c : Callsign) (r : Room) (x : CrewRows) (p : Press) (at : ℕ) → IsWellFormed r → AreCrewRows c p.number r x → x.report ≡ None → crew_asks c (Report p) at r ≡ tell (answered (reported x p at)) (changes_of x (reported x p at))
+pub asked_so : (c : Callsign) (r : Room) (x : CrewRows) (p : Press) (at : ℕ) → IsWellFormed r
+    → AreCrewRows c p.number r x → x.report ≡ None
+    → crew_asks c (Report p) at r ≡ tell (answered (reported x p at))
+    (changes_of x (reported x p at))
 unfolding kept_report vehicle_at
 asked_so c r x p at formed rows new =
     ap (λ k. report_kept k c p at r) (rows.report ∙ new)

@@ -30,7 +30,13 @@ acted x p at o = record {
 
 -- one that does not: its row is kept, and the greatest number
 abbrev pub kept_alone : CrewRows → Press → ℕ → Outcome → Reported
-kept_alone x p at o = record { vehicle = with_report x.vehicle p; assignment = x.assignment; turn = x.turn; loan = x.loan; report = report_row x.vehicle p at o x.vehicle.status }
+kept_alone x p at o = record {
+  vehicle = with_report x.vehicle p;
+  assignment = x.assignment;
+  turn = x.turn;
+  loan = x.loan;
+  report = report_row x.vehicle p at o x.vehicle.status;
+}
 
 -- a report acts by its outcome
 abbrev pub reported_as : CrewRows → Press → ℕ → Outcome → Reported
@@ -80,11 +86,14 @@ is_over x y = is_some x.loan && is_none y.loan
 
 -- the rows that a report which acts changes, the vehicle's last
 abbrev pub changes_acted : CrewRows → Reported → List Change
-changes_acted x y = PutReport y.report ∷ put_turn y.turn ++ (drop_changes y.vehicle.callsign (ends_turn y.report.button) ++ (back_changes y.vehicle.callsign (is_over x y) ++ PutVehicle y.vehicle ∷ []))
+changes_acted x y = PutReport y.report ∷ put_turn y.turn
+    ++ (drop_changes y.vehicle.callsign (ends_turn y.report.button)
+    ++ (back_changes y.vehicle.callsign (is_over x y) ++ PutVehicle y.vehicle ∷ []))
 
 -- from these rows to the reported ones
 abbrev pub changes_of : CrewRows → Reported → List Change
-changes_of x y = cond (acts y.report.outcome) (changes_acted x y) (PutReport y.report ∷ PutVehicle y.vehicle ∷ [])
+changes_of x y = cond (acts y.report.outcome) (changes_acted x y)
+    (PutReport y.report ∷ PutVehicle y.vehicle ∷ [])
 
 -- what the crew is told
 abbrev pub answered : Reported → Answer

@@ -27,20 +27,24 @@ use Rattle.room_http_time.specs.declared.zones.Zone.{Zone}
 use Rattle.room_http.specs.Events.{AsksAs, AsksAt, AsksBy, AsksFor, IsAskFor, named}
 
 -- what is posted is no day
-no_times : (posts : Option Ask) (day : Date) → ¬ (option_map request.Ask posts ≡ Some (request.Times day))
+no_times : (posts : Option Ask) (day : Date)
+    → ¬ (option_map request.Ask posts ≡ Some (request.Times day))
 no_times None day is = cc
 no_times (Some a) day is = cc
 
 -- times are a desk's
-times_are_desks : (t : Target) (body : List ℕ) (day : Date) → request_by t body ≡ Some (request.Times day) → role_of t ≡ role.Desk
+times_are_desks : (t : Target) (body : List ℕ) (day : Date)
+    → request_by t body ≡ Some (request.Times day) → role_of t ≡ role.Desk
 unfolding request_by
 times_are_desks target.Call body day is = absurd (no_times (option_and_then (posted target.Call) (fields_of body)) day is)
 times_are_desks target.Order body day is = absurd (cc)
 times_are_desks target.Report body day is = absurd (no_times (option_and_then (posted target.Report) (fields_of body)) day is)
 times_are_desks t body day is = refl
 
-pub request_addressed : (zone : Zone) (t : Target) (body : List ℕ) (given : Request) (asks : Ask) (who : Who) (room : Room) → request_by t body ≡ Some given
-    → IsAskFor zone given asks → is_of (role_of t) who ≡ true → is_known who room ≡ true → is_for who asks room ≡ true
+pub request_addressed : (zone : Zone) (t : Target) (body : List ℕ) (given : Request) (asks : Ask)
+    (who : Who) (room : Room) → request_by t body ≡ Some given
+    → IsAskFor zone given asks → is_of (role_of t) who ≡ true → is_known who room ≡ true
+    → is_for who asks room ≡ true
 request_addressed zone t body (request.Ask a) asks who room wants is may known =
     ap (λ (x : Ask). is_for who x room) is ∙ addressed (role_of t) a who room (asked_is t body a wants).0 may ∙ known
 request_addressed zone t body (request.Times day) asks who room wants is may known =
@@ -48,10 +52,12 @@ request_addressed zone t body (request.Times day) asks who room wants is may kno
     ∙ addressed role.Desk (ask.Times is.0.0 is.0.1) who room refl (rw (times_are_desks t body day wants) at may) ∙ known
 
 -- what a message asks for, found step by step
-pub asks_for : (zone : Zone) (terminals : List Terminal) (m : WholeMessage) (at : ℕ) (method bytes body : List ℕ) (field : Option (List ℕ))
+pub asks_for : (zone : Zone) (terminals : List Terminal) (m : WholeMessage) (at : ℕ)
+    (method bytes body : List ℕ) (field : Option (List ℕ))
     (t : Target) (who : Who) (given : Request) (asks : Ask)
     → method ≡ m.head.method → bytes ≡ m.head.target → body ≡ m.body → field ≡ terminal_of m.head
-    → routed method bytes ≡ Ok t → named terminals field ≡ Some who → is_of (role_of t) who ≡ true → request_by t body ≡ Some given → IsAskFor zone given asks
+    → routed method bytes ≡ Ok t → named terminals field ≡ Some who → is_of (role_of t) who ≡ true
+    → request_by t body ≡ Some given → IsAskFor zone given asks
     → AsksFor zone terminals m at (Ok (record { who = who; ask = asks; at = at }))
 asks_for zone terminals m at method bytes body field t who given asks method_is target_is body_is field_is routed_is named_is may wants is =
     let found : Result Event Refusal = Ok (record { who = who; ask = asks; at = at }) in

@@ -26,14 +26,19 @@ use Rattle.room_http.proofs.StreamLemmas.{Passes, Begins-push}
 
 -- ---- one arrival
 -- the clock gave none
-pub nothing_done : (given gives kept held : Option (List ℕ)) (was_none : Bool) → HasNoMoment given gives was_none []
-    → DoesNothing (record { given = given; kept = kept; held = held }) (record { given = gives; kept = kept; held = held })
+pub nothing_done : (given gives kept held : Option (List ℕ)) (was_none : Bool)
+    → HasNoMoment given gives was_none []
+    → DoesNothing (record { given = given; kept = kept; held = held })
+    (record { given = gives; kept = kept; held = held })
 nothing_done given gives kept held was_none (inl none) = ([], inl refl, record { given = none.1; kept = Appends-none kept; held = Appends-none held })
 nothing_done given gives kept held was_none (inr late) = (late.0 ∷ [], inr (late.0, late.1, refl), record { given = late.2; kept = Appends-none kept; held = Appends-none held })
 
 -- one arrival more
-AreReplies-push : (step : Step) (zone : Zone) (terminals : List Terminal) (room mid after : Room) (outs : List Timed) (answers : List (List ℕ)) (x : Timed) (answer : List ℕ)
-    → AreReplies step zone terminals room outs answers mid → IsReplyTo step zone terminals mid x after answer → AreReplies step zone terminals room (outs ++ x ∷ []) (answers ++ answer ∷ []) after
+AreReplies-push : (step : Step) (zone : Zone) (terminals : List Terminal) (room mid after : Room)
+    (outs : List Timed) (answers : List (List ℕ)) (x : Timed) (answer : List ℕ)
+    → AreReplies step zone terminals room outs answers mid
+    → IsReplyTo step zone terminals mid x after answer
+    → AreReplies step zone terminals room (outs ++ x ∷ []) (answers ++ answer ∷ []) after
 AreReplies-push step zone terminals room mid after [] [] x answer are is = (after, rw are at is, refl)
 AreReplies-push step zone terminals room mid after [] (y ∷ answers) x answer are is = absurd are
 AreReplies-push step zone terminals room mid after (y ∷ outs) [] x answer are is = absurd are
@@ -41,32 +46,39 @@ AreReplies-push step zone terminals room mid after (y ∷ outs) (z ∷ answers) 
     (are.0, are.1, AreReplies-push step zone terminals are.0 mid after outs answers x answer are.2 is)
 
 module _ (came : ℕ → List ℕ → List ℕ) (told : List ℕ → List ℕ) where
-  come : (arrived : Arrived) (o : Arrival) (at : ℕ) → at ≤ LAST_MOMENT → IsShown arrived o → IsCome came told (o, at) (came_of came arrived at)
+  come : (arrived : Arrived) (o : Arrival) (at : ℕ) → at ≤ LAST_MOMENT → IsShown arrived o
+      → IsCome came told (o, at) (came_of came arrived at)
   come (Message shown bytes) (message m) at within is = (bytes.now, is.1, within, refl)
   come (Message shown bytes) (refused r head_only) at within is = absurd is
   come (Refused r head_only) (message m) at within is = absurd is
   come (Refused r head_only) (refused s without) at within is = refl
 
-  answer_is : (arrived : Arrived) (o : Arrival) (answer : List ℕ) → IsShown arrived o → told_of told arrived answer ≡ answer_kept came told o answer
+  answer_is : (arrived : Arrived) (o : Arrival) (answer : List ℕ) → IsShown arrived o
+      → told_of told arrived answer ≡ answer_kept came told o answer
   answer_is (Message shown bytes) (message m) answer is = refl
   answer_is (Message shown bytes) (refused r head_only) answer is = absurd is
   answer_is (Refused r head_only) (message m) answer is = absurd is
   answer_is (Refused r head_only) (refused s without) answer is = refl
 
-  module _ (unmoved : Type 0) (moved : Timed → List ℕ → Type 0) (arrived : Arrived) (o : Arrival) (shown : IsShown arrived o) (at : ℕ) (within : at ≤ LAST_MOMENT)
+  module _ (unmoved : Type 0) (moved : Timed → List ℕ → Type 0) (arrived : Arrived) (o : Arrival)
+      (shown : IsShown arrived o) (at : ℕ) (within : at ≤ LAST_MOMENT)
       (given gives : Option (List ℕ)) (moment : Appends given gives (at ∷ [])) where
     abbrev coming : List ℕ
     coming = came_of came arrived at
 
-    abbrev Here : Option (List ℕ) → Option (List ℕ) → Option (List ℕ) → Option (List ℕ) → Result (Unit {0}) ServeEnd → Type 0
+    abbrev Here : Option (List ℕ) → Option (List ℕ) → Option (List ℕ) → Option (List ℕ)
+        → Result (Unit {0}) ServeEnd → Type 0
     Here kept keeps held holds =
         KeepsOne came told unmoved moved (record { given = given; kept = kept; held = held }) (record { given = gives; kept = keeps; held = holds }) o
 
-    is_record : (answer : List ℕ) → IsRecord came told (o, at) answer (coming ++ told_of told arrived answer)
+    is_record : (answer : List ℕ) → IsRecord came told (o, at) answer
+        (coming ++ told_of told arrived answer)
     is_record answer = (coming, come arrived o at within shown, ap (λ t. coming ++ t) (answer_is arrived o answer shown))
 
     -- it could not be kept as it came
-    pub kept_none : (kept keeps held : Option (List ℕ)) → unmoved → ((front : List ℕ) × IsFront front coming × Appends kept keeps front) → Here kept keeps held held (Err Unkept)
+    pub kept_none : (kept keeps held : Option (List ℕ)) → unmoved
+        → ((front : List ℕ) × IsFront front coming × Appends kept keeps front)
+        → Here kept keeps held held (Err Unkept)
     kept_none kept keeps held still cut = (
       at,
       cut.0,
@@ -76,8 +88,10 @@ module _ (came : ℕ → List ℕ → List ℕ) (told : List ℕ → List ℕ) w
     )
 
     -- memory or storage was wanting
-    pub kept_want : (kept comes last held holds : Option (List ℕ)) (r : Refusal) (wrote : List ℕ) → unmoved → IsWant r → Appends kept comes coming → last ≡ comes
-        → IsFront wrote (fixed_bytes r (is_head_only o)) → Appends held holds wrote → Here kept last held holds (Err Closed)
+    pub kept_want : (kept comes last held holds : Option (List ℕ)) (r : Refusal) (wrote : List ℕ)
+        → unmoved → IsWant r → Appends kept comes coming → last ≡ comes
+        → IsFront wrote (fixed_bytes r (is_head_only o)) → Appends held holds wrote
+        → Here kept last held holds (Err Closed)
     kept_want kept comes last held holds r wrote still want first same front written = (
       at,
       coming,
@@ -92,18 +106,26 @@ module _ (came : ℕ → List ℕ → List ℕ) (told : List ℕ → List ℕ) w
       acted = rw are acts
 
       -- it could not be kept
-      pub kept_part : (kept comes keeps held : Option (List ℕ)) → Appends kept comes coming → ((front : List ℕ) × IsFront front (told_of told arrived answer) × Appends comes keeps front)
+      pub kept_part : (kept comes keeps held : Option (List ℕ)) → Appends kept comes coming
+          → ((front : List ℕ) × IsFront front (told_of told arrived answer)
+          × Appends comes keeps front)
           → Here kept keeps held held (Err Unkept)
       kept_part kept comes keeps held first cut = (
         at,
         coming ++ cut.0,
         [],
         inr (answer, acted, inl (coming, cut.0, come arrived o at within shown, (cut.1.0, sym (answer_is arrived o answer shown) ∙ cut.1.1), refl, refl)),
-        record { given = moment; kept = Appends-more kept comes keeps coming cut.0 first cut.2; held = Appends-none held },
+        record {
+          given = moment;
+          kept = Appends-more kept comes keeps coming cut.0 first cut.2;
+          held = Appends-none held;
+        },
       )
 
       -- the record was kept, and it was written
-      pub kept_all : (kept comes keeps last held holds : Option (List ℕ)) → Appends kept comes coming → Appends comes keeps (told_of told arrived answer) → last ≡ keeps
+      pub kept_all : (kept comes keeps last held holds : Option (List ℕ))
+          → Appends kept comes coming → Appends comes keeps (told_of told arrived answer)
+          → last ≡ keeps
           → Appends held holds answer → Here kept last held holds (Ok tt)
       kept_all kept comes keeps last held holds first second same wrote = (
         at,
@@ -111,22 +133,37 @@ module _ (came : ℕ → List ℕ → List ℕ) (told : List ℕ → List ℕ) w
         coming ++ told_of told arrived answer,
         acted,
         is_record answer,
-        record { given = moment; kept = rw same (Appends-more kept comes keeps coming (told_of told arrived answer) first second); held = wrote },
+        record {
+          given = moment;
+          kept = rw same
+              (Appends-more kept comes keeps coming (told_of told arrived answer) first second);
+          held = wrote;
+        },
       )
 
       -- it was not written wholly
-      pub kept_cut : (kept comes keeps last held holds : Option (List ℕ)) (wrote : List ℕ) → Appends kept comes coming → Appends comes keeps (told_of told arrived answer) → last ≡ keeps
-          → IsFront wrote answer → Appends held holds wrote → Here kept last held holds (Err WriteFault)
+      pub kept_cut : (kept comes keeps last held holds : Option (List ℕ)) (wrote : List ℕ)
+          → Appends kept comes coming → Appends comes keeps (told_of told arrived answer)
+          → last ≡ keeps
+          → IsFront wrote answer → Appends held holds wrote
+          → Here kept last held holds (Err WriteFault)
       kept_cut kept comes keeps last held holds wrote first second same front written = (
         at,
         coming ++ told_of told arrived answer,
         wrote,
         inr (answer, acted, inr (is_record answer, front)),
-        record { given = moment; kept = rw same (Appends-more kept comes keeps coming (told_of told arrived answer) first second); held = written },
+        record {
+          given = moment;
+          kept = rw same
+              (Appends-more kept comes keeps coming (told_of told arrived answer) first second);
+          held = written;
+        },
       )
 
   -- ---- a connection
-  AreKept-push : (outs : List Timed) (answers : List (List ℕ)) (text : List ℕ) (x : Timed) (answer last : List ℕ) → AreKept came told outs answers text → IsRecord came told x answer last
+  AreKept-push : (outs : List Timed) (answers : List (List ℕ)) (text : List ℕ) (x : Timed)
+      (answer last : List ℕ) → AreKept came told outs answers text
+      → IsRecord came told x answer last
       → AreKept came told (outs ++ x ∷ []) (answers ++ answer ∷ []) (text ++ last)
   AreKept-push [] [] text x answer last kept is = (last, [], is, ap (λ t. t ++ last) kept ∙ sym (append-nil last), refl)
   AreKept-push [] (y ∷ answers) text x answer last kept is = absurd kept
@@ -139,18 +176,23 @@ module _ (came : ℕ → List ℕ → List ℕ) (told : List ℕ → List ℕ) w
     AreKept-push outs answers kept.1 x answer last kept.4 is,
   )
 
-  -- the arrivals were answered, all of them stay open, and these bytes are left; and the record of each was kept
-  pub record Noted (step : Step) (zone : Zone) (left : Option (List ℕ)) (old : Tapes) (remains : Option (List ℕ)) (new : Tapes) (trusted : Type 0) (stood stands : List Terminal → Room → Type 0) (outs : List Timed) : Type 0 where
+  -- the arrivals were answered, all of them stay open, and these bytes are left; and the record of
+  -- each was kept
+  pub record Noted (step : Step) (zone : Zone) (left : Option (List ℕ)) (old : Tapes)
+      (remains : Option (List ℕ)) (new : Tapes) (trusted : Type 0)
+      (stood stands : List Terminal → Room → Type 0) (outs : List Timed) : Type 0 where
     pub answers : List (List ℕ)
     pub text : List ℕ
-    pub begins : (stream : List ℕ) → left ≡ Some stream → (rest : List ℕ) × (remains ≡ Some rest) × Begins stream (map (λ x. x.0) outs) rest
+    pub begins : (stream : List ℕ) → left ≡ Some stream
+        → (rest : List ℕ) × (remains ≡ Some rest) × Begins stream (map (λ x. x.0) outs) rest
     pub stay : All (λ x. is_closing x.0 ≡ false) outs
     pub kept : AreKept came told outs answers text
     pub grew : Grow old new (map (λ x. x.1) outs) text (concat answers)
     pub moved : ActsOnEach step zone trusted stood stands outs answers
 
   module _ (step : Step) (zone : Zone) (left : Option (List ℕ)) (old : Tapes) where
-    pub Noted-none : (trusted : Type 0) (stood : List Terminal → Room → Type 0) → Noted step zone left old left old trusted stood stood []
+    pub Noted-none : (trusted : Type 0) (stood : List Terminal → Room → Type 0)
+        → Noted step zone left old left old trusted stood stood []
     Noted-none trusted stood = record {
       answers = [];
       text = [];
@@ -162,8 +204,10 @@ module _ (came : ℕ → List ℕ → List ℕ) (told : List ℕ → List ℕ) w
     }
 
     -- the bytes that are left come from the reader to the inbox
-    pub Noted-kept : (remains after : Option (List ℕ)) (new : Tapes) (trusted : Type 0) (stood stands : List Terminal → Room → Type 0) (outs : List Timed)
-        → Noted step zone left old remains new trusted stood stands outs → Keeps remains after → Noted step zone left old after new trusted stood stands outs
+    pub Noted-kept : (remains after : Option (List ℕ)) (new : Tapes) (trusted : Type 0)
+        (stood stands : List Terminal → Room → Type 0) (outs : List Timed)
+        → Noted step zone left old remains new trusted stood stands outs → Keeps remains after
+        → Noted step zone left old after new trusted stood stands outs
     Noted-kept remains after new trusted stood stands outs before same = record {
       answers = before.answers;
       text = before.text;
@@ -175,8 +219,10 @@ module _ (came : ℕ → List ℕ → List ℕ) (told : List ℕ → List ℕ) w
     }
 
     -- serving ended between arrivals
-    pub Noted-ends : (remains : Option (List ℕ)) (new : Tapes) (trusted : Type 0) (stood stands : List Terminal → Room → Type 0) (outs : List Timed)
-        → Noted step zone left old remains new trusted stood stands outs → KeepsEach came told (ActsOnEach step zone trusted stood stands) left old new
+    pub Noted-ends : (remains : Option (List ℕ)) (new : Tapes) (trusted : Type 0)
+        (stood stands : List Terminal → Room → Type 0) (outs : List Timed)
+        → Noted step zone left old remains new trusted stood stands outs
+        → KeepsEach came told (ActsOnEach step zone trusted stood stands) left old new
     Noted-ends remains new trusted stood stands outs before = record {
       outs = outs;
       answers = before.answers;
@@ -186,7 +232,9 @@ module _ (came : ℕ → List ℕ → List ℕ) (told : List ℕ → List ℕ) w
     }
 
     -- one more arrival
-    module _ (early_left remains : Option (List ℕ)) (mid : Tapes) (early late : Type 0) (stood stays stands : List Terminal → Room → Type 0) (earlier : late → early) (outs : List Timed)
+    module _ (early_left remains : Option (List ℕ)) (mid : Tapes) (early late : Type 0)
+        (stood stays stands : List Terminal → Room → Type 0) (earlier : late → early)
+        (outs : List Timed)
         (noted : Noted step zone left old early_left mid early stood stays outs) (same : Keeps early_left remains) (new : Tapes) (after : Option (List ℕ)) (o : Arrival) (pass : Passes remains after o) where
       before : Noted step zone left old remains mid early stood stays outs
       before = Noted-kept early_left remains mid early stood stays outs noted same
@@ -202,25 +250,31 @@ module _ (came : ℕ → List ℕ → List ℕ) (told : List ℕ → List ℕ) w
           let first = before.moved (earlier trust) terminals room standing in
           (first.0, first.1, still trust terminals first.0 first.2)
 
-      one_moves : (at : ℕ) (answer : List ℕ) → Acts step zone late stays stands (o, at) answer → Now (outs ++ (o, at) ∷ []) (before.answers ++ answer ∷ [])
+      one_moves : (at : ℕ) (answer : List ℕ) → Acts step zone late stays stands (o, at) answer
+          → Now (outs ++ (o, at) ∷ []) (before.answers ++ answer ∷ [])
       one_moves at answer acts trust terminals room standing =
           let first = before.moved (earlier trust) terminals room standing in
           let second = acts trust terminals first.0 first.2 in
           (second.0, AreReplies-push step zone terminals room first.0 second.0 outs before.answers (o, at) answer first.1 second.1, second.2)
 
-      begins_more : (at : ℕ) (stream : List ℕ) → left ≡ Some stream → (next : List ℕ) × (after ≡ Some next) × Begins stream (map (λ x. x.0) (outs ++ (o, at) ∷ [])) next
+      begins_more : (at : ℕ) (stream : List ℕ) → left ≡ Some stream
+          → (next : List ℕ) × (after ≡ Some next)
+          × Begins stream (map (λ x. x.0) (outs ++ (o, at) ∷ [])) next
       begins_more at stream known =
           let begins = before.begins stream known in
           let passes = pass.passes begins.0 begins.1 in
           (passes.0, passes.2, Begins-push stream outs begins.0 (o, at) passes.0 begins.2 before.stay passes.1)
 
-      has_next : (stream : List ℕ) → left ≡ Some stream → (rest : List ℕ) × Begins stream (map (λ x. x.0) outs) rest × HasNext o rest
+      has_next : (stream : List ℕ) → left ≡ Some stream
+          → (rest : List ℕ) × Begins stream (map (λ x. x.0) outs) rest × HasNext o rest
       has_next stream known =
           let begins = before.begins stream known in
           let passes = pass.passes begins.0 begins.1 in
           (begins.0, begins.2, (passes.0, passes.1))
 
-      grow_more : (moments text bytes : List ℕ) → Grow mid new moments text bytes → Grow old new (map (λ x. x.1) outs ++ moments) (before.text ++ text) (concat before.answers ++ bytes)
+      grow_more : (moments text bytes : List ℕ) → Grow mid new moments text bytes
+          → Grow old new (map (λ x. x.1) outs ++ moments) (before.text ++ text)
+          (concat before.answers ++ bytes)
       grow_more moments text bytes more = record {
         given = Appends-more old.given mid.given new.given (map (λ x. x.1) outs) moments before.grew.given more.given;
         kept = Appends-more old.kept mid.kept new.kept before.text text before.grew.kept more.kept;
@@ -228,17 +282,20 @@ module _ (came : ℕ → List ℕ → List ℕ) (told : List ℕ → List ℕ) w
       }
 
       grow_next : (at : ℕ) (text bytes : List ℕ) → Grow mid new (at ∷ []) text bytes
-          → Grow old new (map (λ x. x.1) (outs ++ (o, at) ∷ [])) (before.text ++ text) (concat before.answers ++ bytes)
+          → Grow old new (map (λ x. x.1) (outs ++ (o, at) ∷ [])) (before.text ++ text)
+          (concat before.answers ++ bytes)
       grow_next at text bytes more = rw (map-append (λ (x : Timed). x.1) outs ((o, at) ∷ [])) (grow_more (at ∷ []) text bytes more)
 
       grow_one : (at : ℕ) (text answer : List ℕ) → Grow mid new (at ∷ []) text answer
-          → Grow old new (map (λ x. x.1) (outs ++ (o, at) ∷ [])) (before.text ++ text) (concat (before.answers ++ answer ∷ []))
+          → Grow old new (map (λ x. x.1) (outs ++ (o, at) ∷ [])) (before.text ++ text)
+          (concat (before.answers ++ answer ∷ []))
       grow_one at text answer more =
           let all : concat (before.answers ++ answer ∷ []) ≡ concat before.answers ++ answer = concat-append before.answers (answer ∷ []) ∙ ap (λ t. concat before.answers ++ t) (append-nil answer) in
           rw all (grow_next at text answer more)
 
       -- it was answered, and stays open
-      pub Noted-more : One (Ok tt) → is_closing o ≡ false → (more : List Timed) × Noted step zone left old after new late stood stands more
+      pub Noted-more : One (Ok tt) → is_closing o ≡ false
+          → (more : List Timed) × Noted step zone left old after new late stood stands more
       Noted-more one open_ = (
         outs ++ (o, one.0) ∷ [],
         record {
@@ -266,7 +323,8 @@ module _ (came : ℕ → List ℕ → List ℕ) (told : List ℕ → List ℕ) w
         );
       }
 
-      stopped : Unmoved late stays stands → DoesNothing mid new → KeepsEach came told Now left old new
+      stopped : Unmoved late stays stands → DoesNothing mid new
+          → KeepsEach came told Now left old new
       stopped still none = record {
         outs = outs;
         answers = before.answers;
@@ -279,12 +337,19 @@ module _ (came : ℕ → List ℕ → List ℕ) (told : List ℕ → List ℕ) w
         );
       }
 
-      begun_after : (at : ℕ) (tail wrote : List ℕ) → IsBegun came told (Unmoved late stays stands) (Acts step zone late stays stands (o, at)) (o, at) tail wrote
-          → IsBegun came told (Now outs before.answers) (λ answer. Now (outs ++ (o, at) ∷ []) (before.answers ++ answer ∷ [])) (o, at) tail wrote
+      begun_after : (at : ℕ) (tail wrote : List ℕ)
+          → IsBegun came told (Unmoved late stays stands)
+          (Acts step zone late stays stands (o, at)) (o, at) tail wrote
+          → IsBegun came told (Now outs before.answers)
+          (λ answer. Now (outs ++ (o, at) ∷ []) (before.answers ++ answer ∷ []))
+          (o, at) tail wrote
       begun_after at tail wrote (inl none) = inl (same_moves none.0, none.1)
       begun_after at tail wrote (inr some) = inr (some.0, one_moves at some.0 some.1, some.2)
 
-      begun : (at : ℕ) (tail wrote : List ℕ) → IsBegun came told (Unmoved late stays stands) (Acts step zone late stays stands (o, at)) (o, at) tail wrote → Grow mid new (at ∷ []) tail wrote
+      begun : (at : ℕ) (tail wrote : List ℕ)
+          → IsBegun came told (Unmoved late stays stands)
+          (Acts step zone late stays stands (o, at)) (o, at) tail wrote
+          → Grow mid new (at ∷ []) tail wrote
           → KeepsEach came told Now left old new
       begun at tail wrote is grew = record {
         outs = outs;

@@ -43,36 +43,45 @@ one_stream_law stream (message m ∷ few) (refused r head_only ∷ many) rest le
 one_stream_law stream (refused r head_only ∷ few) (message n ∷ many) rest left x y fewer = absurd (no_end_law stream n y.0 (Refused r head_only) y.1 x.1.0)
 one_stream_law stream (refused r head_only ∷ few) (refused s without ∷ many) rest left x y fewer = (tt, none_more few many (x.2 refl))
 
-one_ask : (zone : Zone) (given : Request) (a b : Ask) → IsAskFor zone given a → IsAskFor zone given b → a ≡ b
+one_ask : (zone : Zone) (given : Request) (a b : Ask) → IsAskFor zone given a
+    → IsAskFor zone given b → a ≡ b
 one_ask zone (request.Ask x) a b is also = is ∙ sym also
 one_ask zone (request.Times day) a b is also =
     is.2 ∙ ap (λ (span : ℤ × ℤ). ask.Times span.0 span.1) (one_span_law (zone_of zone) (days_from_civil (pos day.year) day.month day.day) is.0 also.0 is.1 also.1) ∙ sym also.2
 
-one_by : (zone : Zone) (at : ℕ) (who : Who) (given : Option Request) (f g : Result Event Refusal) → AsksBy zone at who given f → AsksBy zone at who given g → f ≡ g
+one_by : (zone : Zone) (at : ℕ) (who : Who) (given : Option Request) (f g : Result Event Refusal)
+    → AsksBy zone at who given f → AsksBy zone at who given g → f ≡ g
 one_by zone at who None f g is also = is ∙ sym also
 one_by zone at who (Some w) f g is also =
     is.2 ∙ ap (λ (a : Ask). Ok (record { who = who; ask = a; at = at })) (one_ask zone w is.0 also.0 is.1 also.1) ∙ sym also.2
 
-one_role : (may : Bool) (zone : Zone) (at : ℕ) (who : Who) (given : Option Request) (f g : Result Event Refusal)
-    → MatchBool may (AsksBy zone at who given f) (f ≡ Err WrongRole) → MatchBool may (AsksBy zone at who given g) (g ≡ Err WrongRole) → f ≡ g
+one_role : (may : Bool) (zone : Zone) (at : ℕ) (who : Who) (given : Option Request)
+    (f g : Result Event Refusal)
+    → MatchBool may (AsksBy zone at who given f) (f ≡ Err WrongRole)
+    → MatchBool may (AsksBy zone at who given g) (g ≡ Err WrongRole) → f ≡ g
 one_role true zone at who given f g is also = one_by zone at who given f g is also
 one_role false zone at who given f g is also = is ∙ sym also
 
-one_as : (zone : Zone) (t : Target) (body : List ℕ) (at : ℕ) (who : Option Who) (f g : Result Event Refusal) → AsksAs zone t body at who f → AsksAs zone t body at who g → f ≡ g
+one_as : (zone : Zone) (t : Target) (body : List ℕ) (at : ℕ) (who : Option Who)
+    (f g : Result Event Refusal) → AsksAs zone t body at who f → AsksAs zone t body at who g → f ≡ g
 one_as zone t body at None f g is also = is ∙ sym also
 one_as zone t body at (Some who) f g is also = one_role (is_of (role_of t) who) zone at who (request_by t body) f g is also
 
-one_at : (zone : Zone) (terminals : List Terminal) (m : WholeMessage) (at : ℕ) (r : Result Target Refusal) (f g : Result Event Refusal)
+one_at : (zone : Zone) (terminals : List Terminal) (m : WholeMessage) (at : ℕ)
+    (r : Result Target Refusal) (f g : Result Event Refusal)
     → AsksAt zone terminals m at r f → AsksAt zone terminals m at r g → f ≡ g
 one_at zone terminals m at (Ok t) f g is also = one_as zone t m.body at (named terminals (terminal_of m.head)) f g is also
 one_at zone terminals m at (Err r) f g is also = is ∙ sym also
 
-one_find : (zone : Zone) (terminals : List Terminal) (x : Timed) (f g : Result Event Refusal) → Finds zone terminals x f → Finds zone terminals x g → f ≡ g
+one_find : (zone : Zone) (terminals : List Terminal) (x : Timed) (f g : Result Event Refusal)
+    → Finds zone terminals x f → Finds zone terminals x g → f ≡ g
 one_find zone terminals (message m, at) f g is also = one_at zone terminals m at (routed m.head.method m.head.target) f g is also
 one_find zone terminals (refused r head_only, at) f g is also = is ∙ sym also
 
-one_reply_to : (step : Step) (zone : Zone) (terminals : List Terminal) (room : Room) (x : Timed) (after other : Room) (bytes others : List ℕ)
-    → IsReplyTo step zone terminals room x after bytes → IsReplyTo step zone terminals room x other others → (after ≡ other) × (bytes ≡ others)
+one_reply_to : (step : Step) (zone : Zone) (terminals : List Terminal) (room : Room) (x : Timed)
+    (after other : Room) (bytes others : List ℕ)
+    → IsReplyTo step zone terminals room x after bytes
+    → IsReplyTo step zone terminals room x other others → (after ≡ other) × (bytes ≡ others)
 one_reply_to step zone terminals room x after other bytes others is also =
     let same = one_find zone terminals x is.0 also.0 is.1 also.1 in
     let again = subst (λ (f : Result Event Refusal). IsReply (replied step f room).1 x.1 (is_head_only x.0) (is_closing x.0) bytes) same is.3 in (

@@ -34,17 +34,22 @@ use Rattle.room_http.proofs.RunLemmas.{found_asked_by, room_push, room_split, ru
 
 -- ---- parts of a run
 module _ (known : Room) where
-  addressed_early : (before rest : List Exchange) → AreAddressed (events_of (before ++ rest)) known → AreAddressed (events_of before) known
+  addressed_early : (before rest : List Exchange) → AreAddressed (events_of (before ++ rest)) known
+      → AreAddressed (events_of before) known
   addressed_early [] rest all = tt
   addressed_early (x ∷ before) rest all = go x.found (addressed_early before rest) all
     where
-      go : (found : Result Event Refusal) → (AreAddressed (events_of (before ++ rest)) known → AreAddressed (events_of before) known)
-          → AreAddressed (event_then found (events_of (before ++ rest))) known → AreAddressed (event_then found (events_of before)) known
+      go : (found : Result Event Refusal)
+          → (AreAddressed (events_of (before ++ rest)) known
+          → AreAddressed (events_of before) known)
+          → AreAddressed (event_then found (events_of (before ++ rest))) known
+          → AreAddressed (event_then found (events_of before)) known
       go (Ok event) early all = (all.0, all.1, early all.2)
       go (Err r) early all = early all
 
 -- what an arrival is answered, after those before it
-told_at : (zone : Zone) (terminals : List Terminal) (before rest : List Exchange) (x : Exchange) (room : Room) → AreAnswered zone terminals (before ++ x ∷ rest) room
+told_at : (zone : Zone) (terminals : List Terminal) (before rest : List Exchange) (x : Exchange)
+    (room : Room) → AreAnswered zone terminals (before ++ x ∷ rest) room
     → IsTold x (replied machine x.found (room_by before room)).1
 told_at zone terminals [] rest x room are = are.1
 told_at zone terminals (y ∷ before) rest x room are =
@@ -52,30 +57,39 @@ told_at zone terminals (y ∷ before) rest x room are =
     (told_at zone terminals before rest x (replied machine y.found room).0 are.2)
 
 -- who asks of one of them
-asked_in : (zone : Zone) (terminals : List Terminal) (xs : List Exchange) (room : Room) → AreAnswered zone terminals xs room
-    → (x : Exchange) (event : Event) → Among x xs → x.found ≡ Ok event → (asker terminals x.arrival.0 ≡ Some event.who) × (event.at ≡ x.arrival.1)
+asked_in : (zone : Zone) (terminals : List Terminal) (xs : List Exchange) (room : Room)
+    → AreAnswered zone terminals xs room
+    → (x : Exchange) (event : Event) → Among x xs → x.found ≡ Ok event
+    → (asker terminals x.arrival.0 ≡ Some event.who) × (event.at ≡ x.arrival.1)
 asked_in zone terminals [] room are x event there is = absurd there
 asked_in zone terminals (y ∷ xs) room are x event (inl same) is =
     found_asked_by zone terminals x.arrival (Ok event) (rw is at (subst (λ (z : Exchange). Finds zone terminals z.arrival z.found) (sym same) are.0))
 asked_in zone terminals (y ∷ xs) room are x event (inr there) is = asked_in zone terminals xs (replied machine y.found room).0 are.2 x event there is
 
 -- ---- what a desk is answered
-told_apart : (d : ℕ) (b : Bool) (x : Exchange) (xs : List Exchange) (answer : Result Answer Refusal) (answers : List (Result Answer Refusal))
-    → IsTold x answer → AreTold xs answers → AreTold (cond b (x ∷ xs) xs) (cond b (answer ∷ answers) answers)
+told_apart : (d : ℕ) (b : Bool) (x : Exchange) (xs : List Exchange)
+    (answer : Result Answer Refusal) (answers : List (Result Answer Refusal))
+    → IsTold x answer → AreTold xs answers
+    → AreTold (cond b (x ∷ xs) xs) (cond b (answer ∷ answers) answers)
 told_apart d true x xs answer answers first rest = (first, rest)
 told_apart d false x xs answer answers first rest = rest
 
-desk_answered : (zone : Zone) (terminals : List Terminal) (d : ℕ) (xs : List Exchange) (room : Room) → AreAnswered zone terminals xs room → AreTold (with_desk d xs) (told d (events_of xs) room)
+desk_answered : (zone : Zone) (terminals : List Terminal) (d : ℕ) (xs : List Exchange)
+    (room : Room) → AreAnswered zone terminals xs room
+    → AreTold (with_desk d xs) (told d (events_of xs) room)
 desk_answered zone terminals d [] room are = tt
 desk_answered zone terminals d (x ∷ xs) room are = go x.found are.1 (desk_answered zone terminals d xs (replied machine x.found room).0 are.2)
   where
-    go : (found : Result Event Refusal) → IsTold x (replied machine found room).1 → AreTold (with_desk d xs) (told d (events_of xs) (replied machine found room).0)
-        → AreTold (cond (is_by_desk d found) (x ∷ with_desk d xs) (with_desk d xs)) (told d (event_then found (events_of xs)) room)
+    go : (found : Result Event Refusal) → IsTold x (replied machine found room).1
+        → AreTold (with_desk d xs) (told d (events_of xs) (replied machine found room).0)
+        → AreTold (cond (is_by_desk d found) (x ∷ with_desk d xs) (with_desk d xs))
+        (told d (event_then found (events_of xs)) room)
     go (Ok event) first rest = told_apart d (is_desk d event.who) x (with_desk d xs) (answer_to event room) (told d (events_of xs) (room_after event room)) first rest
     go (Err r) first rest = rest
 
 -- equal answers to equal arrivals are equal bytes
-told_alike : (xs ys : List Exchange) (answers : List (Result Answer Refusal)) → AreTold xs answers → AreTold ys answers → arrivals_of xs ≡ arrivals_of ys → answers_of xs ≡ answers_of ys
+told_alike : (xs ys : List Exchange) (answers : List (Result Answer Refusal)) → AreTold xs answers
+    → AreTold ys answers → arrivals_of xs ≡ arrivals_of ys → answers_of xs ≡ answers_of ys
 told_alike [] [] answers are also same = refl
 told_alike [] (y ∷ ys) answers are also same = cc
 told_alike (x ∷ xs) [] answers are also same = cc
@@ -95,21 +109,29 @@ sent_once_in room formed = record {
   together = λ a t here there unended same. let is = of_one_order room formed a t here there unended same in (is.0, is.1);
 }
 
-module _ (zone : Zone) (terminals : List Terminal) (xs : List Exchange) (room : Room) (formed : IsWellFormed room) (run : IsRun zone terminals xs room) where
+module _ (zone : Zone) (terminals : List Terminal) (xs : List Exchange) (room : Room)
+    (formed : IsWellFormed room) (run : IsRun zone terminals xs room) where
   -- every room on the way is well-formed
-  formed_at : (before rest : List Exchange) → xs ≡ before ++ rest → IsWellFormed (room_by before room)
+  formed_at : (before rest : List Exchange) → xs ≡ before ++ rest
+      → IsWellFormed (room_by before room)
   formed_at before rest split = run_kept (events_of before) room formed (addressed_early room before rest (subst (λ l. AreAddressed (events_of l) room) split run.addressed))
 
-  told_in : (before rest : List Exchange) (x : Exchange) (found : Result Event Refusal) → xs ≡ before ++ x ∷ rest → x.found ≡ found → IsTold x (replied machine found (room_by before room)).1
+  told_in : (before rest : List Exchange) (x : Exchange) (found : Result Event Refusal)
+      → xs ≡ before ++ x ∷ rest → x.found ≡ found
+      → IsTold x (replied machine found (room_by before room)).1
   told_in before rest x found split is =
       subst (λ (found : Result Event Refusal). IsTold x (replied machine found (room_by before room)).1) is
       (told_at zone terminals before rest x room (subst (λ l. AreAnswered zone terminals l room) split run.answered))
 
-  room_on : (before : List Exchange) (x : Exchange) (found : Result Event Refusal) → x.found ≡ found → room_by (before ++ x ∷ []) room ≡ (replied machine found (room_by before room)).0
+  room_on : (before : List Exchange) (x : Exchange) (found : Result Event Refusal)
+      → x.found ≡ found → room_by (before ++ x ∷ []) room
+      ≡ (replied machine found (room_by before room)).0
   room_on before x found is = room_push before x room ∙ ap (λ (found : Result Event Refusal). (replied machine found (room_by before room)).0) is
 
-  alike : (d : ℕ) (zone_there : Zone) (terminals_there : List Terminal) (ys : List Exchange) (other : Room) → IsWellFormed other → IsRun zone_there terminals_there ys other
-      → own d room ≡ own d other → received (crossings d (events_of xs) room) ≡ received (crossings d (events_of ys) other) → IsDeskAlike d xs ys room other
+  alike : (d : ℕ) (zone_there : Zone) (terminals_there : List Terminal) (ys : List Exchange)
+      (other : Room) → IsWellFormed other → IsRun zone_there terminals_there ys other
+      → own d room ≡ own d other → received (crossings d (events_of xs) room)
+      ≡ received (crossings d (events_of ys) other) → IsDeskAlike d xs ys room other
   alike d zone_there terminals_there ys other good runs same handed =
       let meets = meet_well_formed (events_of xs) room formed run.addressed in
       let meet = meet_well_formed (events_of ys) other good runs.addressed in
@@ -121,9 +143,11 @@ module _ (zone : Zone) (terminals : List Terminal) (xs : List Exchange) (room : 
         shares = equal_shares d (events_of xs) (events_of ys) room other meets meet same handed;
       }
 
-  crew : (before rest : List Exchange) (x : Exchange) (c : Callsign) (ask : Ask) (at : ℕ) (other : Room) → xs ≡ before ++ x ∷ rest → x.found ≡ Ok (by_crew c ask at)
+  crew : (before rest : List Exchange) (x : Exchange) (c : Callsign) (ask : Ask) (at : ℕ)
+      (other : Room) → xs ≡ before ++ x ∷ rest → x.found ≡ Ok (by_crew c ask at)
       → IsInOrder other → mine c (room_by before room) ≡ mine c other
-      → IsTold x (answer_to (by_crew c ask at) other) × (mine c (room_by (before ++ x ∷ []) room) ≡ mine c (room_after (by_crew c ask at) other))
+      → IsTold x (answer_to (by_crew c ask at) other)
+      × (mine c (room_by (before ++ x ∷ []) room) ≡ mine c (room_after (by_crew c ask at) other))
   crew before rest x c ask at other split is in_order same =
       let order = (formed_at before (x ∷ rest) split).order in (
         subst (IsTold x) (ap answer_of (mine_answer c ask at (room_by before room) other order in_order same)) (told_in before rest x (Ok (by_crew c ask at)) split is),
@@ -132,7 +156,10 @@ module _ (zone : Zone) (terminals : List Terminal) (xs : List Exchange) (room : 
 
   -- what acts once in a room that is in order acts once in every run
   once : (sent : ℕ → Event)
-      → ((at later : ℕ) (s : Room) (between : List Event) → IsInOrder s → is_ok (answer_to (sent at) s) ≡ true → OnlyAnswers (sent later) (room_run between (room_after (sent at) s)) (answer_to (sent at) s))
+      → ((at later : ℕ) (s : Room) (between : List Event) → IsInOrder s
+      → is_ok (answer_to (sent at) s) ≡ true
+      → OnlyAnswers (sent later) (room_run between (room_after (sent at) s))
+      (answer_to (sent at) s))
       → ActsOnce xs room sent
   once sent law before between rest first again at later split is is_again ok =
       let s = room_by before room in

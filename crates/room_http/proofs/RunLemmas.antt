@@ -31,24 +31,31 @@ use Rattle.room_http.proofs.AskLemmas.{request_addressed}
 use Rattle.room_http.proofs.TerminalLemmas.{found_known}
 
 -- ---- what a message asks for: what holds of refusals, and of events that are found step by step
-module _ (zone : Zone) (terminals : List Terminal) (m : WholeMessage) (at : ℕ) (Holds : Result Event Refusal → Type 0) (refusals : (r : Refusal) → Holds (Err r))
+module _ (zone : Zone) (terminals : List Terminal) (m : WholeMessage) (at : ℕ)
+    (Holds : Result Event Refusal → Type 0) (refusals : (r : Refusal) → Holds (Err r))
     (events : (t : Target) (who : Who) (given : Request) (asks : Ask) → named terminals (terminal_of m.head) ≡ Some who → is_of (role_of t) who ≡ true
-    → request_by t m.body ≡ Some given → IsAskFor zone given asks → Holds (Ok (record { who = who; ask = asks; at = at }))) where
-  by_body : (t : Target) (who : Who) (given : Option Request) (found : Result Event Refusal) → named terminals (terminal_of m.head) ≡ Some who → is_of (role_of t) who ≡ true
+    → request_by t m.body ≡ Some given → IsAskFor zone given asks
+    → Holds (Ok (record { who = who; ask = asks; at = at }))) where
+  by_body : (t : Target) (who : Who) (given : Option Request) (found : Result Event Refusal)
+      → named terminals (terminal_of m.head) ≡ Some who → is_of (role_of t) who ≡ true
       → request_by t m.body ≡ given → AsksBy zone at who given found → Holds found
   by_body t who None found shows may wants asks = rw asks (refusals BadBody)
   by_body t who (Some given) found shows may wants asks = rw asks.2 (events t who given asks.0 shows may wants asks.1)
 
-  by_role : (may : Bool) (t : Target) (who : Who) (found : Result Event Refusal) → named terminals (terminal_of m.head) ≡ Some who → is_of (role_of t) who ≡ may
-      → MatchBool may (AsksBy zone at who (request_by t m.body) found) (found ≡ Err WrongRole) → Holds found
+  by_role : (may : Bool) (t : Target) (who : Who) (found : Result Event Refusal)
+      → named terminals (terminal_of m.head) ≡ Some who → is_of (role_of t) who ≡ may
+      → MatchBool may (AsksBy zone at who (request_by t m.body) found) (found ≡ Err WrongRole)
+      → Holds found
   by_role true t who found shows may asks = by_body t who (request_by t m.body) found shows may refl asks
   by_role false t who found shows may asks = rw asks (refusals WrongRole)
 
-  by_terminal : (t : Target) (who : Option Who) (found : Result Event Refusal) → named terminals (terminal_of m.head) ≡ who → AsksAs zone t m.body at who found → Holds found
+  by_terminal : (t : Target) (who : Option Who) (found : Result Event Refusal)
+      → named terminals (terminal_of m.head) ≡ who → AsksAs zone t m.body at who found → Holds found
   by_terminal t None found shows asks = rw asks (refusals NoTerminal)
   by_terminal t (Some who) found shows asks = by_role (is_of (role_of t) who) t who found shows refl asks
 
-  by_target : (target : Result Target Refusal) (found : Result Event Refusal) → AsksAt zone terminals m at target found → Holds found
+  by_target : (target : Result Target Refusal) (found : Result Event Refusal)
+      → AsksAt zone terminals m at target found → Holds found
   by_target (Ok t) found asks = by_terminal t (named terminals (terminal_of m.head)) found refl asks
   by_target (Err r) found asks = rw asks (refusals r)
 
@@ -60,14 +67,16 @@ abbrev IsAskedBy : List Terminal → Timed → Result Event Refusal → Type 0
 IsAskedBy terminals o (Ok event) = (asker terminals o.0 ≡ Some event.who) × (event.at ≡ o.1)
 IsAskedBy terminals o (Err r) = Unit {0}
 
-pub found_asked_by : (zone : Zone) (terminals : List Terminal) (o : Timed) (found : Result Event Refusal) → Finds zone terminals o found → IsAskedBy terminals o found
+pub found_asked_by : (zone : Zone) (terminals : List Terminal) (o : Timed)
+    (found : Result Event Refusal) → Finds zone terminals o found → IsAskedBy terminals o found
 found_asked_by zone terminals (message m, at) found finds =
     by_steps zone terminals m at (IsAskedBy terminals (message m, at)) (λ r. tt) (λ t who given asks shows may wants is. (shows, refl)) found finds
 found_asked_by zone terminals (refused r head_only, at) found finds = rw finds tt
 
 -- ---- what is asked is addressed
 -- what is asked has a number from 1
-request_numbered : (zone : Zone) (t : Target) (body : List ℕ) (given : Request) (asks : Ask) → request_by t body ≡ Some given → IsAskFor zone given asks → IsNumbered asks
+request_numbered : (zone : Zone) (t : Target) (body : List ℕ) (given : Request) (asks : Ask)
+    → request_by t body ≡ Some given → IsAskFor zone given asks → IsNumbered asks
 request_numbered zone t body (request.Ask a) asks wants is = rw is (asked_is t body a wants).1
 request_numbered zone t body (request.Times day) asks wants is = rw is.2 tt
 
@@ -76,12 +85,15 @@ abbrev IsKnownEvent : Room → Result Event Refusal → Type 0
 IsKnownEvent room (Ok event) = IsAddressed event room × IsNumbered event.ask
 IsKnownEvent room (Err r) = Unit {0}
 
-module _ (zone : Zone) (terminals : List Terminal) (room : Room) (fit : AreTerminals room terminals) where
-  named_known : (token : Option Token) (who : Who) → option_and_then (who_at terminals) token ≡ Some who → is_known who room ≡ true
+module _ (zone : Zone) (terminals : List Terminal) (room : Room)
+    (fit : AreTerminals room terminals) where
+  named_known : (token : Option Token) (who : Who)
+      → option_and_then (who_at terminals) token ≡ Some who → is_known who room ≡ true
   named_known None who is = cc
   named_known (Some token) who is = found_known room terminals token who fit (sym is)
 
-  found_event : (o : Timed) (found : Result Event Refusal) → Finds zone terminals o found → IsKnownEvent room found
+  found_event : (o : Timed) (found : Result Event Refusal) → Finds zone terminals o found
+      → IsKnownEvent room found
   found_event (message m, at) found finds =
       by_steps zone terminals m at (IsKnownEvent room) (λ r. tt) (λ t who given asks shows may wants is. (
         request_addressed zone t m.body given asks who room wants is may (named_known (token_of (terminal_of m.head)) who shows),
@@ -89,34 +101,41 @@ module _ (zone : Zone) (terminals : List Terminal) (room : Room) (fit : AreTermi
       )) found finds
   found_event (refused r head_only, at) found finds = rw finds tt
 
-  known_first : (found : Result Event Refusal) (events : List Event) → IsKnownEvent room found → AreAddressed events room → AreAddressed (event_then found events) room
+  known_first : (found : Result Event Refusal) (events : List Event) → IsKnownEvent room found
+      → AreAddressed events room → AreAddressed (event_then found events) room
   known_first (Ok event) events first rest = (first.0, first.1, rest)
   known_first (Err r) events first rest = rest
 
   -- what arrivals ask for is addressed
-  all_addressed : (xs : List Exchange) (now : Room) → AreAnswered zone terminals xs now → AreAddressed (events_of xs) room
+  all_addressed : (xs : List Exchange) (now : Room) → AreAnswered zone terminals xs now
+      → AreAddressed (events_of xs) room
   all_addressed [] now are = tt
   all_addressed (x ∷ xs) now are =
       known_first x.found (events_of xs) (found_event x.arrival x.found are.0) (all_addressed xs (replied machine x.found now).0 are.2)
 
 -- ---- one run after another
 -- the room after what was found and then more
-pub run_first : (found : Result Event Refusal) (events : List Event) (room : Room) → room_run (event_then found events) room ≡ room_run events (replied machine found room).0
+pub run_first : (found : Result Event Refusal) (events : List Event) (room : Room)
+    → room_run (event_then found events) room ≡ room_run events (replied machine found room).0
 run_first (Ok event) events room = refl
 run_first (Err r) events room = refl
 
-pub room_split : (before rest : List Exchange) (room : Room) → room_by (before ++ rest) room ≡ room_by rest (room_by before room)
+pub room_split : (before rest : List Exchange) (room : Room)
+    → room_by (before ++ rest) room ≡ room_by rest (room_by before room)
 room_split [] rest room = refl
 room_split (x ∷ before) rest room =
     run_first x.found (events_of (before ++ rest)) room ∙ room_split before rest (replied machine x.found room).0
     ∙ ap (room_by rest) (sym (run_first x.found (events_of before) room))
 
 -- the room after one more
-pub room_push : (before : List Exchange) (x : Exchange) (room : Room) → room_by (before ++ x ∷ []) room ≡ (replied machine x.found (room_by before room)).0
+pub room_push : (before : List Exchange) (x : Exchange) (room : Room)
+    → room_by (before ++ x ∷ []) room ≡ (replied machine x.found (room_by before room)).0
 room_push before x room = room_split before (x ∷ []) room ∙ run_first x.found [] (room_by before room)
 
 module _ (zone : Zone) (terminals : List Terminal) where
-  pub answered_join : (before rest : List Exchange) (room : Room) → AreAnswered zone terminals before room → AreAnswered zone terminals rest (room_by before room)
+  pub answered_join : (before rest : List Exchange) (room : Room)
+      → AreAnswered zone terminals before room
+      → AreAnswered zone terminals rest (room_by before room)
       → AreAnswered zone terminals (before ++ rest) room
   answered_join [] rest room first second = second
   answered_join (x ∷ before) rest room first second = (
@@ -125,23 +144,27 @@ module _ (zone : Zone) (terminals : List Terminal) where
     answered_join before rest (replied machine x.found room).0 first.2 (subst (AreAnswered zone terminals rest) (run_first x.found (events_of before) room) second),
   )
 
-  pub run_of : (room : Room) (xs : List Exchange) → AreTerminals room terminals → AreAnswered zone terminals xs room → IsRun zone terminals xs room
+  pub run_of : (room : Room) (xs : List Exchange) → AreTerminals room terminals
+      → AreAnswered zone terminals xs room → IsRun zone terminals xs room
   run_of room xs fit answered = record { addressed = all_addressed zone terminals room fit xs room answered; answered = answered }
 
-  pub run_join : (room : Room) (xs ys : List Exchange) → AreTerminals room terminals → IsRun zone terminals xs room → IsRun zone terminals ys (room_by xs room)
+  pub run_join : (room : Room) (xs ys : List Exchange) → AreTerminals room terminals
+      → IsRun zone terminals xs room → IsRun zone terminals ys (room_by xs room)
       → IsRun zone terminals (xs ++ ys) room
   run_join room xs ys fit first second = run_of room (xs ++ ys) fit (answered_join xs ys room first.answered second.answered)
 
 -- ---- a talk
 module _ (zone : Zone) (terminals : List Terminal) where
   -- the exchanges of a talk
-  record Exchanged (outs : List Timed) (after : Room) (bytes : List ℕ) (xs : List Exchange) (room : Room) : Type 0 where
+  record Exchanged (outs : List Timed) (after : Room) (bytes : List ℕ) (xs : List Exchange)
+      (room : Room) : Type 0 where
     answered : AreAnswered zone terminals xs room
     arrivals : arrivals_of xs ≡ outs
     leads : room_by xs room ≡ after
     told : bytes_of xs ≡ bytes
 
-  exchanged : (room : Room) (outs : List Timed) (after : Room) (bytes : List ℕ) → IsTalk machine zone terminals room outs after bytes
+  exchanged : (room : Room) (outs : List Timed) (after : Room) (bytes : List ℕ)
+      → IsTalk machine zone terminals room outs after bytes
       → (xs : List Exchange) × Exchanged outs after bytes xs room
   exchanged room [] after bytes talk = ([], record { answered = tt; arrivals = refl; leads = sym talk.0; told = sym talk.1 })
   exchanged room (o ∷ more) after bytes (next, first, others, joins, (found, finds, is, replies), talk) =
@@ -156,7 +179,8 @@ module _ (zone : Zone) (terminals : List Terminal) where
         },
       )
 
-  pub talk_run : (room : Room) (outs : List Timed) (after : Room) (bytes : List ℕ) → AreTerminals room terminals → IsTalk machine zone terminals room outs after bytes
+  pub talk_run : (room : Room) (outs : List Timed) (after : Room) (bytes : List ℕ)
+      → AreTerminals room terminals → IsTalk machine zone terminals room outs after bytes
       → (xs : List Exchange) × IsRunOf zone terminals outs after bytes xs room
   talk_run room outs after bytes fit talk =
       let of = exchanged room outs after bytes talk in (

@@ -30,21 +30,28 @@ use Rattle.room_http.proofs.StreamLemmas.{Passes, Begins-push, nothing_left}
 use Rattle.room_http.proofs.TalkLemmas.{Talks-append, Talks-as, Talks-none}
 
 -- the arrivals were answered, all of them stay open, and these bytes are left
-pub record Going (step : Step) (zone : Zone) (old : Sides) (left held given : Option (List ℕ)) (trusted : Type 0) (stood stands : List Terminal → Room → Type 0) (outs : List Timed) : Type 0 where
-  pub begins : (stream : List ℕ) → old.left ≡ Some stream → (rest : List ℕ) × (left ≡ Some rest) × Begins stream (map (λ x. x.0) outs) rest
+pub record Going (step : Step) (zone : Zone) (old : Sides) (left held given : Option (List ℕ))
+    (trusted : Type 0) (stood stands : List Terminal → Room → Type 0)
+    (outs : List Timed) : Type 0 where
+  pub begins : (stream : List ℕ) → old.left ≡ Some stream
+      → (rest : List ℕ) × (left ≡ Some rest) × Begins stream (map (λ x. x.0) outs) rest
   pub stay : All (λ x. is_closing x.0 ≡ false) outs
   pub timed : All (λ x. x.1 ≤ LAST_MOMENT) outs
   pub moments : Appends old.given given (map (λ x. x.1) outs)
-  pub talk : Talks step zone trusted stood old.held held outs (λ terminals after tail. stands terminals after × (tail ≡ []))
+  pub talk : Talks step zone trusted stood old.held held outs
+      (λ terminals after tail. stands terminals after × (tail ≡ []))
 
 -- the clock gave no moment, some moments later
-no_moment_later : (a b c : Option (List ℕ)) (was_none : Bool) (moments : List ℕ) → Appends a b moments → HasNoMoment b c was_none [] → HasNoMoment a c was_none moments
+no_moment_later : (a b c : Option (List ℕ)) (was_none : Bool) (moments : List ℕ)
+    → Appends a b moments → HasNoMoment b c was_none [] → HasNoMoment a c was_none moments
 no_moment_later a b c was_none moments first (inl none) = inl (none.0, rw append-nil at (Appends-more a b c moments [] first none.1))
 no_moment_later a b c was_none moments first (inr late) = inr (late.0, late.1, Appends-more a b c moments (late.0 ∷ []) first late.2)
 
 -- the stream that is left goes on
-pub still_begins : (stream : List ℕ) (outs : List Timed) (left after : Option (List ℕ)) → ((rest : List ℕ) × (left ≡ Some rest) × Begins stream (map (λ x. x.0) outs) rest)
-    → Keeps left after → (rest : List ℕ) × (after ≡ Some rest) × Begins stream (map (λ x. x.0) outs) rest
+pub still_begins : (stream : List ℕ) (outs : List Timed) (left after : Option (List ℕ))
+    → ((rest : List ℕ) × (left ≡ Some rest) × Begins stream (map (λ x. x.0) outs) rest)
+    → Keeps left after → (rest : List ℕ) × (after ≡ Some rest)
+    × Begins stream (map (λ x. x.0) outs) rest
 still_begins stream outs None after begins same = absurd (cc)
 still_begins stream outs (Some rest) None begins same = absurd same
 still_begins stream outs (Some rest) (Some next) begins same =
@@ -52,7 +59,8 @@ still_begins stream outs (Some rest) (Some next) begins same =
     (next, refl, subst (λ (t : List ℕ). Begins stream (map (λ x. x.0) outs) t) is begins.2)
 
 -- where serving ends with an answer no read failed or was wanting
-pub ends_missing_none : (left remains given gives : Option (List ℕ)) (e : ServeEnd) → EndsAnswering e → MissesNone left remains given gives e
+pub ends_missing_none : (left remains given gives : Option (List ℕ)) (e : ServeEnd)
+    → EndsAnswering e → MissesNone left remains given gives e
 ends_missing_none left remains given gives Closed ends = tt
 ends_missing_none left remains given gives WriteFault ends = tt
 ends_missing_none left remains given gives ClockFault ends = tt
@@ -63,7 +71,8 @@ ends_missing_none left remains given gives ReadFault ends = absurd ends
 ends_missing_none left remains given gives ReadsSpent ends = absurd ends
 
 module _ (step : Step) (zone : Zone) (old : Sides) where
-  pub Going-none : (trusted : Type 0) (stood stands : List Terminal → Room → Type 0) → ((terminals : List Terminal) (room : Room) → stood terminals room → stands terminals room)
+  pub Going-none : (trusted : Type 0) (stood stands : List Terminal → Room → Type 0)
+      → ((terminals : List Terminal) (room : Room) → stood terminals room → stands terminals room)
       → Going step zone old old.left old.held old.given trusted stood stands []
   Going-none trusted stood stands is = record {
     begins = λ stream known. (stream, known, refl);
@@ -73,9 +82,11 @@ module _ (step : Step) (zone : Zone) (old : Sides) where
     talk = Talks-none step zone trusted stood stands old.held is;
   }
 
-  module _ (early : Type 0) (stood stays : List Terminal → Room → Type 0) (left held given : Option (List ℕ)) (outs : List Timed) where
+  module _ (early : Type 0) (stood stays : List Terminal → Room → Type 0)
+      (left held given : Option (List ℕ)) (outs : List Timed) where
     -- the bytes that are left come from the reader to the inbox
-    pub Going-kept : (after : Option (List ℕ)) → Going step zone old left held given early stood stays outs → Keeps left after
+    pub Going-kept : (after : Option (List ℕ))
+        → Going step zone old left held given early stood stays outs → Keeps left after
         → Going step zone old after held given early stood stays outs
     Going-kept after before same = record {
       begins = λ stream known. still_begins stream outs left after (before.begins stream known) same;
@@ -86,9 +97,20 @@ module _ (step : Step) (zone : Zone) (old : Sides) where
     }
 
     -- serving ended between arrivals
-    pub Going-ends : (reads : Option ℕ) (read_failed read_ended write_failed was_none : Bool) (follows : List ℕ → Type 0) → Going step zone old left held given early stood stays outs
+    pub Going-ends : (reads : Option ℕ) (read_failed read_ended write_failed was_none : Bool)
+        (follows : List ℕ → Type 0) → Going step zone old left held given early stood stays outs
         → ((rest : List ℕ) → left ≡ Some rest → follows rest)
-        → Answered step zone old (record { reads = reads; held = held; given = given; read_failed = read_failed; read_ended = read_ended; write_failed = write_failed; was_none = was_none }) early stood stays outs follows
+        → Answered step zone old (record {
+          reads = reads;
+          held = held;
+          given = given;
+          read_failed =
+              read_failed;
+          read_ended = read_ended;
+          write_failed = write_failed;
+          was_none =
+              was_none;
+        }) early stood stays outs follows
     Going-ends reads read_failed read_ended write_failed was_none follows before then = record {
       begins = λ stream known. let begins = before.begins stream known in (begins.0, begins.2, then begins.0 begins.1);
       timed = (before.timed, before.moments);
@@ -96,7 +118,9 @@ module _ (step : Step) (zone : Zone) (old : Sides) where
     }
 
     -- of what was read, all is answered but what is in the inbox
-    pub leaves_part : (kept : List ℕ) (remains : Option (List ℕ)) → left ≡ prepend_known kept remains → Going step zone old left held given early stood stays outs
+    pub leaves_part : (kept : List ℕ) (remains : Option (List ℕ))
+        → left ≡ prepend_known kept remains
+        → Going step zone old left held given early stood stays outs
         → IsPart kept → LeavesPart old.left remains old.given given
     leaves_part kept None is before part = λ stream known. absurd (let begins = before.begins stream known in cc)
     leaves_part kept (Some rest) is before part = λ stream known.
@@ -112,7 +136,9 @@ module _ (step : Step) (zone : Zone) (old : Sides) where
         )
 
   -- Serving ended where reading stopped: these bytes are in the inbox, and that is to come.
-  module _ (early : Type 0) (stood stays : List Terminal → Room → Type 0) (begun held given : Option (List ℕ)) (outs : List Timed) (first : Going step zone old begun held given early stood stays outs)
+  module _ (early : Type 0) (stood stays : List Terminal → Room → Type 0)
+      (begun held given : Option (List ℕ)) (outs : List Timed)
+      (first : Going step zone old begun held given early stood stays outs)
       (kept : List ℕ) (remains : Option (List ℕ)) (same : Keeps begun (prepend_known kept remains)) (granted : ℕ) (read_failed read_ended : Bool) where
     reached : Going step zone old (prepend_known kept remains) held given early stood stays outs
     reached = Going-kept early stood stays begun held given outs (prepend_known kept remains) first same
@@ -120,7 +146,8 @@ module _ (step : Step) (zone : Zone) (old : Sides) where
     abbrev Says : Result Layout Unread → Type 0
     Says = SaysOf kept granted read_failed read_ended remains
 
-    pub stops_missing_none : (read : Result Layout Unread) (e : ServeEnd) → Says read → EndsAs read e → MissesNone old.left remains old.given given e
+    pub stops_missing_none : (read : Result Layout Unread) (e : ServeEnd) → Says read
+        → EndsAs read e → MissesNone old.left remains old.given given e
     stops_missing_none (Ok layout) e says is = absurd is
     stops_missing_none (Err (Refused r head_only)) e says is = absurd is
     stops_missing_none (Err End) e says is = rw is tt
@@ -128,14 +155,19 @@ module _ (step : Step) (zone : Zone) (old : Sides) where
     stops_missing_none (Err Fault) e says is = rw is (leaves_part early stood stays (prepend_known kept remains) held given outs kept remains refl reached says.0)
     stops_missing_none (Err Spent) e says is = rw is (leaves_part early stood stays (prepend_known kept remains) held given outs kept remains refl reached says.0)
 
-    module _ (reads : Option ℕ) (write_failed was_none : Bool) (wants : Timed → List Terminal → Room → Type 0) (budget : ℕ) (count : CountsBy (budget - granted) old.reads reads) where
+    module _ (reads : Option ℕ) (write_failed was_none : Bool)
+        (wants : Timed → List Terminal → Room → Type 0) (budget : ℕ)
+        (count : CountsBy (budget - granted) old.reads reads) where
       abbrev new : Finish
       new = record { reads = reads; held = held; given = given; read_failed = read_failed; read_ended = read_ended; write_failed = write_failed; was_none = was_none }
 
-      answered : (follows : List ℕ → Type 0) → ((rest : List ℕ) → prepend_known kept remains ≡ Some rest → follows rest) → Answered step zone old new early stood stays outs follows
+      answered : (follows : List ℕ → Type 0)
+          → ((rest : List ℕ) → prepend_known kept remains ≡ Some rest → follows rest)
+          → Answered step zone old new early stood stays outs follows
       answered follows then = Going-ends early stood stays (prepend_known kept remains) held given outs reads read_failed read_ended write_failed was_none follows reached then
 
-      pub stops : (read : Result Layout Unread) (e : ServeEnd) → Says read → EndsAs read e → ServeIs step zone old new early stood stays wants budget e
+      pub stops : (read : Result Layout Unread) (e : ServeEnd) → Says read → EndsAs read e
+          → ServeIs step zone old new early stood stays wants budget e
       stops (Ok layout) e says is = absurd is
       stops (Err (Refused r head_only)) e says is = absurd is
       stops (Err End) e says is = rw is (inl (outs, answered (λ rest. rest ≡ []) (λ rest known. nothing_left kept remains rest says.2 known ∙ says.0), says.1))
@@ -146,7 +178,9 @@ module _ (step : Step) (zone : Zone) (old : Sides) where
           rw is (outs, answered (λ rest. ⊤) (λ rest known. tt), rw all at count)
 
   -- one more arrival
-  module _ (was early : Type 0) (stood stays : List Terminal → Room → Type 0) (lefts : List Terminal → List Room → Type 0) (begun left held given : Option (List ℕ)) (outs : List Timed)
+  module _ (was early : Type 0) (stood stays : List Terminal → Room → Type 0)
+      (lefts : List Terminal → List Room → Type 0) (begun left held given : Option (List ℕ))
+      (outs : List Timed)
       (first : Going step zone old begun held given early stood (Stays was stays lefts) outs) (same : Keeps begun left) (new : Finish) (is_kept late : Type 0) (stands : List Terminal → Room → Type 0) (leaves : List Terminal → List Room → Type 0)
       (earlier : late → early) (kept : late → was → is_kept) (after : Option (List ℕ)) (o : Arrival) (pass : Passes left after o) where
     before : Going step zone old left held given early stood (Stays was stays lefts) outs
@@ -158,25 +192,32 @@ module _ (step : Step) (zone : Zone) (old : Sides) where
     abbrev ServeHere : ℕ → ServeEnd → Type 0
     ServeHere = ServeIs step zone old new late stood (Stays was stands leaves) (Wants step zone was stands leaves)
 
-    still : late → (terminals : List Terminal) (room : Room) → Stays is_kept stands leaves terminals room → Stays was stands leaves terminals room
+    still : late → (terminals : List Terminal) (room : Room)
+        → Stays is_kept stands leaves terminals room → Stays was stands leaves terminals room
     still trust terminals room it = (it.0, λ before. it.1 (kept trust before))
 
-    still_wants : late → (x : Timed) (terminals : List Terminal) (room : Room) → Wants step zone is_kept stands leaves x terminals room → Wants step zone was stands leaves x terminals room
+    still_wants : late → (x : Timed) (terminals : List Terminal) (room : Room)
+        → Wants step zone is_kept stands leaves x terminals room
+        → Wants step zone was stands leaves x terminals room
     still_wants trust x terminals room it = (it.0, λ before. it.1 (kept trust before))
 
-    begins_more : (at : ℕ) (stream : List ℕ) → old.left ≡ Some stream → (next : List ℕ) × (after ≡ Some next) × Begins stream (map (λ x. x.0) (outs ++ (o, at) ∷ [])) next
+    begins_more : (at : ℕ) (stream : List ℕ) → old.left ≡ Some stream
+        → (next : List ℕ) × (after ≡ Some next)
+        × Begins stream (map (λ x. x.0) (outs ++ (o, at) ∷ [])) next
     begins_more at stream known =
         let begins = before.begins stream known in
         let passes = pass.passes begins.0 begins.1 in
         (passes.0, passes.2, Begins-push stream outs begins.0 (o, at) passes.0 begins.2 before.stay passes.1)
 
-    has_next : (stream : List ℕ) → old.left ≡ Some stream → (rest : List ℕ) × Begins stream (map (λ x. x.0) outs) rest × HasNext o rest
+    has_next : (stream : List ℕ) → old.left ≡ Some stream
+        → (rest : List ℕ) × Begins stream (map (λ x. x.0) outs) rest × HasNext o rest
     has_next stream known =
         let begins = before.begins stream known in
         let passes = pass.passes begins.0 begins.1 in
         (begins.0, begins.2, (passes.0, passes.1))
 
-    moments_more : (at : ℕ) → Appends given new.given (at ∷ []) → Appends old.given new.given (map (λ x. x.1) (outs ++ (o, at) ∷ []))
+    moments_more : (at : ℕ) → Appends given new.given (at ∷ [])
+        → Appends old.given new.given (map (λ x. x.1) (outs ++ (o, at) ∷ []))
     moments_more at moment =
         rw (map-append (λ (x : Timed). x.1) outs ((o, at) ∷ [])) (Appends-more old.given given new.given (map (λ x. x.1) outs) (at ∷ []) before.moments moment)
 
@@ -184,25 +225,34 @@ module _ (step : Step) (zone : Zone) (old : Sides) where
     timed_more at within = All-push (λ (x : Timed). x.1 ≤ LAST_MOMENT) outs (o, at) before.timed within
 
     -- what is said goes on from here
-    talk_more : (more : List Timed) (says less : List Terminal → Room → List ℕ → Type 0) → (late → (terminals : List Terminal) (room : Room) (tail : List ℕ) → says terminals room tail → less terminals room tail)
-        → Talks step zone late stays held new.held more says → Talks step zone late stood old.held new.held (outs ++ more) less
+    talk_more : (more : List Timed) (says less : List Terminal → Room → List ℕ → Type 0)
+        → (late → (terminals : List Terminal) (room : Room) (tail : List ℕ)
+        → says terminals room tail → less terminals room tail)
+        → Talks step zone late stays held new.held more says
+        → Talks step zone late stood old.held new.held (outs ++ more) less
     talk_more more says less tells talk =
         Talks-append step zone early late stood (Stays was stays lefts) old.held held new.held outs more less earlier before.talk
         (Talks-as step zone late stays (Stays was stays lefts) held new.held more says less (λ terminals room it. it.0) tells talk)
 
-    talk_kept : (says less : List Terminal → Room → List ℕ → Type 0) → (late → (terminals : List Terminal) (room : Room) (tail : List ℕ) → says terminals room tail → less terminals room tail)
-        → Talks step zone late stays held new.held [] says → Talks step zone late stood old.held new.held outs less
+    talk_kept : (says less : List Terminal → Room → List ℕ → Type 0)
+        → (late → (terminals : List Terminal) (room : Room) (tail : List ℕ)
+        → says terminals room tail → less terminals room tail)
+        → Talks step zone late stays held new.held [] says
+        → Talks step zone late stood old.held new.held outs less
     talk_kept says less tells talk = rw append-nil at (talk_more [] says less tells talk)
 
     abbrev Said : Type 0 → (List ℕ → Type 0) → List Terminal → Room → List ℕ → Type 0
     Said before tells terminals room tail = Stays before stands leaves terminals room × tells tail
 
-    more_said : (more : List Timed) (tells : List ℕ → Type 0) → Talks step zone late stays held new.held more (Said is_kept tells) → Talks step zone late stood old.held new.held (outs ++ more) (Said was tells)
+    more_said : (more : List Timed) (tells : List ℕ → Type 0)
+        → Talks step zone late stays held new.held more (Said is_kept tells)
+        → Talks step zone late stood old.held new.held (outs ++ more) (Said was tells)
     more_said more tells talk = talk_more more (Said is_kept tells) (Said was tells) (λ trust terminals room tail it. (still trust terminals room it.0, it.1)) talk
 
     -- one more was answered, and stays open
     pub Going-more : AnswersHere (Ok tt) → is_closing o ≡ false
-        → (more : List Timed) × Going step zone old after new.held new.given late stood (Stays was stands leaves) more
+        → (more : List Timed) × Going step zone old after new.held new.given late stood
+        (Stays was stands leaves) more
     Going-more answers open_ =
         let at = answers.0 in (
           outs ++ (o, at) ∷ [],
@@ -229,9 +279,13 @@ module _ (step : Step) (zone : Zone) (old : Sides) where
           (outs, (o, at), refl, closing),
         ))
 
-    wanted : (at : ℕ) (r : Refusal) (more : List ℕ → List ℕ → Type 0) → at ≤ LAST_MOMENT → Appends given new.given (at ∷ []) → IsWant r
-        → Talks step zone late stays held new.held [] (λ terminals room tail. Wants step zone is_kept stands leaves (o, at) terminals room × more tail (fixed_bytes r (is_head_only o)))
-        → Unserved step zone old new late stood (Stays was stands leaves) (Wants step zone was stands leaves) outs (o, at) more
+    wanted : (at : ℕ) (r : Refusal) (more : List ℕ → List ℕ → Type 0) → at ≤ LAST_MOMENT
+        → Appends given new.given (at ∷ []) → IsWant r
+        → Talks step zone late stays held new.held []
+        (λ terminals room tail. Wants step zone is_kept stands leaves (o, at) terminals room
+        × more tail (fixed_bytes r (is_head_only o)))
+        → Unserved step zone old new late stood (Stays was stands leaves)
+        (Wants step zone was stands leaves) outs (o, at) more
     wanted at r more within moment want talk = record {
       begins = has_next;
       next = λ stream known. let begins = begins_more at stream known in (begins.0, begins.2, tt);
@@ -243,7 +297,9 @@ module _ (step : Step) (zone : Zone) (old : Sides) where
     }
 
     broken : (at : ℕ) → at ≤ LAST_MOMENT → Appends given new.given (at ∷ [])
-        → Talks step zone late stays held new.held [] (λ terminals room tail. BreaksOff step zone terminals (Stays is_kept stands leaves) room (o, at) tail)
+        → Talks step zone late stays held new.held []
+        (λ terminals room tail. BreaksOff step zone terminals
+        (Stays is_kept stands leaves) room (o, at) tail)
         → Broken step zone old new late stood (Stays was stands leaves) outs (o, at)
     broken at within moment talk = record {
       begins = λ stream known. let begins = begins_more at stream known in (begins.0, begins.2, tt);
@@ -254,8 +310,12 @@ module _ (step : Step) (zone : Zone) (old : Sides) where
     }
 
     -- no byte was written, and so much holds of the room
-    unwritten : (at : ℕ) (says less : List Terminal → Room → Type 0) → (late → (terminals : List Terminal) (room : Room) → says terminals room → less terminals room)
-        → at ≤ LAST_MOMENT → Appends given new.given (at ∷ []) → Talks step zone late stays held new.held [] (λ terminals room tail. says terminals room × (tail ≡ []))
+    unwritten : (at : ℕ) (says less : List Terminal → Room → Type 0)
+        → (late → (terminals : List Terminal) (room : Room) → says terminals room
+        → less terminals room)
+        → at ≤ LAST_MOMENT → Appends given new.given (at ∷ [])
+        → Talks step zone late stays held new.held []
+        (λ terminals room tail. says terminals room × (tail ≡ []))
         → Unwritten step zone old new late stood (Stays was stands leaves) outs (o, at) less
     unwritten at says less tells within moment talk = record {
       begins = has_next;

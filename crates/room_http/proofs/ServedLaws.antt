@@ -25,25 +25,34 @@ use Rattle.room_http.proofs.PromiseLaws.{promises_kept}
 use Rattle.room_http.proofs.RunLemmas.{answered_join, room_push, run_of, talk_run}
 use Rattle.room_http.proofs.TalkLemmas.{Talks-as, Talks-none}
 
-module _ (zone : Zone) (are : List Timed → Type 0) (was_kept : Type 0) (stands : List Terminal → Room → Type 0) (leaves : List Terminal → List Room → Type 0) where
+module _ (zone : Zone) (are : List Timed → Type 0) (was_kept : Type 0)
+    (stands : List Terminal → Room → Type 0) (leaves : List Terminal → List Room → Type 0) where
   -- the room after these arrivals, and what a stop leaves of it
   abbrev IsLeft : List Timed → List Terminal → Room → Type 0
   IsLeft outs terminals room =
       stands terminals room × (was_kept → leaves terminals (room ∷ []) ⊎ ((x : Timed) × are (outs ++ x ∷ []) × LeavesNext machine zone leaves x terminals room))
 
-  alone : (outs : List Timed) (terminals : List Terminal) (room : Room) → Stays was_kept stands leaves terminals room → IsLeft outs terminals room
+  alone : (outs : List Timed) (terminals : List Terminal) (room : Room)
+      → Stays was_kept stands leaves terminals room → IsLeft outs terminals room
   alone outs terminals room stays = (stays.0, λ was. inl (stays.1 was))
 
-  wanting : (outs : List Timed) (x : Timed) → are (outs ++ x ∷ []) → (terminals : List Terminal) (room : Room) → Wants machine zone was_kept stands leaves x terminals room → IsLeft outs terminals room
+  wanting : (outs : List Timed) (x : Timed) → are (outs ++ x ∷ [])
+      → (terminals : List Terminal) (room : Room)
+      → Wants machine zone was_kept stands leaves x terminals room → IsLeft outs terminals room
   wanting outs x first terminals room wants = (wants.0, λ was. elim (wants.1 was) [ inl one ↦ inl one | inr next ↦ inr (x, first, next) ])
 
-module _ (zone : Zone) (are : List Timed → Type 0) (held holds : Option (List ℕ)) (was_kept : Type 0) (stands : List Terminal → Room → Type 0) (leaves : List Terminal → List Room → Type 0) where
+module _ (zone : Zone) (are : List Timed → Type 0) (held holds : Option (List ℕ))
+    (was_kept : Type 0) (stands : List Terminal → Room → Type 0)
+    (leaves : List Terminal → List Room → Type 0) where
   abbrev LeftHere : List Timed → List Terminal → Room → Type 0
   LeftHere = IsLeft zone are was_kept stands leaves
 
-  module _ (terminals : List Terminal) (room : Room) (fit : AreTerminals room terminals) (formed : IsWellFormed room) where
-    served_by : (xs : List Exchange) (written : List ℕ) → IsRun zone terminals xs room → are (arrivals_of xs) → LeftHere (arrivals_of xs) terminals (room_by xs room)
-        → Appends held holds written → AreWritten xs written → Served zone are held holds was_kept stands leaves terminals room
+  module _ (terminals : List Terminal) (room : Room) (fit : AreTerminals room terminals)
+      (formed : IsWellFormed room) where
+    served_by : (xs : List Exchange) (written : List ℕ) → IsRun zone terminals xs room
+        → are (arrivals_of xs) → LeftHere (arrivals_of xs) terminals (room_by xs room)
+        → Appends held holds written → AreWritten xs written
+        → Served zone are held holds was_kept stands leaves terminals room
     served_by xs written run arrivals after appends so_far = record {
       exchanges = xs;
       arrivals = arrivals;
@@ -55,16 +64,21 @@ module _ (zone : Zone) (are : List Timed → Type 0) (held holds : Option (List 
     }
 
     -- the answers were written, and a tail
-    whole : (outs : List Timed) (after : Room) (bytes tail : List ℕ) → are outs → IsTalk machine zone terminals room outs after bytes → LeftHere outs terminals after
-        → IsWantTail tail → Appends held holds (bytes ++ tail) → Served zone are held holds was_kept stands leaves terminals room
+    whole : (outs : List Timed) (after : Room) (bytes tail : List ℕ) → are outs
+        → IsTalk machine zone terminals room outs after bytes → LeftHere outs terminals after
+        → IsWantTail tail → Appends held holds (bytes ++ tail)
+        → Served zone are held holds was_kept stands leaves terminals room
     whole outs after bytes tail arrivals talk stay wants appends =
         let of = talk_run zone terminals room outs after bytes fit talk in
         served_by of.0 (bytes ++ tail) of.1.run (subst are (sym of.1.arrivals) arrivals) (subst (λ os. LeftHere os terminals (room_by of.0 room)) (sym of.1.arrivals) (subst (LeftHere outs terminals) (sym of.1.leads) stay)) appends
         (inl (tail, wants, ap (λ b. b ++ tail) (sym of.1.told)))
 
     -- the last answer was not written wholly
-    short : (outs : List Timed) (x : Timed) (now : Room) (bytes tail : List ℕ) → are (outs ++ x ∷ []) → IsTalk machine zone terminals room outs now bytes
-        → BreaksOff machine zone terminals (Stays was_kept stands leaves) now x tail → Appends held holds (bytes ++ tail) → Served zone are held holds was_kept stands leaves terminals room
+    short : (outs : List Timed) (x : Timed) (now : Room) (bytes tail : List ℕ)
+        → are (outs ++ x ∷ []) → IsTalk machine zone terminals room outs now bytes
+        → BreaksOff machine zone terminals (Stays was_kept stands leaves) now x tail
+        → Appends held holds (bytes ++ tail)
+        → Served zone are held holds was_kept stands leaves terminals room
     short outs x now bytes tail arrivals talk (after, answer, (found, finds, is, replies), stay, front) appends =
         let of = talk_run zone terminals room outs now bytes fit talk in
         let last : Exchange = record { arrival = x; found = found; bytes = answer } in
@@ -75,46 +89,67 @@ module _ (zone : Zone) (are : List Timed → Type 0) (held holds : Option (List 
         (subst are (sym outs_are) arrivals) (subst (LeftHere (arrivals_of (of.0 ++ last ∷ [])) terminals) (sym leads) (alone zone are was_kept stands leaves (arrivals_of (of.0 ++ last ∷ [])) terminals after stay)) appends
         (inr (of.0, last, tail, refl, front, ap (λ b. b ++ tail) (sym of.1.told)))
 
-  module _ (trusted : Type 0) (stood : List Terminal → Room → Type 0) (fit : (terminals : List Terminal) (room : Room) → stood terminals room → AreTerminals room terminals) where
-    kept_whole : (outs : List Timed) (says : List Terminal → Room → Type 0) (tells : List ℕ → Type 0) → are outs → ((terminals : List Terminal) (room : Room) → says terminals room → LeftHere outs terminals room)
+  module _ (trusted : Type 0) (stood : List Terminal → Room → Type 0)
+      (fit : (terminals : List Terminal) (room : Room) → stood terminals room
+      → AreTerminals room terminals) where
+    kept_whole : (outs : List Timed) (says : List Terminal → Room → Type 0)
+        (tells : List ℕ → Type 0) → are outs
+        → ((terminals : List Terminal) (room : Room) → says terminals room
+        → LeftHere outs terminals room)
         → ((tail : List ℕ) → tells tail → IsWantTail tail)
-        → Talks machine zone trusted stood held holds outs (λ terminals after tail. says terminals after × tells tail) → KeepsPromises zone are held holds trusted was_kept stood stands leaves
+        → Talks machine zone trusted stood held holds outs
+        (λ terminals after tail. says terminals after × tells tail)
+        → KeepsPromises zone are held holds trusted was_kept stood stands leaves
     kept_whole outs says tells arrivals left wants talk trust terminals room standing formed =
         let t = talk trust terminals room standing in
         whole terminals room (fit terminals room standing) formed outs t.0 t.1 t.2 arrivals t.3 (left terminals t.0 t.4.0) (wants t.2 t.4.1) t.5
 
     kept_short : (outs : List Timed) (x : Timed) → are (outs ++ x ∷ [])
-        → Talks machine zone trusted stood held holds outs (λ terminals after tail. BreaksOff machine zone terminals (Stays was_kept stands leaves) after x tail) → KeepsPromises zone are held holds trusted was_kept stood stands leaves
+        → Talks machine zone trusted stood held holds outs
+        (λ terminals after tail. BreaksOff machine zone terminals
+        (Stays was_kept stands leaves) after x tail)
+        → KeepsPromises zone are held holds trusted was_kept stood stands leaves
     kept_short outs x arrivals talk trust terminals room standing formed =
         let t = talk trust terminals room standing in
         short terminals room (fit terminals room standing) formed outs x t.0 t.1 t.2 arrivals t.3 t.4 t.5
 
 -- nothing was answered
-pub none_served : (zone : Zone) (are : List Timed → Type 0) (held : Option (List ℕ)) (was_kept trusted : Type 0) (stood : List Terminal → Room → Type 0) (leaves : List Terminal → List Room → Type 0)
-    → ((terminals : List Terminal) (room : Room) → stood terminals room → AreTerminals room terminals) → ((terminals : List Terminal) (room : Room) → was_kept → stood terminals room → leaves terminals (room ∷ []))
+pub none_served : (zone : Zone) (are : List Timed → Type 0) (held : Option (List ℕ))
+    (was_kept trusted : Type 0) (stood : List Terminal → Room → Type 0)
+    (leaves : List Terminal → List Room → Type 0)
+    → ((terminals : List Terminal) (room : Room) → stood terminals room
+    → AreTerminals room terminals) → ((terminals : List Terminal) (room : Room) → was_kept
+    → stood terminals room → leaves terminals (room ∷ []))
     → are [] → KeepsPromises zone are held held trusted was_kept stood stood leaves
 none_served zone are held was_kept trusted stood leaves fit leaves_it none =
     kept_whole zone are held held was_kept stood leaves trusted stood fit [] (Stays was_kept stood leaves) (λ tail. tail ≡ []) none (alone zone are was_kept stood leaves []) (λ tail is. inl is)
     (Talks-none machine zone trusted stood (Stays was_kept stood leaves) held (λ terminals room standing. (standing, λ was. leaves_it terminals room was standing)))
 
 -- a fixed answer that was written, or some first bytes of it
-all_of : (r : Refusal) (head_only : Bool) → IsWant r → (tail : List ℕ) → tail ≡ fixed_bytes r head_only → IsWantTail tail
+all_of : (r : Refusal) (head_only : Bool) → IsWant r → (tail : List ℕ)
+    → tail ≡ fixed_bytes r head_only → IsWantTail tail
 all_of r head_only want tail is = inr (r, want, head_only, ([], sym (append-nil tail ∙ is)))
 
-some_of : (r : Refusal) (head_only : Bool) → IsWant r → (tail : List ℕ) → IsFront tail (fixed_bytes r head_only) → IsWantTail tail
+some_of : (r : Refusal) (head_only : Bool) → IsWant r → (tail : List ℕ)
+    → IsFront tail (fixed_bytes r head_only) → IsWantTail tail
 some_of r head_only want tail is = inr (r, want, head_only, is)
 
 -- the room has acted and nothing was written, so the answer was not written wholly
-silent : (zone : Zone) (trusted : Type 0) (stood stays : List Terminal → Room → Type 0) (held holds : Option (List ℕ)) (outs : List Timed) (x : Timed)
-    → Talks machine zone trusted stood held holds outs (λ terminals after tail. BreaksOff machine zone terminals stays after x [] × (tail ≡ []))
-    → Talks machine zone trusted stood held holds outs (λ terminals after tail. BreaksOff machine zone terminals stays after x tail)
+silent : (zone : Zone) (trusted : Type 0) (stood stays : List Terminal → Room → Type 0)
+    (held holds : Option (List ℕ)) (outs : List Timed) (x : Timed)
+    → Talks machine zone trusted stood held holds outs
+    (λ terminals after tail. BreaksOff machine zone terminals stays after x [] × (tail ≡ []))
+    → Talks machine zone trusted stood held holds outs
+    (λ terminals after tail. BreaksOff machine zone terminals stays after x tail)
 silent zone trusted stood stays held holds outs x talk =
     Talks-as machine zone trusted stood stood held holds outs (λ terminals after tail. BreaksOff machine zone terminals stays after x [] × (tail ≡ []))
     (λ terminals after tail. BreaksOff machine zone terminals stays after x tail) (λ terminals room it. it)
     (λ trust terminals room tail it. subst (BreaksOff machine zone terminals stays room x) (sym it.1) it.0) talk
 
 -- ---- one arrival
-module _ (zone : Zone) (held holds given gives : Option (List ℕ)) (write_failed was_none : Bool) (was_kept trusted : Type 0) (stood stands : List Terminal → Room → Type 0) (leaves : List Terminal → List Room → Type 0)
+module _ (zone : Zone) (held holds given gives : Option (List ℕ)) (write_failed was_none : Bool)
+    (was_kept trusted : Type 0) (stood stands : List Terminal → Room → Type 0)
+    (leaves : List Terminal → List Room → Type 0)
     (fit : (terminals : List Terminal) (room : Room) → stood terminals room → AreTerminals room terminals) (o : Arrival) where
   abbrev KeptOne : Type 0
   KeptOne = KeepsPromises zone (IsAtMost o given gives) held holds trusted was_kept stood stands leaves
@@ -122,9 +157,12 @@ module _ (zone : Zone) (held holds given gives : Option (List ℕ)) (write_faile
   abbrev AnswersHere : Step → Result (Unit {0}) ServeEnd → Type 0
   AnswersHere step result = Answers step zone held holds given gives write_failed was_none trusted stood (Stays was_kept stands leaves) (Wants step zone was_kept stands leaves) o result
 
-  none_answered : (says : List Terminal → Room → Type 0) (tells : List ℕ → Type 0) → ((terminals : List Terminal) (room : Room) → says terminals room → IsLeft zone (IsAtMost o given gives) was_kept stands leaves [] terminals room)
+  none_answered : (says : List Terminal → Room → Type 0) (tells : List ℕ → Type 0)
+      → ((terminals : List Terminal) (room : Room) → says terminals room
+      → IsLeft zone (IsAtMost o given gives) was_kept stands leaves [] terminals room)
       → ((tail : List ℕ) → tells tail → IsWantTail tail)
-      → Talks machine zone trusted stood held holds [] (λ terminals after tail. says terminals after × tells tail) → KeptOne
+      → Talks machine zone trusted stood held holds []
+      (λ terminals after tail. says terminals after × tells tail) → KeptOne
   none_answered says tells left wants talk = kept_whole zone (IsAtMost o given gives) held holds was_kept stands leaves trusted stood fit [] says tells tt left wants talk
 
   kept_one : (result : Result (Unit {0}) ServeEnd) → AnswersHere machine result → KeptOne
@@ -153,27 +191,34 @@ module _ (zone : Zone) (held holds given gives : Option (List ℕ)) (write_faile
   kept_one (Err ReadsSpent) a = absurd a
   kept_one (Err Memory) a = absurd a
 
-  pub one_promised : (step : Step) (result : Result (Unit {0}) ServeEnd) → AnswersHere step result → step ≡ machine → KeptOne
+  pub one_promised : (step : Step) (result : Result (Unit {0}) ServeEnd) → AnswersHere step result
+      → step ≡ machine → KeptOne
   one_promised step result a same = kept_one result (subst (λ (s : Step). AnswersHere s result) same a)
 
 -- ---- a connection
 -- what the stream begins with, whatever follows
 firsts : (left given gives : Option (List ℕ)) (outs : List Timed) (follows : List ℕ → Type 0)
-    → ((stream : List ℕ) → left ≡ Some stream → (rest : List ℕ) × Begins stream (map (λ x. x.0) outs) rest × follows rest) → AreGiven given gives outs
+    → ((stream : List ℕ) → left ≡ Some stream
+    → (rest : List ℕ) × Begins stream (map (λ x. x.0) outs) rest × follows rest)
+    → AreGiven given gives outs
     → AreFirst left given gives outs
 firsts left given gives outs follows begins moments = (λ stream known. let b = begins stream known in (b.0, b.1), moments)
 
-no_more : (given gives : Option (List ℕ)) (outs : List Timed) → Appends given gives (map (λ x. x.1) outs) → AreGiven given gives outs
+no_more : (given gives : Option (List ℕ)) (outs : List Timed)
+    → Appends given gives (map (λ x. x.1) outs) → AreGiven given gives outs
 no_more given gives outs appends = ([], rw append-nil appends)
 
-one_more : (given gives : Option (List ℕ)) (outs : List Timed) (x : Timed) → Appends given gives (map (λ x. x.1) (outs ++ x ∷ [])) → AreGiven given gives outs
+one_more : (given gives : Option (List ℕ)) (outs : List Timed) (x : Timed)
+    → Appends given gives (map (λ x. x.1) (outs ++ x ∷ [])) → AreGiven given gives outs
 one_more given gives outs x appends = (x.1 ∷ [], rw map-append at appends)
 
-no_moment : (given gives : Option (List ℕ)) (was_none : Bool) (outs : List Timed) → HasNoMoment given gives was_none (map (λ x. x.1) outs) → AreGiven given gives outs
+no_moment : (given gives : Option (List ℕ)) (was_none : Bool) (outs : List Timed)
+    → HasNoMoment given gives was_none (map (λ x. x.1) outs) → AreGiven given gives outs
 no_moment given gives was_none outs (inl none) = no_more given gives outs none.1
 no_moment given gives was_none outs (inr late) = (late.0 ∷ [], late.2)
 
-module _ (zone : Zone) (old : Sides) (new : Finish) (was_kept trusted : Type 0) (stood stands : List Terminal → Room → Type 0) (leaves : List Terminal → List Room → Type 0)
+module _ (zone : Zone) (old : Sides) (new : Finish) (was_kept trusted : Type 0)
+    (stood stands : List Terminal → Room → Type 0) (leaves : List Terminal → List Room → Type 0)
     (fit : (terminals : List Terminal) (room : Room) → stood terminals room → AreTerminals room terminals) where
   abbrev AreFirstHere : List Timed → Type 0
   AreFirstHere outs = AreFirst old.left old.given new.given outs
@@ -187,34 +232,44 @@ module _ (zone : Zone) (old : Sides) (new : Finish) (was_kept trusted : Type 0) 
   abbrev Kept : Type 0
   Kept = KeepsPromises zone (AreFirst old.left old.given new.given) old.held new.held trusted was_kept stood stands leaves
 
-  kept_all : (outs : List Timed) → AreFirstHere outs → Talks machine zone trusted stood old.held new.held outs (λ terminals after tail. StaysHere terminals after × (tail ≡ [])) → Kept
+  kept_all : (outs : List Timed) → AreFirstHere outs
+      → Talks machine zone trusted stood old.held new.held outs
+      (λ terminals after tail. StaysHere terminals after × (tail ≡ [])) → Kept
   kept_all outs first talk =
       kept_whole zone AreFirstHere old.held new.held was_kept stands leaves trusted stood fit outs StaysHere (λ tail. tail ≡ []) first (alone zone AreFirstHere was_kept stands leaves outs) (λ tail is. inl is) talk
 
-  kept_answered : (outs : List Timed) (follows : List ℕ → Type 0) → Answered machine zone old new trusted stood StaysHere outs follows → Kept
+  kept_answered : (outs : List Timed) (follows : List ℕ → Type 0)
+      → Answered machine zone old new trusted stood StaysHere outs follows → Kept
   kept_answered outs follows a = kept_all outs (firsts old.left old.given new.given outs follows a.begins (no_more old.given new.given outs a.timed.1)) a.talk
 
   kept_unserved : (outs : List Timed) (x : Timed) (so_much : List ℕ → List ℕ → Type 0)
-      → ((r : Refusal) (head_only : Bool) → IsWant r → (tail : List ℕ) → so_much tail (fixed_bytes r head_only) → IsWantTail tail)
-      → Unserved machine zone old new trusted stood StaysHere (Wants machine zone was_kept stands leaves) outs x so_much → Kept
+      → ((r : Refusal) (head_only : Bool) → IsWant r → (tail : List ℕ)
+      → so_much tail (fixed_bytes r head_only) → IsWantTail tail)
+      → Unserved machine zone old new trusted stood StaysHere
+      (Wants machine zone was_kept stands leaves) outs x so_much → Kept
   kept_unserved outs x so_much wants u =
       kept_whole zone AreFirstHere old.held new.held was_kept stands leaves trusted stood fit outs (Wants machine zone was_kept stands leaves x) (λ tail. so_much tail (fixed_bytes u.refusal (is_head_only x.0)))
       (firsts old.left old.given new.given outs (HasNext x.0) u.begins (one_more old.given new.given outs x u.timed.1))
       (wanting zone AreFirstHere was_kept stands leaves outs x (firsts old.left old.given new.given (outs ++ x ∷ []) (λ rest. ⊤) u.next (no_more old.given new.given (outs ++ x ∷ []) u.timed.1)))
       (wants u.refusal (is_head_only x.0) u.want) u.talk
 
-  kept_untimed : (outs : List Timed) (o : Arrival) → Untimed machine zone old new trusted stood StaysHere outs o → Kept
+  kept_untimed : (outs : List Timed) (o : Arrival)
+      → Untimed machine zone old new trusted stood StaysHere outs o → Kept
   kept_untimed outs o u = kept_all outs (firsts old.left old.given new.given outs (HasNext o) u.begins (no_moment old.given new.given new.was_none outs u.clock)) u.talk
 
-  kept_broken : (outs : List Timed) (x : Timed) → Broken machine zone old new trusted stood StaysHere outs x → Kept
+  kept_broken : (outs : List Timed) (x : Timed)
+      → Broken machine zone old new trusted stood StaysHere outs x → Kept
   kept_broken outs x b =
       kept_short zone AreFirstHere old.held new.held was_kept stands leaves trusted stood fit outs x
       (firsts old.left old.given new.given (outs ++ x ∷ []) (λ rest. ⊤) b.begins (no_more old.given new.given (outs ++ x ∷ []) b.timed.1)) b.talk
 
-  kept_unwritten : (outs : List Timed) (x : Timed) → Unwritten machine zone old new trusted stood StaysHere outs x StaysHere → Kept
+  kept_unwritten : (outs : List Timed) (x : Timed)
+      → Unwritten machine zone old new trusted stood StaysHere outs x StaysHere → Kept
   kept_unwritten outs x u = kept_all outs (firsts old.left old.given new.given outs (HasNext x.0) u.begins (one_more old.given new.given outs x u.timed.1)) u.talk
 
-  kept_acted : (outs : List Timed) (x : Timed) → Unwritten machine zone old new trusted stood StaysHere outs x (HasActed machine zone old new trusted stood StaysHere x) → Kept
+  kept_acted : (outs : List Timed) (x : Timed)
+      → Unwritten machine zone old new trusted stood StaysHere outs x
+      (HasActed machine zone old new trusted stood StaysHere x) → Kept
   kept_acted outs x u =
       kept_short zone AreFirstHere old.held new.held was_kept stands leaves trusted stood fit outs x
       (firsts old.left old.given new.given (outs ++ x ∷ []) (λ rest. ⊤) u.next (no_more old.given new.given (outs ++ x ∷ []) u.timed.1))
@@ -239,5 +294,6 @@ module _ (zone : Zone) (old : Sides) (new : Finish) (was_kept trusted : Type 0) 
   kept budget ReadsSpent used = kept_answered used.0 (λ rest. ⊤) used.1
   kept budget Memory refused = kept_answered [] (λ rest. ⊤) refused.0
 
-  pub promised : (step : Step) (budget : ℕ) (end : ServeEnd) → ServeHere step budget end → step ≡ machine → Kept
+  pub promised : (step : Step) (budget : ℕ) (end : ServeEnd) → ServeHere step budget end
+      → step ≡ machine → Kept
   promised step budget end is same = kept budget end (subst (λ (s : Step). ServeHere s budget end) same is)

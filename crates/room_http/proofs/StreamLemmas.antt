@@ -23,7 +23,8 @@ pub CountsBy-none : (known : Option ℕ) → CountsBy 0 known known
 CountsBy-none None = refl
 CountsBy-none (Some n) = omega arith
 
-pub CountsBy-trans : (j k m : ℕ) (a b c : Option ℕ) → CountsBy j a b → CountsBy k b c → m ≡ j + k → CountsBy m a c
+pub CountsBy-trans : (j k m : ℕ) (a b c : Option ℕ) → CountsBy j a b → CountsBy k b c → m ≡ j + k
+    → CountsBy m a c
 CountsBy-trans j k m None None c first second is = second
 CountsBy-trans j k m None (Some n) c first second is = absurd (cc)
 CountsBy-trans j k m (Some n) None None first second is = tt
@@ -32,7 +33,8 @@ CountsBy-trans j k m (Some n) (Some x) None first second is = tt
 CountsBy-trans j k m (Some n) (Some x) (Some y) first second is = omega arith
 
 -- bytes that follow leave a message at the front
-message-append : (bytes more : List ℕ) (m : WholeMessage) (rest : List ℕ) → HasMessage bytes m rest → HasMessage (bytes ++ more) m (rest ++ more)
+message-append : (bytes more : List ℕ) (m : WholeMessage) (rest : List ℕ) → HasMessage bytes m rest
+    → HasMessage (bytes ++ more) m (rest ++ more)
 message-append bytes more m rest x = record {
   begins = record {
     reads = (
@@ -49,10 +51,12 @@ message-append bytes more m rest x = record {
 
 -- what is left after an arrival was taken, and before
 pub record Passes (before after : Option (List ℕ)) (o : Arrival) : Type 0 where
-  pub passes : (rest : List ℕ) → before ≡ Some rest → (next : List ℕ) × BeginsWith rest o next × (after ≡ Some next)
+  pub passes : (rest : List ℕ) → before ≡ Some rest
+      → (next : List ℕ) × BeginsWith rest o next × (after ≡ Some next)
 
 -- the message at the front of the inbox is the next of the stream
-pub message_passes : (kept after : List ℕ) (left : Option (List ℕ)) (m : WholeMessage) (n : ℕ) → HasMessage kept m (drop n kept) → after ≡ drop n kept
+pub message_passes : (kept after : List ℕ) (left : Option (List ℕ)) (m : WholeMessage) (n : ℕ)
+    → HasMessage kept m (drop n kept) → after ≡ drop n kept
     → Passes (prepend_known kept left) (prepend_known after left) (message m)
 message_passes kept after None m n has is = record { passes = λ rest known. absurd (cc) }
 message_passes kept after (Some left) m n has is = record {
@@ -62,8 +66,10 @@ message_passes kept after (Some left) m n has is = record {
 }
 
 -- the bytes of the message at the front are that message and nothing more
-pub message_alone : (kept bytes : List ℕ) (layout : Layout) (m : WholeMessage) → HasMessage kept m (drop layout.body.end kept) → IsLayout kept layout m
-    → layout.body.end ≤ length kept → bytes ≡ kept → length bytes ≤ INBOX_ROOM → IsAlone (take layout.body.end bytes) m
+pub message_alone : (kept bytes : List ℕ) (layout : Layout) (m : WholeMessage)
+    → HasMessage kept m (drop layout.body.end kept) → IsLayout kept layout m
+    → layout.body.end ≤ length kept → bytes ≡ kept → length bytes ≤ INBOX_ROOM
+    → IsAlone (take layout.body.end bytes) m
 message_alone kept bytes layout m has is within same fits =
     let n = layout.body.end in
     let rest = drop n kept in
@@ -83,7 +89,8 @@ message_alone kept bytes layout m has is within same fits =
     }
 
 -- what is refused at the front of the inbox is refused in the stream
-pub refusal_passes : (kept : List ℕ) (left : Option (List ℕ)) (r : Refusal) (head_only : Bool) → ((more : List ℕ) → IsRefused (kept ++ more) r head_only)
+pub refusal_passes : (kept : List ℕ) (left : Option (List ℕ)) (r : Refusal) (head_only : Bool)
+    → ((more : List ℕ) → IsRefused (kept ++ more) r head_only)
     → Passes (prepend_known kept left) (prepend_known kept left) (refused r head_only)
 refusal_passes kept None r head_only is = record { passes = λ rest known. absurd (cc) }
 refusal_passes kept (Some left) r head_only is = record {
@@ -93,7 +100,9 @@ refusal_passes kept (Some left) r head_only is = record {
 }
 
 -- the bytes that are kept and those to come, once what was read was answered
-pub read_passes : (kept : List ℕ) (left : Option (List ℕ)) (granted : ℕ) (failed ended : Bool) (read : Result Layout Unread) (o : Arrival) → SaysOf kept granted failed ended left read → IsReadAs kept read o
+pub read_passes : (kept : List ℕ) (left : Option (List ℕ)) (granted : ℕ) (failed ended : Bool)
+    (read : Result Layout Unread) (o : Arrival) → SaysOf kept granted failed ended left read
+    → IsReadAs kept read o
     → Passes (prepend_known kept left) (prepend_known (kept_after kept read) left) o
 read_passes kept left granted failed ended (Ok layout) (message m) says is = message_passes kept (drop layout.body.end kept) left m layout.body.end is refl
 read_passes kept left granted failed ended (Ok layout) (refused r head_only) says is = absurd is
@@ -104,7 +113,9 @@ read_passes kept left granted failed ended (Err ReadFault) o says is = absurd is
 read_passes kept left granted failed ended (Err ReadsSpent) o says is = absurd is
 
 -- where serving goes on after it, no read failed, and fewer bytes are kept
-pub read_goes_on : (kept : List ℕ) (left : Option (List ℕ)) (granted : ℕ) (failed ended : Bool) (read : Result Layout Unread) (o : Arrival) → SaysOf kept granted failed ended left read → IsReadAs kept read o
+pub read_goes_on : (kept : List ℕ) (left : Option (List ℕ)) (granted : ℕ) (failed ended : Bool)
+    (read : Result Layout Unread) (o : Arrival) → SaysOf kept granted failed ended left read
+    → IsReadAs kept read o
     → is_closing o ≡ false → (failed ≡ false) × (length (kept_after kept read) < length kept)
 read_goes_on kept left granted failed ended (Ok layout) o says is goes =
     let within = says.0.3.content.1 in
@@ -116,7 +127,9 @@ read_goes_on kept left granted failed ended (Err ReadFault) o says is goes = abs
 read_goes_on kept left granted failed ended (Err ReadsSpent) o says is goes = absurd is
 
 -- where a message was read, it is whole
-pub read_whole : (kept : List ℕ) (left : Option (List ℕ)) (granted : ℕ) (failed ended : Bool) (read : Result Layout Unread) → SaysOf kept granted failed ended left read → IfOk read (IsWhole kept)
+pub read_whole : (kept : List ℕ) (left : Option (List ℕ)) (granted : ℕ) (failed ended : Bool)
+    (read : Result Layout Unread) → SaysOf kept granted failed ended left read
+    → IfOk read (IsWhole kept)
 read_whole kept left granted failed ended (Ok layout) says = says.0
 read_whole kept left granted failed ended (Err e) says = tt
 
@@ -127,15 +140,18 @@ shown_bounded (Message shown bytes) (refused r head_only) is = absurd is
 shown_bounded (Shut r head_only) o is = tt
 
 -- the stream that is left, at its end
-pub nothing_left : (kept : List ℕ) (left : Option (List ℕ)) (rest : List ℕ) → IsAtEnd left → prepend_known kept left ≡ Some rest → rest ≡ kept
+pub nothing_left : (kept : List ℕ) (left : Option (List ℕ)) (rest : List ℕ) → IsAtEnd left
+    → prepend_known kept left ≡ Some rest → rest ≡ kept
 nothing_left kept None rest end known = absurd (cc)
 nothing_left kept (Some left) rest end known =
     let same : kept ++ left ≡ rest = cc in
     sym same ∙ ap (λ t. kept ++ t) end ∙ append-nil kept
 
 -- one arrival more, after those that stay open
-pub Begins-push : (stream : List ℕ) (outs : List (Arrival × ℕ)) (rest : List ℕ) (x : Arrival × ℕ) (next : List ℕ)
-    → Begins stream (map (λ y. y.0) outs) rest → All (λ y. is_closing y.0 ≡ false) outs → BeginsWith rest x.0 next
+pub Begins-push : (stream : List ℕ) (outs : List (Arrival × ℕ)) (rest : List ℕ) (x : Arrival × ℕ)
+    (next : List ℕ)
+    → Begins stream (map (λ y. y.0) outs) rest → All (λ y. is_closing y.0 ≡ false) outs
+    → BeginsWith rest x.0 next
     → Begins stream (map (λ y. y.0) (outs ++ x ∷ [])) next
 Begins-push stream [] rest x next begins stay has = (next, rw begins has, λ _. refl, refl)
 Begins-push stream (y ∷ more) rest x next begins stay has =
@@ -143,11 +159,13 @@ Begins-push stream (y ∷ more) rest x next begins stay has =
     (begins.0, begins.1, λ ends. absurd (cc), Begins-push begins.0 more rest x next begins.3 (All-tail (λ (z : Arrival × ℕ). is_closing z.0 ≡ false) y more stay) has)
 
 -- the bytes to come, with none in the inbox
-pub Keeps-prepend : (bytes : List ℕ) (left : Option (List ℕ)) → bytes ≡ [] → Keeps left (prepend_known bytes left)
+pub Keeps-prepend : (bytes : List ℕ) (left : Option (List ℕ)) → bytes ≡ []
+    → Keeps left (prepend_known bytes left)
 Keeps-prepend bytes None none = tt
 Keeps-prepend bytes (Some left) none = rw none refl
 
 -- the reads so far, with those of one call more
-pub reads_by : (budget before after : ℕ) (a b c : Option ℕ) → before ≤ budget → after ≤ before → CountsBy (budget - before) a b → CountsBy (before - after) b c
+pub reads_by : (budget before after : ℕ) (a b c : Option ℕ) → before ≤ budget → after ≤ before
+    → CountsBy (budget - before) a b → CountsBy (before - after) b c
     → CountsBy (budget - after) a c
 reads_by budget before after a b c within fewer first second = CountsBy-trans (budget - before) (before - after) (budget - after) a b c first second (omega arith)

@@ -10,7 +10,8 @@ use Rattle.room_http.specs.Talk.{Timed, IsReplyTo, IsTalk, Talks}
 
 module _ (step : Step) (zone : Zone) (terminals : List Terminal) where
   pub IsTalk-append : (room mid after : Room) (xs ys : List Timed) (bytes more : List ℕ)
-      → IsTalk step zone terminals room xs mid bytes → IsTalk step zone terminals mid ys after more → IsTalk step zone terminals room (xs ++ ys) after (bytes ++ more)
+      → IsTalk step zone terminals room xs mid bytes → IsTalk step zone terminals mid ys after more
+      → IsTalk step zone terminals room (xs ++ ys) after (bytes ++ more)
   IsTalk-append room mid after [] ys bytes more first second = rw (← first.0, first.1) second
   IsTalk-append room mid after (x ∷ xs) ys bytes more first second = (
     first.0,
@@ -21,34 +22,46 @@ module _ (step : Step) (zone : Zone) (terminals : List Terminal) where
     IsTalk-append first.0 mid after xs ys first.2 more first.5 second,
   )
 
-  pub IsTalk-one : (room after : Room) (x : Timed) (bytes : List ℕ) → IsReplyTo step zone terminals room x after bytes → IsTalk step zone terminals room (x ∷ []) after bytes
+  pub IsTalk-one : (room after : Room) (x : Timed) (bytes : List ℕ)
+      → IsReplyTo step zone terminals room x after bytes
+      → IsTalk step zone terminals room (x ∷ []) after bytes
   IsTalk-one room after x bytes is = (after, bytes, [], sym (append-nil bytes), is, (refl, refl))
 
 -- what was written, and then more
-joined : (a b c : Option (List ℕ)) (first none second tail : List ℕ) → none ≡ [] → Appends a b (first ++ none) → Appends b c (second ++ tail)
+joined : (a b c : Option (List ℕ)) (first none second tail : List ℕ) → none ≡ []
+    → Appends a b (first ++ none) → Appends b c (second ++ tail)
     → Appends a c (first ++ second ++ tail)
 joined a b c first none second tail is one two =
     let whole : Appends a b first = rw (is, append-nil) at one in
     rw append_assoc (Appends-more a b c first (second ++ tail) whole two)
 
 module _ (step : Step) (zone : Zone) where
-  pub Talks-none : (trusted : Type 0) (stood stands : List Terminal → Room → Type 0) (held : Option (List ℕ)) → ((terminals : List Terminal) (room : Room) → stood terminals room → stands terminals room)
-      → Talks step zone trusted stood held held [] (λ terminals after tail. stands terminals after × (tail ≡ []))
+  pub Talks-none : (trusted : Type 0) (stood stands : List Terminal → Room → Type 0)
+      (held : Option (List ℕ)) → ((terminals : List Terminal) (room : Room) → stood terminals room
+      → stands terminals room)
+      → Talks step zone trusted stood held held []
+      (λ terminals after tail. stands terminals after × (tail ≡ []))
   Talks-none trusted stood stands held is = λ _ terminals room standing. (room, [], [], (refl, refl), (is terminals room standing, refl), Appends-none held)
 
   -- a talk of which less is known before, and less is said
-  pub Talks-as : (trusted : Type 0) (stood knows : List Terminal → Room → Type 0) (held holds : Option (List ℕ)) (outs : List Timed) (says less : List Terminal → Room → List ℕ → Type 0)
+  pub Talks-as : (trusted : Type 0) (stood knows : List Terminal → Room → Type 0)
+      (held holds : Option (List ℕ)) (outs : List Timed)
+      (says less : List Terminal → Room → List ℕ → Type 0)
       → ((terminals : List Terminal) (room : Room) → knows terminals room → stood terminals room)
-      → (trusted → (terminals : List Terminal) (room : Room) (tail : List ℕ) → says terminals room tail → less terminals room tail)
-      → Talks step zone trusted stood held holds outs says → Talks step zone trusted knows held holds outs less
+      → (trusted → (terminals : List Terminal) (room : Room) (tail : List ℕ)
+      → says terminals room tail → less terminals room tail)
+      → Talks step zone trusted stood held holds outs says
+      → Talks step zone trusted knows held holds outs less
   Talks-as trusted stood knows held holds outs says less is tells talk trust terminals room standing =
       let x = talk trust terminals room (is terminals room standing) in
       (x.0, x.1, x.2, x.3, tells trust terminals x.0 x.2 x.4, x.5)
 
   -- a talk goes on where another one ended
-  pub Talks-append : (early late : Type 0) (stood stays : List Terminal → Room → Type 0) (a b c : Option (List ℕ)) (outs more : List Timed)
+  pub Talks-append : (early late : Type 0) (stood stays : List Terminal → Room → Type 0)
+      (a b c : Option (List ℕ)) (outs more : List Timed)
       (says : List Terminal → Room → List ℕ → Type 0) → (late → early)
-      → Talks step zone early stood a b outs (λ terminals after tail. stays terminals after × (tail ≡ []))
+      → Talks step zone early stood a b outs
+      (λ terminals after tail. stays terminals after × (tail ≡ []))
       → Talks step zone late stays b c more says
       → Talks step zone late stood a c (outs ++ more) says
   Talks-append early late stood stays a b c outs more says earlier first second trust terminals room stood_for =

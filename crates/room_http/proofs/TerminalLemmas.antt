@@ -24,20 +24,24 @@ no_token text none = go (is_token text) (token_text text)
     go false is = refl
 
 -- a terminal that is found is known
-pub found_known : (room : Room) (terminals : List Terminal) (token : Token) (who : Who) → AreTerminals room terminals → Some who ≡ who_at terminals token → is_known who room ≡ true
+pub found_known : (room : Room) (terminals : List Terminal) (token : Token) (who : Who)
+    → AreTerminals room terminals → Some who ≡ who_at terminals token → is_known who room ≡ true
 unfolding vehicle_at
 found_known room terminals token who fit is = go (terminal_at token terminals) refl is
   where
-    here : (t : Terminal) → terminal_at token terminals ≡ Some t → (w : Who) → t.who ≡ w → terminal_at token terminals ≡ Some (record { token = token; who = w })
+    here : (t : Terminal) → terminal_at token terminals ≡ Some t → (w : Who) → t.who ≡ w
+        → terminal_at token terminals ≡ Some (record { token = token; who = w })
     here t found w same =
         let key : token ≡ t.token = row_key token_cmp terminal_key callsigns_total exact_callsigns terminals token t found in
         found ∙ (λ i. Some (record { token = sym key i; who = same i }))
 
-    known : (t : Terminal) → terminal_at token terminals ≡ Some t → (w : Who) → t.who ≡ w → is_known w room ≡ true
+    known : (t : Terminal) → terminal_at token terminals ≡ Some t → (w : Who) → t.who ≡ w
+        → is_known w room ≡ true
     known t found (Desk d) same = fit.desks token d (here t found (Desk d) same)
     known t found (Crew c) same = fit.crews token c (here t found (Crew c) same)
     known t found (Position p) same = refl
 
-    go : (o : Option Terminal) → terminal_at token terminals ≡ o → Some who ≡ option_map (λ t. t.who) o → is_known who room ≡ true
+    go : (o : Option Terminal) → terminal_at token terminals ≡ o
+        → Some who ≡ option_map (λ t. t.who) o → is_known who room ≡ true
     go None found named = absurd (cc)
     go (Some t) found named = let same : t.who ≡ who = cc in known t found who same

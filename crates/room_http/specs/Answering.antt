@@ -25,8 +25,10 @@ EndsAnswering ReadFault = ⊥
 EndsAnswering ReadsSpent = ⊥
 EndsAnswering Memory = ⊥
 
-module _ (step : Step) (zone : Zone) (held holds given gives : Option (List ℕ)) (write_failed was_none : Bool)
-    (trusted : Type 0) (stood stands : List Terminal → Room → Type 0) (wants : Timed → List Terminal → Room → Type 0) (o : Arrival) where
+module _ (step : Step) (zone : Zone) (held holds given gives : Option (List ℕ))
+    (write_failed was_none : Bool)
+    (trusted : Type 0) (stood stands : List Terminal → Room → Type 0)
+    (wants : Timed → List Terminal → Room → Type 0) (o : Arrival) where
   -- the arrival had a moment
   abbrev pub IsAt : ℕ → Type 0
   IsAt at = (at ≤ LAST_MOMENT) × Appends given gives (at ∷ [])
@@ -34,16 +36,27 @@ module _ (step : Step) (zone : Zone) (held holds given gives : Option (List ℕ)
   -- it was answered, or serving ends with it
   abbrev pub Answers : Result (Unit {0}) ServeEnd → Type 0
   Answers (Ok done) = (at : ℕ) × IsAt at × (write_failed ≡ false)
-      × Talks step zone trusted stood held holds ((o, at) ∷ []) (λ terminals after tail. stands terminals after × (tail ≡ []))
+      × Talks step zone trusted stood held holds ((o, at) ∷ [])
+      (λ terminals after tail. stands terminals after × (tail ≡ []))
   Answers (Err Closed) = (at : ℕ) × IsAt at × ((r : Refusal) × IsWant r
-      × Talks step zone trusted stood held holds [] (λ terminals after tail. wants (o, at) terminals after × (tail ≡ fixed_bytes r (is_head_only o))))
+      × Talks step zone trusted stood held holds []
+      (λ terminals after tail. wants (o, at) terminals after
+      × (tail ≡ fixed_bytes r (is_head_only o))))
   Answers (Err WriteFault) = (at : ℕ) × IsAt at × (write_failed ≡ true)
-      × (Talks step zone trusted stood held holds [] (λ terminals after tail. BreaksOff step zone terminals stands after (o, at) tail)
-      ⊎ ((r : Refusal) × IsWant r × Talks step zone trusted stood held holds [] (λ terminals after tail. wants (o, at) terminals after × IsFront tail (fixed_bytes r (is_head_only o)))))
-  Answers (Err ClockFault) = HasNoMoment given gives was_none [] × Talks step zone trusted stood held holds [] (λ terminals after tail. stands terminals after × (tail ≡ []))
+      × (Talks step zone trusted stood held holds []
+      (λ terminals after tail. BreaksOff step zone terminals stands after (o, at) tail)
+      ⊎ ((r : Refusal) × IsWant r × Talks step zone trusted stood held holds []
+      (λ terminals after tail. wants (o, at) terminals after
+      × IsFront tail (fixed_bytes r (is_head_only o)))))
+  Answers (Err ClockFault) = HasNoMoment given gives was_none []
+      × Talks step zone trusted stood held holds []
+      (λ terminals after tail. stands terminals after × (tail ≡ []))
   Answers (Err Unkept) = (at : ℕ) × IsAt at
-      × (Talks step zone trusted stood held holds [] (λ terminals after tail. stands terminals after × (tail ≡ []))
-      ⊎ Talks step zone trusted stood held holds [] (λ terminals after tail. BreaksOff step zone terminals stands after (o, at) [] × (tail ≡ [])))
+      × (Talks step zone trusted stood held holds []
+      (λ terminals after tail. stands terminals after × (tail ≡ []))
+      ⊎ Talks step zone trusted stood held holds []
+      (λ terminals after tail. BreaksOff step zone terminals stands after (o, at) []
+      × (tail ≡ [])))
   Answers (Err Cut) = ⊥
   Answers (Err ReadFault) = ⊥
   Answers (Err ReadsSpent) = ⊥

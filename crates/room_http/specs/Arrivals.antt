@@ -1,4 +1,5 @@
--- What is answered on a connection: the messages of its stream, and what is refused in the place of one.
+-- What is answered on a connection: the messages of its stream, and what is refused in the place of
+-- one.
 use Rattle.std.specs.Prelude.{◌≡◌, ◌≤◌, ⊤, ℕ, List, [], ◌∷◌, length, Bool, true}
 use Rattle.room_types.specs.declared.refusals.Refusal.{Refusal}
 use Rattle.room_http_messages.specs.declared.limits.TheConstants.{INBOX_ROOM}
@@ -31,7 +32,8 @@ BeginsWith stream (refused r head_only) rest = IsRefused stream r head_only × (
 abbrev pub Begins : List ℕ → List Arrival → List ℕ → Type 0
 Begins stream [] rest = stream ≡ rest
 Begins stream (o ∷ more) rest =
-    (next : List ℕ) × BeginsWith stream o next × (is_closing o ≡ true → more ≡ []) × Begins next more rest
+    (next : List ℕ) × BeginsWith stream o next × (is_closing o ≡ true → more ≡ [])
+    × Begins next more rest
 
 -- the stream begins with the arrival
 abbrev pub HasNext : Arrival → List ℕ → Type 0

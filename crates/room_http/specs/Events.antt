@@ -32,23 +32,29 @@ named terminals field = option_and_then (who_at terminals) (token_of field)
 abbrev pub IsAskFor : Zone → Request → Ask → Type 0
 IsAskFor zone (request.Ask a) asks = asks ≡ a
 IsAskFor zone (request.Times day) asks =
-    (span : ℤ × ℤ) × IsSpan (zone_of zone) (days_from_civil (pos day.year) day.month day.day) span × (asks ≡ ask.Times span.0 span.1)
+    (span : ℤ × ℤ) × IsSpan (zone_of zone) (days_from_civil (pos day.year) day.month day.day) span
+    × (asks ≡ ask.Times span.0 span.1)
 
 -- what a terminal asks for, if its body wants anything
 abbrev pub AsksBy : Zone → ℕ → Who → Option Request → Result Event Refusal → Type 0
 AsksBy zone at who None found = found ≡ Err BadBody
-AsksBy zone at who (Some given) found = (asks : Ask) × IsAskFor zone given asks × (found ≡ Ok (record { who = who; ask = asks; at = at }))
+AsksBy zone at who (Some given) found = (asks : Ask) × IsAskFor zone given asks
+    × (found ≡ Ok (record { who = who; ask = asks; at = at }))
 
 -- what a terminal asks for, if there is one: its role is looked at, and then the body
 abbrev pub AsksAs : Zone → Target → List ℕ → ℕ → Option Who → Result Event Refusal → Type 0
 AsksAs zone target body at None found = found ≡ Err NoTerminal
-AsksAs zone target body at (Some who) found = MatchBool (is_of (role_of target) who) (AsksBy zone at who (request_by target body) found) (found ≡ Err WrongRole)
+AsksAs zone target body at (Some who) found = MatchBool (is_of (role_of target) who)
+    (AsksBy zone at who (request_by target body) found) (found ≡ Err WrongRole)
 
 -- what is asked of a target, if there is one: the terminal is looked at next
-abbrev pub AsksAt : Zone → List Terminal → WholeMessage → ℕ → Result Target Refusal → Result Event Refusal → Type 0
-AsksAt zone terminals m at (Ok target) found = AsksAs zone target m.body at (named terminals (terminal_of m.head)) found
+abbrev pub AsksAt : Zone → List Terminal → WholeMessage → ℕ → Result Target Refusal
+    → Result Event Refusal → Type 0
+AsksAt zone terminals m at (Ok target) found =
+    AsksAs zone target m.body at (named terminals (terminal_of m.head)) found
 AsksAt zone terminals m at (Err r) found = found ≡ Err r
 
 -- what a message asks for: its path is looked at first, and then its method
 abbrev pub AsksFor : Zone → List Terminal → WholeMessage → ℕ → Result Event Refusal → Type 0
-AsksFor zone terminals m at found = AsksAt zone terminals m at (routed m.head.method m.head.target) found
+AsksFor zone terminals m at found =
+    AsksAt zone terminals m at (routed m.head.method m.head.target) found

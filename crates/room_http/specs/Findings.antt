@@ -28,9 +28,12 @@ FindsAsk zone given result =
     (λ refusal. (refusal ≡ Memory) ⊎ ((refusal ≡ BadBody) × (given ≡ None)))
 
 -- The room was asked who shows the token of a field, and stayed as it was.
-pub record FindsTerminal {M : Type 0} (is_trusted : M → Type 0) (stands : M → List Terminal → Room → Type 0) (old new : M) (field : Option (List ℕ)) (result : Result Who Refusal) : Type 0 where
+pub record FindsTerminal {M : Type 0} (is_trusted : M → Type 0)
+    (stands : M → List Terminal → Room → Type 0) (old new : M) (field : Option (List ℕ))
+    (result : Result Who Refusal) : Type 0 where
   pub trusted : is_trusted new → is_trusted old
-  pub same : is_trusted new → (terminals : List Terminal) (room : Room) → stands old terminals room → stands new terminals room
+  pub same : is_trusted new → (terminals : List Terminal) (room : Room) → stands old terminals room
+      → stands new terminals room
   pub says : is_trusted new → (terminals : List Terminal) (room : Room) → stands old terminals room
       → MatchResult result
       (λ who. (named terminals field ≡ Some who) × (is_known who room ≡ true))
@@ -38,23 +41,37 @@ pub record FindsTerminal {M : Type 0} (is_trusted : M → Type 0) (stands : M �
 
 -- The room was asked who shows a token, and stayed as it was. What was found holds of each message
 -- or refusal that is shown, whatever room is kept.
-pub record FindsBy {M : Type 0} (is_trusted : M → Type 0) (stands : M → List Terminal → Room → Type 0) (old new : M) (finds : List Terminal → Result Event Refusal → Type 0) (result : Result Event Refusal) : Type 0 where
+pub record FindsBy {M : Type 0} (is_trusted : M → Type 0)
+    (stands : M → List Terminal → Room → Type 0) (old new : M)
+    (finds : List Terminal → Result Event Refusal → Type 0)
+    (result : Result Event Refusal) : Type 0 where
   pub trusted : is_trusted new → is_trusted old
-  pub same : is_trusted new → (terminals : List Terminal) (room : Room) → stands old terminals room → stands new terminals room
+  pub same : is_trusted new → (terminals : List Terminal) (room : Room) → stands old terminals room
+      → stands new terminals room
   pub says : is_trusted new → (terminals : List Terminal) (room : Room) → stands old terminals room
-      → MatchResult result (λ event. finds terminals (Ok event) × IsAddressed event room) (λ refusal. IsWant refusal ⊎ finds terminals (Err refusal))
+      → MatchResult result (λ event. finds terminals (Ok event) × IsAddressed event room)
+      (λ refusal. IsWant refusal ⊎ finds terminals (Err refusal))
 
--- What was held is still kept, unless memory or storage was wanting; and even then a stop leaves the room that it was.
-pub record LooksOnly {M T : Type 0} (is_trusted is_kept : M → Type 0) (stands : M → List Terminal → Room → Type 0) (leaves : M → List Terminal → List Room → Type 0) (old new : M) (result : Result T Refusal) : Type 0 where
-  pub kept : is_trusted new → is_kept old → MatchResult result (λ _. is_kept new) (λ refusal. IsWant refusal ⊎ is_kept new)
-  pub left : is_trusted new → is_kept old → (terminals : List Terminal) (room : Room) → stands old terminals room → leaves new terminals (room ∷ [])
+-- What was held is still kept, unless memory or storage was wanting; and even then a stop leaves
+-- the room that it was.
+pub record LooksOnly {M T : Type 0} (is_trusted is_kept : M → Type 0)
+    (stands : M → List Terminal → Room → Type 0) (leaves : M → List Terminal → List Room → Type 0)
+    (old new : M) (result : Result T Refusal) : Type 0 where
+  pub kept : is_trusted new → is_kept old
+      → MatchResult result (λ _. is_kept new) (λ refusal. IsWant refusal ⊎ is_kept new)
+  pub left : is_trusted new → is_kept old → (terminals : List Terminal) (room : Room)
+      → stands old terminals room → leaves new terminals (room ∷ [])
 
 -- of a message
-abbrev pub FindsMessage : {M : Type 0} → (M → Type 0) → (M → List Terminal → Room → Type 0) → M → M → Zone → Message → ℕ → Result Event Refusal → Type 0
+abbrev pub FindsMessage : {M : Type 0} → (M → Type 0) → (M → List Terminal → Room → Type 0) → M → M
+    → Zone → Message → ℕ → Result Event Refusal → Type 0
 FindsMessage is_trusted stands old new zone shown at =
-    FindsBy is_trusted stands old new (λ terminals found. (m : WholeMessage) → Shows shown m → AsksFor zone terminals m at found)
+    FindsBy is_trusted stands old new
+    (λ terminals found. (m : WholeMessage) → Shows shown m → AsksFor zone terminals m at found)
 
 -- of a request
-abbrev pub FindsEvent : {M : Type 0} → (M → Type 0) → (M → List Terminal → Room → Type 0) → M → M → Zone → Arrived → ℕ → Result Event Refusal → Type 0
+abbrev pub FindsEvent : {M : Type 0} → (M → Type 0) → (M → List Terminal → Room → Type 0) → M → M
+    → Zone → Arrived → ℕ → Result Event Refusal → Type 0
 FindsEvent is_trusted stands old new zone request at =
-    FindsBy is_trusted stands old new (λ terminals found. (o : Arrival) → IsShown request o → Finds zone terminals (o, at) found)
+    FindsBy is_trusted stands old new
+    (λ terminals found. (o : Arrival) → IsShown request o → Finds zone terminals (o, at) found)

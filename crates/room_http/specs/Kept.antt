@@ -17,11 +17,14 @@ use Rattle.room_http.specs.Arrivals.{Arrival, Begins, HasNext, IsAlone, is_head_
 use Rattle.room_http.specs.Talk.{IsFront, IsReplyTo, Timed}
 
 -- the witness keeps all these bytes more, or could keep some of the first of them
-abbrev pub KeepsAll : {E : Type 0} → Option (List ℕ) → Option (List ℕ) → List ℕ → Result (Unit {0}) E → Type 0
+abbrev pub KeepsAll : {E : Type 0} → Option (List ℕ) → Option (List ℕ) → List ℕ
+    → Result (Unit {0}) E → Type 0
 KeepsAll held holds bytes (Ok done) = Appends held holds bytes
-KeepsAll held holds bytes (Err e) = (front : List ℕ) × IsFront front bytes × Appends held holds front
+KeepsAll held holds bytes (Err e) =
+    (front : List ℕ) × IsFront front bytes × Appends held holds front
 
--- what is to be kept of what has arrived, as it comes: of what is refused in the place of a message, nothing
+-- what is to be kept of what has arrived, as it comes: of what is refused in the place of a
+-- message, nothing
 abbrev pub came_of : (ℕ → List ℕ → List ℕ) → Arrived → ℕ → List ℕ
 came_of came (Message shown bytes) at = came at bytes.now
 came_of came (Refused r head_only) at = []
@@ -31,7 +34,8 @@ abbrev pub told_of : (List ℕ → List ℕ) → Arrived → List ℕ → List �
 told_of told (Message shown bytes) answer = told answer
 told_of told (Refused r head_only) answer = []
 
--- what is known of the moments that were given, of what the witness keeps, and of what the writer holds
+-- what is known of the moments that were given, of what the witness keeps, and of what the writer
+-- holds
 pub record Tapes : Type 0 where
   pub given : Option (List ℕ)
   pub kept : Option (List ℕ)
@@ -51,13 +55,17 @@ IsNoMoment moments = (moments ≡ []) ⊎ ((at : ℕ) × (LAST_MOMENT < at) × (
 abbrev pub DoesNothing : Tapes → Tapes → Type 0
 DoesNothing old new = (moments : List ℕ) × IsNoMoment moments × Grow old new moments [] []
 
--- the stream, where its bytes are known, begins with the arrivals, and something is said of what follows them
+-- the stream, where its bytes are known, begins with the arrivals, and something is said of what
+-- follows them
 abbrev pub BeginsThen : Option (List ℕ) → List Timed → (List ℕ → Type 0) → Type 0
-BeginsThen left outs follows = (stream : List ℕ) → left ≡ Some stream → (rest : List ℕ) × Begins stream (map (λ x. x.0) outs) rest × follows rest
+BeginsThen left outs follows = (stream : List ℕ) → left ≡ Some stream
+    → (rest : List ℕ) × Begins stream (map (λ x. x.0) outs) rest × follows rest
 
 -- where the room is kept by what gives back what was written: it is as it was
-abbrev pub Unmoved : Type 0 → (List Terminal → Room → Type 0) → (List Terminal → Room → Type 0) → Type 0
-Unmoved trusted stood stands = trusted → (terminals : List Terminal) (room : Room) → stood terminals room → stands terminals room
+abbrev pub Unmoved : Type 0 → (List Terminal → Room → Type 0) → (List Terminal → Room → Type 0)
+    → Type 0
+Unmoved trusted stood stands = trusted → (terminals : List Terminal) (room : Room)
+    → stood terminals room → stands terminals room
 
 module _ (step : Step) (zone : Zone) where
   -- these are the answers to the arrivals, one to each, and the room afterwards
@@ -66,24 +74,30 @@ module _ (step : Step) (zone : Zone) where
   AreReplies terminals room [] (answer ∷ answers) after = ⊥
   AreReplies terminals room (x ∷ outs) [] after = ⊥
   AreReplies terminals room (x ∷ outs) (answer ∷ answers) after =
-      (next : Room) × IsReplyTo step zone terminals room x next answer × AreReplies terminals next outs answers after
+      (next : Room) × IsReplyTo step zone terminals room x next answer
+      × AreReplies terminals next outs answers after
 
   module _ (trusted : Type 0) (stood stands : List Terminal → Room → Type 0) where
     -- it has acted on the arrival, and this is its answer
     abbrev pub Acts : Timed → List ℕ → Type 0
     Acts x answer =
-        trusted → (terminals : List Terminal) (room : Room) → stood terminals room → (after : Room) × IsReplyTo step zone terminals room x after answer × stands terminals after
+        trusted → (terminals : List Terminal) (room : Room) → stood terminals room
+        → (after : Room) × IsReplyTo step zone terminals room x after answer
+        × stands terminals after
 
     -- it has acted on these arrivals, one after another, and these are their answers
     abbrev pub ActsOnEach : List Timed → List (List ℕ) → Type 0
     ActsOnEach outs answers =
-        trusted → (terminals : List Terminal) (room : Room) → stood terminals room → (after : Room) × AreReplies terminals room outs answers after × stands terminals after
+        trusted → (terminals : List Terminal) (room : Room) → stood terminals room
+        → (after : Room) × AreReplies terminals room outs answers after × stands terminals after
 
 -- what a witness keeps of a message at its moment, and of an answer
 module _ (came : ℕ → List ℕ → List ℕ) (told : List ℕ → List ℕ) where
-  -- what is kept of an arrival at its moment as it comes: a message's bytes as they came, and nothing of what is refused
+  -- what is kept of an arrival at its moment as it comes: a message's bytes as they came, and
+  -- nothing of what is refused
   abbrev pub IsCome : Timed → List ℕ → Type 0
-  IsCome (message m, at) text = (bytes : List ℕ) × IsAlone bytes m × (at ≤ LAST_MOMENT) × (text ≡ came at bytes)
+  IsCome (message m, at) text =
+      (bytes : List ℕ) × IsAlone bytes m × (at ≤ LAST_MOMENT) × (text ≡ came at bytes)
   IsCome (refused r head_only, at) text = text ≡ []
 
   -- what is kept of its answer
@@ -93,53 +107,69 @@ module _ (came : ℕ → List ℕ → List ℕ) (told : List ℕ → List ℕ) w
 
   -- its record: what is kept of it as it comes, and then of its answer
   abbrev pub IsRecord : Timed → List ℕ → List ℕ → Type 0
-  IsRecord x answer text = (coming : List ℕ) × IsCome x coming × (text ≡ coming ++ answer_kept x.0 answer)
+  IsRecord x answer text =
+      (coming : List ℕ) × IsCome x coming × (text ≡ coming ++ answer_kept x.0 answer)
 
   -- the text is the records of these arrivals and their answers, one after another
   abbrev pub AreKept : List Timed → List (List ℕ) → List ℕ → Type 0
   AreKept [] [] text = text ≡ []
   AreKept [] (answer ∷ answers) text = ⊥
   AreKept (x ∷ outs) [] text = ⊥
-  AreKept (x ∷ outs) (answer ∷ answers) text = (first more : List ℕ) × IsRecord x answer first × (text ≡ first ++ more) × AreKept outs answers more
+  AreKept (x ∷ outs) (answer ∷ answers) text = (first more : List ℕ) × IsRecord x answer first
+      × (text ≡ first ++ more) × AreKept outs answers more
 
   -- it could not be kept as it came: some first bytes of that are kept, and none was written
   abbrev pub IsCutShort : Timed → List ℕ → List ℕ → Type 0
   IsCutShort x tail wrote = (coming : List ℕ) × IsCome x coming × IsFront tail coming × (wrote ≡ [])
 
-  -- memory or storage was wanting: it is kept as it came, and some first bytes of the fixed answer were written
+  -- memory or storage was wanting: it is kept as it came, and some first bytes of the fixed answer
+  -- were written
   abbrev pub IsWanting : Timed → List ℕ → List ℕ → Type 0
-  IsWanting x tail wrote = IsCome x tail × ((r : Refusal) × IsWant r × IsFront wrote (fixed_bytes r (is_head_only x.0)))
+  IsWanting x tail wrote =
+      IsCome x tail × ((r : Refusal) × IsWant r × IsFront wrote (fixed_bytes r (is_head_only x.0)))
 
-  -- it is kept as it came, and of its answer some first bytes of what is to be kept; and none was written
+  -- it is kept as it came, and of its answer some first bytes of what is to be kept; and none was
+  -- written
   abbrev pub IsUnwritten : Timed → List ℕ → List ℕ → List ℕ → Type 0
-  IsUnwritten x answer tail wrote = (coming front : List ℕ) × IsCome x coming × IsFront front (answer_kept x.0 answer) × (tail ≡ coming ++ front) × (wrote ≡ [])
+  IsUnwritten x answer tail wrote = (coming front : List ℕ) × IsCome x coming
+      × IsFront front (answer_kept x.0 answer) × (tail ≡ coming ++ front) × (wrote ≡ [])
 
   -- its record is kept, and some first bytes of the answer were written
   abbrev pub IsUnfinished : Timed → List ℕ → List ℕ → List ℕ → Type 0
   IsUnfinished x answer tail wrote = IsRecord x answer tail × IsFront wrote answer
 
-  -- So much is kept and was written of an arrival with which serving ended: of one on which the room has not acted, or has, with
-  -- this answer.
+  -- So much is kept and was written of an arrival with which serving ended: of one on which the
+  -- room has not acted, or has, with this answer.
   abbrev pub IsBegun : Type 0 → (List ℕ → Type 0) → Timed → List ℕ → List ℕ → Type 0
   IsBegun unmoved moved x tail wrote =
       (unmoved × (IsCutShort x tail wrote ⊎ IsWanting x tail wrote))
-      ⊎ ((answer : List ℕ) × moved answer × (IsUnwritten x answer tail wrote ⊎ IsUnfinished x answer tail wrote))
+      ⊎ ((answer : List ℕ) × moved answer
+      × (IsUnwritten x answer tail wrote ⊎ IsUnfinished x answer tail wrote))
 
-  -- what was kept and written of one arrival, where the room has not acted on it, or has acted and this is its answer
-  abbrev pub KeepsOne : Type 0 → (Timed → List ℕ → Type 0) → Tapes → Tapes → Arrival → Result (Unit {0}) ServeEnd → Type 0
-  KeepsOne unmoved moved old new o (Ok done) = (at : ℕ) × (answer text : List ℕ) × moved (o, at) answer × IsRecord (o, at) answer text × Grow old new (at ∷ []) text answer
+  -- what was kept and written of one arrival, where the room has not acted on it, or has acted and
+  -- this is its answer
+  abbrev pub KeepsOne : Type 0 → (Timed → List ℕ → Type 0) → Tapes → Tapes → Arrival
+      → Result (Unit {0}) ServeEnd → Type 0
+  KeepsOne unmoved moved old new o (Ok done) = (at : ℕ) × (answer text : List ℕ)
+      × moved (o, at) answer × IsRecord (o, at) answer text × Grow old new (at ∷ []) text answer
   KeepsOne unmoved moved old new o (Err ClockFault) = unmoved × DoesNothing old new
   KeepsOne unmoved moved old new o (Err end) =
-      (at : ℕ) × (tail wrote : List ℕ) × IsBegun unmoved (moved (o, at)) (o, at) tail wrote × Grow old new (at ∷ []) tail wrote
+      (at : ℕ) × (tail wrote : List ℕ) × IsBegun unmoved (moved (o, at)) (o, at) tail wrote
+      × Grow old new (at ∷ []) tail wrote
 
-  -- What was kept and written of a connection, where `moved` says on which arrivals the room has acted, and what their answers are: the
-  -- first arrivals were answered, each after its record was kept, and no more was done; or of the next one so much.
-  pub record KeepsEach (moved : List Timed → List (List ℕ) → Type 0) (left : Option (List ℕ)) (old new : Tapes) : Type 0 where
+  -- What was kept and written of a connection, where `moved` says on which arrivals the room has
+  -- acted, and what their answers are: the first arrivals were answered, each after its record was
+  -- kept, and no more was done; or of the next one so much.
+  pub record KeepsEach (moved : List Timed → List (List ℕ) → Type 0) (left : Option (List ℕ))
+      (old new : Tapes) : Type 0 where
     pub outs : List Timed
     pub answers : List (List ℕ)
     pub text : List ℕ
     pub kept : AreKept outs answers text
-    pub ends : (moved outs answers × BeginsThen left outs (λ rest. ⊤) × ((late : List ℕ) × IsNoMoment late × Grow old new (map (λ x. x.1) outs ++ late) text (concat answers)))
+    pub ends : (moved outs answers × BeginsThen left outs (λ rest. ⊤)
+        × ((late : List ℕ) × IsNoMoment late
+        × Grow old new (map (λ x. x.1) outs ++ late) text (concat answers)))
         ⊎ ((x : Timed) × (tail wrote : List ℕ) × BeginsThen left outs (HasNext x.0)
-        × IsBegun (moved outs answers) (λ answer. moved (outs ++ x ∷ []) (answers ++ answer ∷ [])) x tail wrote
+        × IsBegun (moved outs answers) (λ answer. moved (outs ++ x ∷ []) (answers ++ answer ∷ []))
+        x tail wrote
         × Grow old new (map (λ x. x.1) (outs ++ x ∷ [])) (text ++ tail) (concat answers ++ wrote))

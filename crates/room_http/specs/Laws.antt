@@ -20,15 +20,19 @@ AreFirstOf [] many = ⊤
 AreFirstOf (o ∷ few) [] = ⊥
 AreFirstOf (o ∷ few) (p ∷ many) = AreAlike o p × AreFirstOf few many
 
--- what a stream begins with is one list of messages, however it was cut into pieces, and differs only in how far it goes
+-- what a stream begins with is one list of messages, however it was cut into pieces, and differs
+-- only in how far it goes
 abbrev pub IsOneStream : Type 0
 IsOneStream =
-    (stream : List ℕ) (few many : List Arrival) (rest left : List ℕ) → Begins stream few rest → Begins stream many left → length few ≤ length many
+    (stream : List ℕ) (few many : List Arrival) (rest left : List ℕ) → Begins stream few rest
+    → Begins stream many left → length few ≤ length many
     → AreFirstOf few many
 
 -- equal arrivals at equal moments, in equal rooms, leave equal rooms and get equal bytes
 abbrev pub IsOneTalk : Type 0
 IsOneTalk =
-    (step : Step) (zone : Zone) (terminals : List Terminal) (room : Room) (outs : List Timed) (after other : Room) (bytes others : List ℕ)
-    → IsTalk step zone terminals room outs after bytes → IsTalk step zone terminals room outs other others
+    (step : Step) (zone : Zone) (terminals : List Terminal) (room : Room) (outs : List Timed)
+    (after other : Room) (bytes others : List ℕ)
+    → IsTalk step zone terminals room outs after bytes
+    → IsTalk step zone terminals room outs other others
     → (after ≡ other) × (bytes ≡ others)

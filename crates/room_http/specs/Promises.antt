@@ -1,4 +1,5 @@
--- What the room promises of every run, whatever is asked: the machine's laws, of messages and the bytes that answer them.
+-- What the room promises of every run, whatever is asked: the machine's laws, of messages and the
+-- bytes that answer them.
 use Rattle.std.specs.Prelude.{◌≡◌, ℕ, List, [], ◌∷◌, ◌++◌, None, Some, Ok, Err, is_ok, true}
 use Rattle.room_place.specs.Choice.{Among}
 use Rattle.room_types.specs.Texts.{Callsign}
@@ -25,51 +26,73 @@ use Rattle.room_http.specs.Runs.{AreTold, Exchange, IsRun, IsTold, answers_of, a
 -- no vehicle is sent to two incidents
 pub record AreSentOnce (room : Room) : Type 0 where
   -- over all divisions it has at most one assignment
-  pub assigned_once : (a b : Assignment) → Among a room.assignments → Among b room.assignments → a.callsign ≡ b.callsign → a ≡ b
+  pub assigned_once : (a b : Assignment) → Among a room.assignments → Among b room.assignments
+      → a.callsign ≡ b.callsign → a ≡ b
   -- and at most one open turn
-  pub turned_once : (t u : Turn) → Among t room.turns → Among u room.turns → t.ended ≡ None → u.ended ≡ None → t.callsign ≡ u.callsign → t ≡ u
+  pub turned_once : (t u : Turn) → Among t room.turns → Among u room.turns → t.ended ≡ None
+      → u.ended ≡ None → t.callsign ≡ u.callsign → t ≡ u
   -- and they name one incident
-  pub together : (a : Assignment) (t : Turn) → Among a room.assignments → Among t room.turns → t.ended ≡ None → a.callsign ≡ t.callsign
+  pub together : (a : Assignment) (t : Turn) → Among a room.assignments → Among t room.turns
+      → t.ended ≡ None → a.callsign ≡ t.callsign
       → (t.division ≡ a.division) × (t.incident ≡ a.incident)
 
--- In two rooms, and by any two runs: the desk of a division whose shares are equal and that is handed the same is
--- answered with equal bytes to equal messages at equal moments, and the shares stay equal.
+-- In two rooms, and by any two runs: the desk of a division whose shares are equal and that is
+-- handed the same is answered with equal bytes to equal messages at equal moments, and the shares
+-- stay equal.
 pub record IsDeskAlike (d : ℕ) (xs ys : List Exchange) (room other : Room) : Type 0 where
-  pub told : arrivals_of (with_desk d xs) ≡ arrivals_of (with_desk d ys) → answers_of (with_desk d xs) ≡ answers_of (with_desk d ys)
+  pub told : arrivals_of (with_desk d xs) ≡ arrivals_of (with_desk d ys)
+      → answers_of (with_desk d xs) ≡ answers_of (with_desk d ys)
   pub shares : own d (room_by xs room) ≡ own d (room_by ys other)
 
--- A message of some kind that was accepted, and is sent again anywhere later, is told its first answer and changes nothing.
+-- A message of some kind that was accepted, and is sent again anywhere later, is told its first
+-- answer and changes nothing.
 abbrev pub ActsOnce : List Exchange → Room → (ℕ → Event) → Type 0
 ActsOnce xs room sent =
-    (before between rest : List Exchange) (first again : Exchange) (at later : ℕ) → xs ≡ before ++ first ∷ between ++ again ∷ rest
-    → first.found ≡ Ok (sent at) → again.found ≡ Ok (sent later) → is_ok (answer_to (sent at) (room_by before room)) ≡ true
-    → IsTold first (answer_to (sent at) (room_by before room)) × IsTold again (answer_to (sent at) (room_by before room))
-    × (room_by (before ++ first ∷ between ++ again ∷ []) room ≡ room_by (before ++ first ∷ between) room)
+    (before between rest : List Exchange) (first again : Exchange) (at later : ℕ)
+    → xs ≡ before ++ first ∷ between ++ again ∷ rest
+    → first.found ≡ Ok (sent at) → again.found ≡ Ok (sent later)
+    → is_ok (answer_to (sent at) (room_by before room)) ≡ true
+    → IsTold first (answer_to (sent at) (room_by before room))
+    × IsTold again (answer_to (sent at) (room_by before room))
+    × (room_by (before ++ first ∷ between ++ again ∷ []) room
+    ≡ room_by (before ++ first ∷ between) room)
 
 pub record Promises (terminals : List Terminal) (xs : List Exchange) (room : Room) : Type 0 where
   -- the room is asked by the terminal whose token the message shows, at the message's moment
-  pub asked_by : (x : Exchange) (event : Event) → Among x xs → x.found ≡ Ok event → (asker terminals x.arrival.0 ≡ Some event.who) × (event.at ≡ x.arrival.1)
+  pub asked_by : (x : Exchange) (event : Event) → Among x xs → x.found ≡ Ok event
+      → (asker terminals x.arrival.0 ≡ Some event.who) × (event.at ≡ x.arrival.1)
   -- a division's rows are made of its first rows and of what it was handed
-  pub share : (d : ℕ) → own d (room_by xs room) ≡ alone d (crossings d (events_of xs) room) (own d room)
+  pub share : (d : ℕ) → own d (room_by xs room)
+      ≡ alone d (crossings d (events_of xs) room) (own d room)
   -- its desk was answered with the bytes of what the room told it
   pub desk_told : (d : ℕ) → AreTold (with_desk d xs) (told d (events_of xs) room)
   -- and they are of what its first rows and what it was handed tell
-  pub desk_apart : (d : ℕ) → AreTold (with_desk d xs) (told_alone d (crossings d (events_of xs) room) (own d room))
+  pub desk_apart : (d : ℕ) → AreTold (with_desk d xs)
+      (told_alone d (crossings d (events_of xs) room) (own d room))
   -- in whatever other room, a desk of an equal share that is handed the same is answered alike
-  pub desk_alike : (d : ℕ) (zone : Zone) (others : List Terminal) (ys : List Exchange) (other : Room)
+  pub desk_alike : (d : ℕ) (zone : Zone) (others : List Terminal) (ys : List Exchange)
+      (other : Room)
       → IsWellFormed other → IsRun zone others ys other → own d room ≡ own d other
-      → received (crossings d (events_of xs) room) ≡ received (crossings d (events_of ys) other) → IsDeskAlike d xs ys room other
+      → received (crossings d (events_of xs) room) ≡ received (crossings d (events_of ys) other)
+      → IsDeskAlike d xs ys room other
   -- a crew is answered by its vehicle's rows, and these afterwards are made of them
-  pub crew_alike : (before rest : List Exchange) (x : Exchange) (c : Callsign) (ask : Ask) (at : ℕ) (other : Room)
-      → xs ≡ before ++ x ∷ rest → x.found ≡ Ok (by_crew c ask at) → IsInOrder other → mine c (room_by before room) ≡ mine c other
-      → IsTold x (answer_to (by_crew c ask at) other) × (mine c (room_by (before ++ x ∷ []) room) ≡ mine c (room_after (by_crew c ask at) other))
+  pub crew_alike : (before rest : List Exchange) (x : Exchange) (c : Callsign) (ask : Ask) (at : ℕ)
+      (other : Room)
+      → xs ≡ before ++ x ∷ rest → x.found ≡ Ok (by_crew c ask at) → IsInOrder other
+      → mine c (room_by before room) ≡ mine c other
+      → IsTold x (answer_to (by_crew c ask at) other)
+      × (mine c (room_by (before ++ x ∷ []) room) ≡ mine c (room_after (by_crew c ask at) other))
   -- what is refused before it reaches the room is told so in every room, and changes nothing
   pub refused_alike : (before rest : List Exchange) (x : Exchange) (r : Refusal)
-      → xs ≡ before ++ x ∷ rest → x.found ≡ Err r → IsTold x (Err r) × (room_by (before ++ x ∷ []) room ≡ room_by before room)
+      → xs ≡ before ++ x ∷ rest → x.found ≡ Err r
+      → IsTold x (Err r) × (room_by (before ++ x ∷ []) room ≡ room_by before room)
   -- every room on the way, the first and the last among them, is well-formed
-  pub formed : (before rest : List Exchange) → xs ≡ before ++ rest → IsWellFormed (room_by before room)
+  pub formed : (before rest : List Exchange) → xs ≡ before ++ rest
+      → IsWellFormed (room_by before room)
   -- in each of these no vehicle is sent to two incidents
-  pub sent_once : (before rest : List Exchange) → xs ≡ before ++ rest → AreSentOnce (room_by before room)
+  pub sent_once : (before rest : List Exchange) → xs ≡ before ++ rest
+      → AreSentOnce (room_by before room)
   -- a report or a call that is sent again acts once
   pub report_once : (c : Callsign) (press : Press) → ActsOnce xs room (by_crew c (Report press))
-  pub call_once : (position : ℕ) (form : CallForm) → ActsOnce xs room (by_position position (Call form))
+  pub call_once : (position : ℕ) (form : CallForm)
+      → ActsOnce xs room (by_position position (Call form))

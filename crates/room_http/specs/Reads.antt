@@ -8,7 +8,8 @@ use Rattle.room_http.specs.declared.serving.ServeEnd.{ServeEnd}
 use Rattle.room_http.specs.declared.serving.ServeEnd.TheVariants as ends
 use Rattle.room_http.specs.Arrivals.{Arrival, message, refused}
 
--- what was read is this arrival: the message at the front of the bytes that are kept, or what is refused
+-- what was read is this arrival: the message at the front of the bytes that are kept, or what is
+-- refused
 abbrev pub IsReadAs : List ℕ → Result Layout Unread → Arrival → Type 0
 IsReadAs kept (Ok layout) (message m) = HasMessage kept m (drop layout.body.end kept)
 IsReadAs kept (Ok layout) (refused r head_only) = ⊥

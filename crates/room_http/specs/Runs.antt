@@ -1,4 +1,5 @@
--- A talk with the dispatch machine, as a run: what each arrival asked for, and what it was answered.
+-- A talk with the dispatch machine, as a run: what each arrival asked for, and what it was
+-- answered.
 use Rattle.std.specs.Prelude.{◌≡◌, ⊤, ℕ, List, [], ◌∷◌, Bool, false, filter, flat_map, map, Option, None, Result, Ok, Err}
 use Rattle.room_types.specs.declared.answers.Answer.{Answer}
 use Rattle.room_types.specs.declared.asks.Event.{Event}
@@ -16,7 +17,8 @@ use Rattle.room_http.specs.Arrivals.{Arrival, is_closing, is_head_only, message,
 use Rattle.room_http.specs.Events.{named}
 use Rattle.room_http.specs.Talk.{Finds, Timed, replied}
 
--- an arrival, the event that it asked for or the refusal in its place, and the bytes that it was answered with
+-- an arrival, the event that it asked for or the refusal in its place, and the bytes that it was
+-- answered with
 pub record Exchange : Type 0 where
   pub arrival : Timed
   pub found : Result Event Refusal
@@ -62,7 +64,8 @@ with_desk d xs = filter (λ x. is_by_desk d x.found) xs
 
 -- the bytes are this answer to the arrival
 abbrev pub IsTold : Exchange → Result Answer Refusal → Type 0
-IsTold x answer = IsReply answer x.arrival.1 (is_head_only x.arrival.0) (is_closing x.arrival.0) x.bytes
+IsTold x answer =
+    IsReply answer x.arrival.1 (is_head_only x.arrival.0) (is_closing x.arrival.0) x.bytes
 
 -- these are the answers, one to each
 abbrev pub AreTold : List Exchange → List (Result Answer Refusal) → Type 0
@@ -76,7 +79,8 @@ module _ (zone : Zone) (terminals : List Terminal) where
   abbrev pub AreAnswered : List Exchange → Room → Type 0
   AreAnswered [] room = ⊤
   AreAnswered (x ∷ xs) room =
-      Finds zone terminals x.arrival x.found × IsTold x (replied machine x.found room).1 × AreAnswered xs (replied machine x.found room).0
+      Finds zone terminals x.arrival x.found × IsTold x (replied machine x.found room).1
+      × AreAnswered xs (replied machine x.found room).0
 
   -- a run: its events are of those that the room knows
   pub record IsRun (xs : List Exchange) (room : Room) : Type 0 where
@@ -84,7 +88,8 @@ module _ (zone : Zone) (terminals : List Terminal) where
     pub answered : AreAnswered xs room
 
   -- the talk is the run: of its arrivals, to its room afterwards, with its bytes
-  pub record IsRunOf (outs : List Timed) (after : Room) (bytes : List ℕ) (xs : List Exchange) (room : Room) : Type 0 where
+  pub record IsRunOf (outs : List Timed) (after : Room) (bytes : List ℕ) (xs : List Exchange)
+      (room : Room) : Type 0 where
     pub run : IsRun xs room
     pub arrivals : arrivals_of xs ≡ outs
     pub leads : room_by xs room ≡ after

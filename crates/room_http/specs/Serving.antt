@@ -16,14 +16,16 @@ use Rattle.room_http_time.specs.declared.zones.Zone.{Zone}
 use Rattle.room_http_time.specs.Moments.{HasNoMoment}
 use Rattle.room_http.specs.Talk.{Timed, IsFront, BreaksOff, Talks}
 
--- what is known of a connection: the bytes to come, the reads made, the bytes written, and the moments given
+-- what is known of a connection: the bytes to come, the reads made, the bytes written, and the
+-- moments given
 pub record Sides : Type 0 where
   pub left : Option (List ℕ)
   pub reads : Option ℕ
   pub held : Option (List ℕ)
   pub given : Option (List ℕ)
 
--- the same at its end, but for the bytes to come, and how the reader, the writer and the clock were left
+-- the same at its end, but for the bytes to come, and how the reader, the writer and the clock were
+-- left
 pub record Finish : Type 0 where
   pub reads : Option ℕ
   pub held : Option (List ℕ)
@@ -39,16 +41,20 @@ ReadsAtMost budget old new = (n : ℕ) × (n ≤ budget) × CountsBy n old new
 
 -- the last arrival closes
 abbrev pub EndsClosing : List Timed → Type 0
-EndsClosing outs = (before : List Timed) × (x : Timed) × (outs ≡ before ++ x ∷ []) × (is_closing x.0 ≡ true)
+EndsClosing outs =
+    (before : List Timed) × (x : Timed) × (outs ≡ before ++ x ∷ []) × (is_closing x.0 ≡ true)
 
-module _ (step : Step) (zone : Zone) (old : Sides) (new : Finish) (trusted : Type 0) (stood stands : List Terminal → Room → Type 0) where
+module _ (step : Step) (zone : Zone) (old : Sides) (new : Finish) (trusted : Type 0)
+    (stood stands : List Terminal → Room → Type 0) where
   -- the stream begins with the arrivals, and something is said of what follows them
   abbrev pub Reaches : List Timed → (List ℕ → Type 0) → Type 0
-  Reaches outs follows = (stream : List ℕ) → old.left ≡ Some stream → (rest : List ℕ) × Begins stream (map (λ x. x.0) outs) rest × follows rest
+  Reaches outs follows = (stream : List ℕ) → old.left ≡ Some stream
+      → (rest : List ℕ) × Begins stream (map (λ x. x.0) outs) rest × follows rest
 
   -- each arrival had a moment, which the clock gave for it alone
   abbrev pub AreTimed : List Timed → Type 0
-  AreTimed outs = All (λ x. x.1 ≤ LAST_MOMENT) outs × Appends old.given new.given (map (λ x. x.1) outs)
+  AreTimed outs =
+      All (λ x. x.1 ≤ LAST_MOMENT) outs × Appends old.given new.given (map (λ x. x.1) outs)
 
   -- what was written, and the room after it
   abbrev pub Spoke : List Timed → (List Terminal → Room → List ℕ → Type 0) → Type 0
@@ -60,11 +66,13 @@ module _ (step : Step) (zone : Zone) (old : Sides) (new : Finish) (trusted : Typ
     pub timed : AreTimed outs
     pub talk : Spoke outs (λ terminals after tail. stands terminals after × (tail ≡ []))
 
-  -- The arrivals were answered. The next one was acted on, and its answer was not written, or not wholly.
+  -- The arrivals were answered. The next one was acted on, and its answer was not written, or not
+  -- wholly.
   pub record Broken (outs : List Timed) (x : Timed) : Type 0 where
     pub begins : Reaches (outs ++ x ∷ []) (λ rest. ⊤)
     pub timed : AreTimed (outs ++ x ∷ [])
-    pub talk : Spoke outs (λ terminals after tail. BreaksOff step zone terminals stands after x tail)
+    pub talk : Spoke outs (λ terminals after tail.
+        BreaksOff step zone terminals stands after x tail)
 
   -- The arrivals were answered. The next one had no moment, and nothing was done.
   pub record Untimed (outs : List Timed) (o : Arrival) : Type 0 where
@@ -73,8 +81,10 @@ module _ (step : Step) (zone : Zone) (old : Sides) (new : Finish) (trusted : Typ
     pub clock : HasNoMoment old.given new.given new.was_none (map (λ x. x.1) outs)
     pub talk : Spoke outs (λ terminals after tail. stands terminals after × (tail ≡ []))
 
-  -- The arrivals were answered. The next one had a moment, and of it this holds: no byte of an answer was written.
-  pub record Unwritten (outs : List Timed) (x : Timed) (holds : List Terminal → Room → Type 0) : Type 0 where
+  -- The arrivals were answered. The next one had a moment, and of it this holds: no byte of an
+  -- answer was written.
+  pub record Unwritten (outs : List Timed) (x : Timed)
+      (holds : List Terminal → Room → Type 0) : Type 0 where
     pub begins : Reaches outs (HasNext x.0)
     pub next : Reaches (outs ++ x ∷ []) (λ rest. ⊤)
     pub timed : AreTimed (outs ++ x ∷ [])
@@ -86,43 +96,55 @@ module _ (step : Step) (zone : Zone) (old : Sides) (new : Finish) (trusted : Typ
 
   -- where memory or storage was wanting for an arrival, so much holds of the room
   module _ (wants : Timed → List Terminal → Room → Type 0) where
-    -- The arrivals were answered. For the next one memory or storage was wanting: the room stayed as
-    -- it was, and of the fixed answer so much was written.
-    pub record Unserved (outs : List Timed) (x : Timed) (so_much : List ℕ → List ℕ → Type 0) : Type 0 where
+    -- The arrivals were answered. For the next one memory or storage was wanting: the room stayed
+    -- as it was, and of the fixed answer so much was written.
+    pub record Unserved (outs : List Timed) (x : Timed)
+        (so_much : List ℕ → List ℕ → Type 0) : Type 0 where
       pub begins : Reaches outs (HasNext x.0)
       pub next : Reaches (outs ++ x ∷ []) (λ rest. ⊤)
       pub timed : AreTimed (outs ++ x ∷ [])
       pub refusal : Refusal
       pub want : IsWant refusal
-      pub talk : Spoke outs (λ terminals after tail. wants x terminals after × so_much tail (fixed_bytes refusal (is_head_only x.0)))
+      pub talk : Spoke outs (λ terminals after tail. wants x terminals after
+          × so_much tail (fixed_bytes refusal (is_head_only x.0)))
 
-    -- How serving ended, which was granted so many reads. Closed: the stream ended between messages,
-    -- an answer closed, or memory or storage was wanting and its fixed answer closed.
+    -- How serving ended, which was granted so many reads. Closed: the stream ended between
+    -- messages, an answer closed, or memory or storage was wanting and its fixed answer closed.
     abbrev pub ServeIs : ℕ → ServeEnd → Type 0
     ServeIs budget Closed =
         ((outs : List Timed) × Answered outs (λ rest. rest ≡ []) × (new.read_ended ≡ true))
         ⊎ ((outs : List Timed) × Answered outs (λ rest. ⊤) × EndsClosing outs)
         ⊎ ((outs : List Timed) × (x : Timed) × Unserved outs x (λ tail fixed. tail ≡ fixed))
     ServeIs budget Cut = (outs : List Timed) × Answered outs IsCut × (new.read_ended ≡ true)
-    ServeIs budget ReadFault = (outs : List Timed) × Answered outs (λ rest. ⊤) × (new.read_failed ≡ true)
-    ServeIs budget WriteFault = ((outs : List Timed) × (x : Timed) × (Broken outs x ⊎ Unserved outs x IsFront)) × (new.write_failed ≡ true)
-    ServeIs budget Unkept = (outs : List Timed) × (x : Timed) × (Unwritten outs x stands ⊎ Unwritten outs x (HasActed x))
+    ServeIs budget ReadFault =
+        (outs : List Timed) × Answered outs (λ rest. ⊤) × (new.read_failed ≡ true)
+    ServeIs budget WriteFault = ((outs : List Timed) × (x : Timed)
+        × (Broken outs x ⊎ Unserved outs x IsFront)) × (new.write_failed ≡ true)
+    ServeIs budget Unkept = (outs : List Timed) × (x : Timed)
+        × (Unwritten outs x stands ⊎ Unwritten outs x (HasActed x))
     ServeIs budget ClockFault = (outs : List Timed) × (o : Arrival) × Untimed outs o
-    ServeIs budget ReadsSpent = (outs : List Timed) × Answered outs (λ rest. ⊤) × CountsBy budget old.reads new.reads
+    ServeIs budget ReadsSpent =
+        (outs : List Timed) × Answered outs (λ rest. ⊤) × CountsBy budget old.reads new.reads
     ServeIs budget Memory = Answered [] (λ rest. ⊤) × CountsBy 0 old.reads new.reads
 
 -- the clock gave a moment for each of these arrivals
 abbrev pub HasMoments : Option (List ℕ) → Option (List ℕ) → List Arrival → Type 0
-HasMoments given gives outs = (moments : List ℕ) × (length moments ≡ length outs) × Appends given gives moments
+HasMoments given gives outs =
+    (moments : List ℕ) × (length moments ≡ length outs) × Appends given gives moments
 
--- the stream begins with as many arrivals as moments were given, and what was read after them is less than a message
-abbrev pub LeavesPart : Option (List ℕ) → Option (List ℕ) → Option (List ℕ) → Option (List ℕ) → Type 0
+-- the stream begins with as many arrivals as moments were given, and what was read after them is
+-- less than a message
+abbrev pub LeavesPart : Option (List ℕ) → Option (List ℕ) → Option (List ℕ) → Option (List ℕ)
+    → Type 0
 LeavesPart left remains given gives =
     (stream : List ℕ) → left ≡ Some stream
-    → (outs : List Arrival) × (part : List ℕ) × (rest : List ℕ) × (remains ≡ Some rest) × Begins stream outs (part ++ rest) × IsPart part × HasMoments given gives outs
+    → (outs : List Arrival) × (part : List ℕ) × (rest : List ℕ) × (remains ≡ Some rest)
+    × Begins stream outs (part ++ rest) × IsPart part × HasMoments given gives outs
 
--- a read that fails, and reads that are used up, leave no message without an answer that was read whole
-abbrev pub MissesNone : Option (List ℕ) → Option (List ℕ) → Option (List ℕ) → Option (List ℕ) → ServeEnd → Type 0
+-- a read that fails, and reads that are used up, leave no message without an answer that was read
+-- whole
+abbrev pub MissesNone : Option (List ℕ) → Option (List ℕ) → Option (List ℕ) → Option (List ℕ)
+    → ServeEnd → Type 0
 MissesNone left remains given gives ReadFault = LeavesPart left remains given gives
 MissesNone left remains given gives ReadsSpent = LeavesPart left remains given gives
 MissesNone left remains given gives end = ⊤

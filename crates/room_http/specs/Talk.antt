@@ -30,41 +30,56 @@ module _ (step : Step) (zone : Zone) (terminals : List Terminal) where
   -- the room after an arrival, and the bytes of the answer
   abbrev pub IsReplyTo : Room → Timed → Room → List ℕ → Type 0
   IsReplyTo room x after bytes =
-      (found : Result Event Refusal) × Finds zone terminals x found × (after ≡ (replied step found room).0)
+      (found : Result Event Refusal) × Finds zone terminals x found
+      × (after ≡ (replied step found room).0)
       × IsReply (replied step found room).1 x.1 (is_head_only x.0) (is_closing x.0) bytes
 
   -- the room after arrivals, and the bytes of the answers, one after another
   abbrev pub IsTalk : Room → List Timed → Room → List ℕ → Type 0
   IsTalk room [] after bytes = (after ≡ room) × (bytes ≡ [])
   IsTalk room (x ∷ more) after bytes =
-      (next : Room) × (first : List ℕ) × (others : List ℕ) × (bytes ≡ first ++ others) × IsReplyTo room x next first × IsTalk next more after others
+      (next : Room) × (first : List ℕ) × (others : List ℕ) × (bytes ≡ first ++ others)
+      × IsReplyTo room x next first × IsTalk next more after others
 
--- The room is this one. Where what was held at the beginning was kept, a stop leaves this room alone.
-abbrev pub Stays : Type 0 → (List Terminal → Room → Type 0) → (List Terminal → List Room → Type 0) → List Terminal → Room → Type 0
-Stays was_kept stands leaves terminals room = stands terminals room × (was_kept → leaves terminals (room ∷ []))
+-- The room is this one. Where what was held at the beginning was kept, a stop leaves this room
+-- alone.
+abbrev pub Stays : Type 0 → (List Terminal → Room → Type 0) → (List Terminal → List Room → Type 0)
+    → List Terminal → Room → Type 0
+Stays was_kept stands leaves terminals room =
+    stands terminals room × (was_kept → leaves terminals (room ∷ []))
 
 -- A stop leaves this room or that after the event that an arrival asked for.
-abbrev pub LeavesNext : Step → Zone → (List Terminal → List Room → Type 0) → Timed → List Terminal → Room → Type 0
+abbrev pub LeavesNext : Step → Zone → (List Terminal → List Room → Type 0) → Timed → List Terminal
+    → Room → Type 0
 LeavesNext step zone leaves x terminals room =
-    (event : Event) × Finds zone terminals x (Ok event) × leaves terminals (room ∷ (step event room).0 ∷ [])
+    (event : Event) × Finds zone terminals x (Ok event)
+    × leaves terminals (room ∷ (step event room).0 ∷ [])
 
--- For this arrival memory or storage was wanting, and the room is as before. A stop may leave the one after it.
-abbrev pub Wants : Step → Zone → Type 0 → (List Terminal → Room → Type 0) → (List Terminal → List Room → Type 0) → Timed → List Terminal → Room → Type 0
-Wants step zone was_kept stands leaves x terminals room = stands terminals room × (was_kept → leaves terminals (room ∷ []) ⊎ LeavesNext step zone leaves x terminals room)
+-- For this arrival memory or storage was wanting, and the room is as before. A stop may leave the
+-- one after it.
+abbrev pub Wants : Step → Zone → Type 0 → (List Terminal → Room → Type 0)
+    → (List Terminal → List Room → Type 0) → Timed → List Terminal → Room → Type 0
+Wants step zone was_kept stands leaves x terminals room = stands terminals room
+    × (was_kept → leaves terminals (room ∷ []) ⊎ LeavesNext step zone leaves x terminals room)
 
 -- some of the first bytes
 abbrev pub IsFront : List ℕ → List ℕ → Type 0
 IsFront front bytes = (rest : List ℕ) × (bytes ≡ front ++ rest)
 
 -- the room has acted on the arrival, and its answer was not written, or not wholly
-abbrev pub BreaksOff : Step → Zone → List Terminal → (List Terminal → Room → Type 0) → Room → Timed → List ℕ → Type 0
+abbrev pub BreaksOff : Step → Zone → List Terminal → (List Terminal → Room → Type 0) → Room → Timed
+    → List ℕ → Type 0
 BreaksOff step zone terminals stands room x tail =
-    (after : Room) × (bytes : List ℕ) × IsReplyTo step zone terminals room x after bytes × stands terminals after × IsFront tail bytes
+    (after : Room) × (bytes : List ℕ) × IsReplyTo step zone terminals room x after bytes
+    × stands terminals after × IsFront tail bytes
 
 -- Where the room is kept by what gives back what was written: what was written to the other side is
--- the answers to the arrivals, and then a tail, of which something is said, and of the room after them.
-abbrev pub Talks : Step → Zone → Type 0 → (List Terminal → Room → Type 0) → Option (List ℕ) → Option (List ℕ) → List Timed → (List Terminal → Room → List ℕ → Type 0) → Type 0
+-- the answers to the arrivals, and then a tail, of which something is said, and of the room after
+-- them.
+abbrev pub Talks : Step → Zone → Type 0 → (List Terminal → Room → Type 0) → Option (List ℕ)
+    → Option (List ℕ) → List Timed → (List Terminal → Room → List ℕ → Type 0) → Type 0
 Talks step zone trusted stood held holds outs says =
     trusted → (terminals : List Terminal) (room : Room) → stood terminals room
     → (after : Room) × (bytes : List ℕ) × (tail : List ℕ)
-    × IsTalk step zone terminals room outs after bytes × says terminals after tail × Appends held holds (bytes ++ tail)
+    × IsTalk step zone terminals room outs after bytes × says terminals after tail
+    × Appends held holds (bytes ++ tail)

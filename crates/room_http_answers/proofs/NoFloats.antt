@@ -13,11 +13,13 @@ use Rattle.room_http_answers.specs.Shapes.{whole, or_null}
 use Rattle.room_http_answers.specs.Contents.{assignment_json, entry_json, incident_json, json_of, loan_json, offer_json, point_json, proposal_json, times_line_json, vehicle_json}
 
 -- a list of what has none
-has_float-list : {T : Type 0} → (json : T → Data) (xs : List T) → ((x : T) → has_float (json x) ≡ false) → items_have_float (items_of (map json xs)) ≡ false
+has_float-list : {T : Type 0} → (json : T → Data) (xs : List T)
+    → ((x : T) → has_float (json x) ≡ false) → items_have_float (items_of (map json xs)) ≡ false
 has_float-list json [] none = refl
 has_float-list json (x ∷ xs) none = rw (none x, has_float-list json xs none)
 
-has_float-option : {T : Type 0} → (json : T → Data) (o : Option T) → ((x : T) → has_float (json x) ≡ false) → has_float (or_null json o) ≡ false
+has_float-option : {T : Type 0} → (json : T → Data) (o : Option T)
+    → ((x : T) → has_float (json x) ≡ false) → has_float (or_null json o) ≡ false
 has_float-option json None none = refl
 has_float-option json (Some x) none = none x
 

@@ -139,24 +139,32 @@ assignment_json a =
 
 abbrev pub answer_json : Answer → Data
 answer_json (answer.Called division incident linked) =
-    object_of ((codes "division", whole division) ∷ (codes "incident", whole incident) ∷ (codes "linked", boolean linked) ∷ [])
-answer_json (answer.Incidents lines) = object_of ((codes "incidents", list_of incident_json lines) ∷ [])
-answer_json (answer.Proposals lines) = object_of ((codes "proposals", list_of proposal_json lines) ∷ [])
-answer_json (answer.Mobilised order callsign) = object_of ((codes "order", whole order) ∷ (codes "vehicle", string callsign) ∷ [])
+    object_of ((codes "division", whole division) ∷ (codes "incident", whole incident)
+    ∷ (codes "linked", boolean linked) ∷ [])
+answer_json (answer.Incidents lines) =
+    object_of ((codes "incidents", list_of incident_json lines) ∷ [])
+answer_json (answer.Proposals lines) =
+    object_of ((codes "proposals", list_of proposal_json lines) ∷ [])
+answer_json (answer.Mobilised order callsign) =
+    object_of ((codes "order", whole order) ∷ (codes "vehicle", string callsign) ∷ [])
 answer_json answer.Done = object_of ((codes "done", boolean true) ∷ [])
-answer_json (answer.Vehicles lines) = object_of ((codes "vehicles", list_of vehicle_json lines) ∷ [])
+answer_json (answer.Vehicles lines) =
+    object_of ((codes "vehicles", list_of vehicle_json lines) ∷ [])
 answer_json (answer.Queue entries) = object_of ((codes "queue", list_of entry_json entries) ∷ [])
 answer_json (answer.Points lines) = object_of ((codes "points", list_of point_json lines) ∷ [])
 answer_json (answer.Loans loans) = object_of ((codes "loans", list_of loan_json loans) ∷ [])
 answer_json (answer.Offers offers) = object_of ((codes "offers", list_of offer_json offers) ∷ [])
 answer_json (answer.Times times) = times_json times
 answer_json (answer.Order assignment post status) =
-    object_of ((codes "order", or_null assignment_json assignment) ∷ (codes "post", or_null whole post) ∷ (codes "status", whole (status_number status)) ∷ [])
+    object_of ((codes "order", or_null assignment_json assignment)
+    ∷ (codes "post", or_null whole post) ∷ (codes "status", whole (status_number status)) ∷ [])
 answer_json (answer.Reported report outcome status) =
-    object_of ((codes "number", whole report) ∷ (codes "outcome", string (outcome_name outcome)) ∷ (codes "status", whole (status_number status)) ∷ [])
+    object_of ((codes "number", whole report) ∷ (codes "outcome", string (outcome_name outcome))
+    ∷ (codes "status", whole (status_number status)) ∷ [])
 
 abbrev pub refusal_json : Refusal → Data
-refusal_json r = object_of ((codes "error", string (refusal_name r)) ∷ (codes "number", whole (refusal_number r)) ∷ [])
+refusal_json r = object_of ((codes "error", string (refusal_name r))
+    ∷ (codes "number", whole (refusal_number r)) ∷ [])
 
 abbrev pub json_of : Result Answer Refusal → Data
 json_of (Ok a) = answer_json a

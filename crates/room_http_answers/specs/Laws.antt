@@ -8,4 +8,5 @@ use Rattle.room_http_answers.specs.Replies.{IsReply}
 abbrev pub IsOneReply : Type 0
 IsOneReply =
     (answer : Result Answer Refusal) (at : ℕ) (head_only closing : Bool) (bytes others : List ℕ)
-    → IsReply answer at head_only closing bytes → IsReply answer at head_only closing others → bytes ≡ others
+    → IsReply answer at head_only closing bytes → IsReply answer at head_only closing others
+    → bytes ≡ others

@@ -14,7 +14,8 @@ use Rattle.room_http_messages.specs.Fields.{is_named, values_of, found_with, Are
 
 -- one field more
 pub values_of-named : (name : List ℕ) (fields : List (List ℕ × List ℕ)) (field : List ℕ × List ℕ)
-    → is_named name field ≡ true → values_of name (fields ++ field ∷ []) ≡ values_of name fields ++ field.1 ∷ []
+    → is_named name field ≡ true → values_of name (fields ++ field ∷ []) ≡ values_of name fields
+    ++ field.1 ∷ []
 unfolding values_of
 values_of-named name fields field found =
     rw (filter-append (is_named name) fields (field ∷ []), found, map-append (λ (f : List ℕ × List ℕ). f.1) (filter (is_named name) fields) (field ∷ []))
@@ -27,16 +28,20 @@ values_of-other name fields field other =
 
 -- one value more
 pub FoundIs-found_with : (buf : List ℕ) (values : List (List ℕ)) (found : Found) (value : Span)
-    → FoundIs buf values found → IsWithin (length buf) value → FoundIs buf (values ++ span_bytes buf value ∷ []) (found_with found value)
+    → FoundIs buf values found → IsWithin (length buf) value
+    → FoundIs buf (values ++ span_bytes buf value ∷ []) (found_with found value)
 FoundIs-found_with buf values Nowhere value none within = (within, rw none)
 FoundIs-found_with buf values (Once first) value one within = rw one.1 (omega arith)
 FoundIs-found_with buf values Repeated value two within = rw length-append (omega arith)
 
 -- the step of the walk over the fields
-pub FoundIs-more : (buf name : List ℕ) (headers : List HeaderSpan) (i : ℕ) (d : HeaderSpan) (found : Found)
-    → AreWithin buf headers → i < length headers → is_named name (header_bytes buf (get_or headers i d)) ≡ true
+pub FoundIs-more : (buf name : List ℕ) (headers : List HeaderSpan) (i : ℕ) (d : HeaderSpan)
+    (found : Found)
+    → AreWithin buf headers → i < length headers
+    → is_named name (header_bytes buf (get_or headers i d)) ≡ true
     → FoundIs buf (values_of name (map (header_bytes buf) (take i headers))) found
-    → FoundIs buf (values_of name (map (header_bytes buf) (take (i + 1) headers))) (found_with found (get_or headers i d).value)
+    → FoundIs buf (values_of name (map (header_bytes buf) (take (i + 1) headers)))
+    (found_with found (get_or headers i d).value)
 FoundIs-more buf name headers i d found within below has was =
     rw (
       take_more headers i d below,
@@ -45,7 +50,8 @@ FoundIs-more buf name headers i d found within below has was =
     )
     (FoundIs-found_with buf _ found (get_or headers i d).value was (All-get_or (IsHeaderWithin (length buf)) headers i d below within).1)
 
-pub FoundIs-less : (buf name : List ℕ) (headers : List HeaderSpan) (i : ℕ) (d : HeaderSpan) (found : Found)
+pub FoundIs-less : (buf name : List ℕ) (headers : List HeaderSpan) (i : ℕ) (d : HeaderSpan)
+    (found : Found)
     → i < length headers → is_named name (header_bytes buf (get_or headers i d)) ≡ false
     → FoundIs buf (values_of name (map (header_bytes buf) (take i headers))) found
     → FoundIs buf (values_of name (map (header_bytes buf) (take (i + 1) headers))) found
@@ -57,8 +63,10 @@ FoundIs-less buf name headers i d found below has was =
     ) was
 
 -- a field that passes a test is among those that do
-pub some_field : (test : List ℕ × List ℕ → Bool) (buf : List ℕ) (headers : List HeaderSpan) (i : ℕ) (d : HeaderSpan)
-    → i < length headers → test (header_bytes buf (get_or headers i d)) ≡ true → list_any test (map (header_bytes buf) headers) ≡ true
+pub some_field : (test : List ℕ × List ℕ → Bool) (buf : List ℕ) (headers : List HeaderSpan) (i : ℕ)
+    (d : HeaderSpan)
+    → i < length headers → test (header_bytes buf (get_or headers i d)) ≡ true
+    → list_any test (map (header_bytes buf) headers) ≡ true
 some_field test buf headers i d below passes =
     list_any_at test (map (header_bytes buf) headers) i (header_bytes buf d) (rw length-map below) (rw (get_or-map (header_bytes buf) headers i d) passes)
 

@@ -18,7 +18,8 @@ used-read room piece used k n within fits =
     ∙ (rw (take_at front after used len, drop_at front after used len, take-append-le n piece (post_of used k room) fits) refl)
 
 -- the used ones stay as they are
-pub used-kept : (room piece : List ℕ) (used k : ℕ) → used ≤ length room → take used (put_mid used k room piece) ≡ take used room
+pub used-kept : (room piece : List ℕ) (used k : ℕ) → used ≤ length room
+    → take used (put_mid used k room piece) ≡ take used room
 used-kept room piece used k within = take_at (take used room) (piece ++ post_of used k room) used (length-take-le used room within)
 
 -- what is left after the first bytes go
@@ -32,6 +33,7 @@ used-removed room gone used ordered within =
     ∙ sym (ap (λ j. drop gone (take j room)) sum ∙ drop-take gone kept room)
 
 -- a read that gave nothing, and had room, found the end
-pub ended_at_none : (before after : Bool) (n size : ℕ) → after ≡ (before || found_end {E = Unit {0}} (Ok n) size) → n ≡ 0 → 0 < size → after ≡ true
+pub ended_at_none : (before after : Bool) (n size : ℕ)
+    → after ≡ (before || found_end {E = Unit {0}} (Ok n) size) → n ≡ 0 → 0 < size → after ≡ true
 ended_at_none true after n size is none room = is
 ended_at_none false after n size is none room = is ∙ rw (none, lt-ltb 0 size room) refl

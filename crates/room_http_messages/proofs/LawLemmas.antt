@@ -34,13 +34,15 @@ one_message_law stream m n rest left x y =
     let parts = parts_of m.body n.body rest left head.1 size in
     (message_of m.head n.head m.body n.body head.0 parts.0, parts.1)
 
-message_not_empty : (stream : List ℕ) (m : WholeMessage) (rest : List ℕ) → HasMessage stream m rest → ¬ (stream ≡ [])
+message_not_empty : (stream : List ℕ) (m : WholeMessage) (rest : List ℕ) → HasMessage stream m rest
+    → ¬ (stream ≡ [])
 message_not_empty stream m rest x nothing =
     let size = ap length (sym nothing ∙ x.begins.reads.1) in
     omega (arith, head_not_empty m.head, simp length-append at size)
 
 -- a head within the limit stands in the head's place
-in_window : (stream : List ℕ) (h : RequestHead) (rest : List ℕ) → HasHead stream h rest → ¬ (HasNoRequest (window stream))
+in_window : (stream : List ℕ) (h : RequestHead) (rest : List ℕ) → HasHead stream h rest
+    → ¬ (HasNoRequest (window stream))
 unfolding window
 in_window stream h rest has none =
     let over : HEAD_LIMIT ≡ length (print_request h) + (HEAD_LIMIT - length (print_request h)) = omega (arith, has.fits) in
@@ -52,7 +54,8 @@ window_begins : (stream : List ℕ) → window stream ++ drop HEAD_LIMIT stream 
 unfolding window
 window_begins stream = take-append-drop HEAD_LIMIT stream
 
-not_refused : (stream : List ℕ) (m : WholeMessage) (rest : List ℕ) (r : Refusal) (head_only : Bool) → HasMessage stream m rest → ¬ (IsRefused stream r head_only)
+not_refused : (stream : List ℕ) (m : WholeMessage) (rest : List ℕ) (r : Refusal) (head_only : Bool)
+    → HasMessage stream m rest → ¬ (IsRefused stream r head_only)
 not_refused stream m rest r head_only x (no_head none) =
     let few : length m.head.fields ≤ FIELD_LIMIT = x.begins.few in
     let many = none (drop HEAD_LIMIT stream) m.head (m.body ++ rest) (rw (window_begins stream) x.begins.reads) in
@@ -63,7 +66,8 @@ not_refused stream m rest r head_only x (by_rule h left fault has broken) =
     let sound : fault_of h.minor (head_fields h) ≡ None = ap (λ k. fault_of k.minor (head_fields k)) (sym head) ∙ x.sound in
     cc
 
-not_part : (stream : List ℕ) (m : WholeMessage) (rest : List ℕ) → HasMessage stream m rest → ¬ (IsPart stream)
+not_part : (stream : List ℕ) (m : WholeMessage) (rest : List ℕ) → HasMessage stream m rest
+    → ¬ (IsPart stream)
 not_part stream m rest x (in_head short part) = in_window stream m.head (m.body ++ rest) x.begins part.none
 not_part stream m rest x (in_body h part has sound short) =
     let head = request_unique stream m.head h (m.body ++ rest) part x.begins.reads has.reads in
@@ -87,26 +91,31 @@ one_split_law stream (m ∷ few) (n ∷ many) rest left x y fewer =
     (tail.0, ap (λ k. k ∷ many) (sym same.0) ∙ ap (λ t. m ∷ t) tail.1, tail.2)
 
 -- a reading that ends has all the messages
-longest : (stream : List ℕ) (few many : List WholeMessage) (rest left : List ℕ) (e : Unread) → Splits stream few rest → EndsWith rest e
+longest : (stream : List ℕ) (few many : List WholeMessage) (rest left : List ℕ) (e : Unread)
+    → Splits stream few rest → EndsWith rest e
     → Splits stream many left → length few ≤ length many → (few ≡ many) × (rest ≡ left)
 longest stream few many rest left e x end y fewer =
     let split = one_split_law stream few many rest left x y fewer in
     go split.0 split.1 split.2
   where
-    go : (more : List WholeMessage) → many ≡ few ++ more → Splits rest more left → (few ≡ many) × (rest ≡ left)
+    go : (more : List WholeMessage) → many ≡ few ++ more → Splits rest more left
+        → (few ≡ many) × (rest ≡ left)
     go [] is same = (sym (is ∙ append-nil few), same)
     go (m ∷ more) is next = absurd (no_end_law rest m next.0 e next.1 end)
 
 pub one_reading_law : IsOneReading
 one_reading_law stream first second rest left e f x x_end y y_end = go (cases_lt (length first) (length second))
   where
-    go : (length first < length second) ⊎ (length second ≤ length first) → (first ≡ second) × (rest ≡ left)
+    go : (length first < length second) ⊎ (length second ≤ length first)
+        → (first ≡ second) × (rest ≡ left)
     go (inl fewer) = longest stream first second rest left e x x_end y (omega arith)
     go (inr fewer) = let same = longest stream second first left rest f y y_end x fewer in (sym same.0, sym same.1)
 
 -- one message more, after messages that don't close
-pub Splits-push : (stream : List ℕ) (messages : List WholeMessage) (rest : List ℕ) (m : WholeMessage) (next : List ℕ)
-    → Splits stream messages rest → All (λ n. closes n.head ≡ false) messages → HasMessage rest m next → Splits stream (messages ++ m ∷ []) next
+pub Splits-push : (stream : List ℕ) (messages : List WholeMessage) (rest : List ℕ)
+    (m : WholeMessage) (next : List ℕ)
+    → Splits stream messages rest → All (λ n. closes n.head ≡ false) messages
+    → HasMessage rest m next → Splits stream (messages ++ m ∷ []) next
 Splits-push stream [] rest m next x stays y = (next, rw x y, λ _. refl, refl)
 Splits-push stream (n ∷ more) rest m next x stay y =
     let stays = All-head (λ k. closes k.head ≡ false) n more stay in

@@ -27,10 +27,12 @@ take_min n bytes m is = go (cases_lt (length bytes) n)
     go (inl below) = let e : m ≡ length bytes = omega arith in let h : length bytes ≤ n = omega arith in rw (e, take-length bytes) (sym (take_all n bytes h))
     go (inr above) = let e : m ≡ n = omega arith in rw e
 
-take_more_of : (n : ℕ) (bytes more : List ℕ) → (rest : List ℕ) × (take n (bytes ++ more) ≡ take n bytes ++ rest)
+take_more_of : (n : ℕ) (bytes more : List ℕ)
+    → (rest : List ℕ) × (take n (bytes ++ more) ≡ take n bytes ++ rest)
 take_more_of n bytes more = go (cases_lt (length bytes) n)
   where
-    go : (length bytes < n) ⊎ (n ≤ length bytes) → (rest : List ℕ) × (take n (bytes ++ more) ≡ take n bytes ++ rest)
+    go : (length bytes < n) ⊎ (n ≤ length bytes)
+        → (rest : List ℕ) × (take n (bytes ++ more) ≡ take n bytes ++ rest)
     go (inl below) =
         let h : length bytes ≤ n = omega arith in
         let e : n ≡ length bytes + (n - length bytes) = omega arith in
@@ -39,69 +41,94 @@ take_more_of n bytes more = go (cases_lt (length bytes) n)
     go (inr above) = ([], take-append-le n bytes more above ∙ sym (append-nil (take n bytes)))
 
 -- the code's window
-pub window_is : (bytes : List ℕ) (m : ℕ) → m ≡ min (length bytes) HEAD_LIMIT → take m bytes ≡ window bytes
+pub window_is : (bytes : List ℕ) (m : ℕ) → m ≡ min (length bytes) HEAD_LIMIT
+    → take m bytes ≡ window bytes
 unfolding window
 window_is bytes m is = take_min HEAD_LIMIT bytes m is
 
 -- more bytes leave what stands in the head's place at its front
-pub window-append : (bytes more : List ℕ) → (rest : List ℕ) × (window (bytes ++ more) ≡ window bytes ++ rest)
+pub window-append : (bytes more : List ℕ)
+    → (rest : List ℕ) × (window (bytes ++ more) ≡ window bytes ++ rest)
 unfolding window
 window-append bytes more = take_more_of HEAD_LIMIT bytes more
 
-pub window-full : (bytes more : List ℕ) → HEAD_LIMIT ≤ length bytes → window (bytes ++ more) ≡ window bytes
+pub window-full : (bytes more : List ℕ) → HEAD_LIMIT ≤ length bytes
+    → window (bytes ++ more) ≡ window bytes
 unfolding window
 window-full bytes more full = take-append-le HEAD_LIMIT bytes more full
 
 -- ---- no head
 
 -- where no head comes, none comes whatever bytes follow
-pub no_head_always : (bytes : List ℕ) → RequestOverflows FIELD_LIMIT (window bytes) → (more : List ℕ) → IsRefused (bytes ++ more) BadMessage false
+pub no_head_always : (bytes : List ℕ) → RequestOverflows FIELD_LIMIT (window bytes)
+    → (more : List ℕ) → IsRefused (bytes ++ more) BadMessage false
 no_head_always bytes none more =
     let next = window-append bytes more in
     no_head (rw next.1 (λ left h rest reads. none (next.0 ++ left) h rest (rw (← append_assoc) reads)))
 
-pub too_long_always : (bytes : List ℕ) → HEAD_LIMIT ≤ length bytes → HasPartHead bytes → (more : List ℕ) → IsRefused (bytes ++ more) HeadTooLong false
+pub too_long_always : (bytes : List ℕ) → HEAD_LIMIT ≤ length bytes → HasPartHead bytes
+    → (more : List ℕ) → IsRefused (bytes ++ more) HeadTooLong false
 too_long_always bytes full part more =
     too_long (rw length-append (omega arith)) (record { none = rw (window-full bytes more full) part.none; may = rw (window-full bytes more full) part.may })
 
 -- one byte more is worth another look
-pub part_of_head : (bytes : List ℕ) → length bytes < HEAD_LIMIT → HasPartHead bytes → (more : List ℕ)
+pub part_of_head : (bytes : List ℕ) → length bytes < HEAD_LIMIT → HasPartHead bytes
+    → (more : List ℕ)
     → length (bytes ++ more) < length bytes + 1 → IsPart (bytes ++ more)
 part_of_head bytes short part [] same = rw append-nil (in_head short part)
 part_of_head bytes short part (byte ∷ more) same = absurd (omega (arith, simp length-append at same))
 
 -- ---- the head that the parser found
 
-rest_is : (stream : List ℕ) (h : RequestHead) (rest : List ℕ) (n : ℕ) → ReadsRequest stream h rest → n ≡ length (print_request h) → rest ≡ drop n stream
+rest_is : (stream : List ℕ) (h : RequestHead) (rest : List ℕ) (n : ℕ) → ReadsRequest stream h rest
+    → n ≡ length (print_request h) → rest ≡ drop n stream
 rest_is stream h rest n reads is = sym (rw (is, reads.1) (drop-append_seam (print_request h) rest))
 
 fields_fit : (w : List ℕ) (headers : List HeaderSpan) (count room : ℕ) (h : RequestHead)
-    → map (header_bytes w) (take count headers) ≡ head_fields h → length headers ≡ room → length h.fields ≤ room
+    → map (header_bytes w) (take count headers) ≡ head_fields h → length headers ≡ room
+    → length h.fields ≤ room
 fields_fit w headers count room h same full =
     let e = ap length same in
     let n : length h.fields ≡ length (take count headers) = simp length-map at (sym e) in
     omega (arith, n, length-take count headers)
 
 -- what the parser found in the window the stream has, whatever bytes follow
-pub record Found (stream w tail : List ℕ) (headers : List HeaderSpan) (r : RequestSpans) (h : RequestHead) : Type 0 where
+pub record Found (stream w tail : List ℕ) (headers : List HeaderSpan) (r : RequestSpans)
+    (h : RequestHead) : Type 0 where
   pub split : stream ≡ w ++ tail
   pub short : length w ≤ HEAD_LIMIT
   pub room : length headers ≡ FIELD_LIMIT
   pub within : IsRequestWithin w headers r
   pub at : IsRequestAt w headers r h
 
-pub Found-append : (stream w tail more : List ℕ) (headers : List HeaderSpan) (r : RequestSpans) (h : RequestHead)
+pub Found-append : (stream w tail more : List ℕ) (headers : List HeaderSpan) (r : RequestSpans)
+    (h : RequestHead)
     → Found stream w tail headers r h → Found (stream ++ more) w (tail ++ more) headers r h
 Found-append stream w tail more headers r h f =
-    record { split = ap (λ t. t ++ more) f.split ∙ append_assoc w tail more; short = f.short; room = f.room; within = f.within; at = f.at }
+    record {
+      split = ap (λ t. t ++ more) f.split ∙ append_assoc w tail more;
+      short = f.short;
+      room = f.room;
+      within = f.within;
+      at = f.at;
+    }
 
-pub found_in : (bytes : List ℕ) (m : ℕ) (headers : List HeaderSpan) (r : RequestSpans) (h : RequestHead)
-    → m ≡ min (length bytes) HEAD_LIMIT → length headers ≡ FIELD_LIMIT → IsRequestWithin (take m bytes) headers r → IsRequestAt (take m bytes) headers r h
+pub found_in : (bytes : List ℕ) (m : ℕ) (headers : List HeaderSpan) (r : RequestSpans)
+    (h : RequestHead)
+    → m ≡ min (length bytes) HEAD_LIMIT → length headers ≡ FIELD_LIMIT
+    → IsRequestWithin (take m bytes) headers r → IsRequestAt (take m bytes) headers r h
     → Found bytes (take m bytes) (drop m bytes) headers r h
 found_in bytes m headers r h is room within at =
-    record { split = sym (take-append-drop m bytes); short = omega (arith, length-take m bytes); room = room; within = within; at = at }
+    record {
+      split = sym (take-append-drop m bytes);
+      short = omega (arith, length-take m bytes);
+      room = room;
+      within = within;
+      at = at;
+    }
 
-pub head_of : (stream w tail : List ℕ) (headers : List HeaderSpan) (r : RequestSpans) (h : RequestHead)
+pub head_of : (stream w tail : List ℕ) (headers : List HeaderSpan) (r : RequestSpans)
+    (h : RequestHead)
     → Found stream w tail headers r h → HasHead stream h (drop r.len stream)
 head_of stream w tail headers r h f =
     let reads : ReadsRequest stream h (drop r.len w ++ tail) =
@@ -113,13 +140,18 @@ head_of stream w tail headers r h f =
     }
 
 -- what is known of the fields that the parser found is known of the head
-fault_is : (w : List ℕ) (headers : List HeaderSpan) (r : RequestSpans) (h : RequestHead) (fault : Option Refusal) → IsRequestAt w headers r h
-    → fault_of r.version (map (header_bytes w) (take r.headers headers)) ≡ fault → fault_of h.minor (head_fields h) ≡ fault
+fault_is : (w : List ℕ) (headers : List HeaderSpan) (r : RequestSpans) (h : RequestHead)
+    (fault : Option Refusal) → IsRequestAt w headers r h
+    → fault_of r.version (map (header_bytes w) (take r.headers headers)) ≡ fault
+    → fault_of h.minor (head_fields h) ≡ fault
 fault_is w headers r h fault at is = rw (at.version, at.fields) at is
 
-pub by_rule_always : (bytes w tail : List ℕ) (headers : List HeaderSpan) (r : RequestSpans) (h : RequestHead) (refusal : Refusal) (only : Bool)
-    → Found bytes w tail headers r h → fault_of r.version (map (header_bytes w) (take r.headers headers)) ≡ Some refusal
-    → only ≡ is_head (span_bytes w r.method) → (more : List ℕ) → IsRefused (bytes ++ more) refusal only
+pub by_rule_always : (bytes w tail : List ℕ) (headers : List HeaderSpan) (r : RequestSpans)
+    (h : RequestHead) (refusal : Refusal) (only : Bool)
+    → Found bytes w tail headers r h → fault_of r.version
+    (map (header_bytes w) (take r.headers headers)) ≡ Some refusal
+    → only ≡ is_head (span_bytes w r.method) → (more : List ℕ)
+    → IsRefused (bytes ++ more) refusal only
 by_rule_always bytes w tail headers r h refusal only f fault head_only more =
     let same : is_head h.method ≡ only = sym (rw f.at.method at head_only) in
     let head = head_of (bytes ++ more) w (tail ++ more) headers r h (Found-append bytes w tail more headers r h f) in
@@ -127,8 +159,10 @@ by_rule_always bytes w tail headers r h refusal only f fault head_only more =
     (by_rule h (drop r.len (bytes ++ more)) refusal head (fault_is w headers r h _ f.at fault))
 
 -- until the body is whole there is a part of a message
-pub part_of_body : (bytes w tail : List ℕ) (size : ℕ) (headers : List HeaderSpan) (r : RequestSpans) (h : RequestHead)
-    → Found bytes w tail headers r h → fault_of r.version (map (header_bytes w) (take r.headers headers)) ≡ None
+pub part_of_body : (bytes w tail : List ℕ) (size : ℕ) (headers : List HeaderSpan)
+    (r : RequestSpans) (h : RequestHead)
+    → Found bytes w tail headers r h → fault_of r.version
+    (map (header_bytes w) (take r.headers headers)) ≡ None
     → size ≡ body_length (map (header_bytes w) (take r.headers headers))
     → (more : List ℕ) → length (bytes ++ more) < r.len + size → IsPart (bytes ++ more)
 part_of_body bytes w tail size headers r h f fault size_is more cut =
@@ -145,13 +179,15 @@ unfolding print_request
 head_not_empty h = simp length-append (omega arith)
 
 -- what a span of the window covers it covers in the stream
-span_in : (stream w tail : List ℕ) (s : Span) → stream ≡ w ++ tail → IsWithin (length w) s → span_bytes stream s ≡ span_bytes w s
+span_in : (stream w tail : List ℕ) (s : Span) → stream ≡ w ++ tail → IsWithin (length w) s
+    → span_bytes stream s ≡ span_bytes w s
 span_in stream w tail s split within =
     let low : s.start ≤ length w = omega arith in
     let high : s.end - s.start ≤ length (drop s.start w) = rw length-drop (omega arith) in
     rw (split, drop-append-le s.start w tail low, take-append-le (s.end - s.start) (drop s.start w) tail high)
 
-terminal_in : (stream w tail : List ℕ) (s : Option Span) → stream ≡ w ++ tail → IfSome s (IsWithin (length w))
+terminal_in : (stream w tail : List ℕ) (s : Option Span) → stream ≡ w ++ tail
+    → IfSome s (IsWithin (length w))
     → option_map (span_bytes stream) s ≡ option_map (span_bytes w) s
 terminal_in stream w tail None split within = refl
 terminal_in stream w tail (Some s) split within = ap Some (span_in stream w tail s split within)
@@ -172,10 +208,13 @@ length_part s a n fits =
     let room : n ≤ length (drop a s) = rw length-drop (omega arith) in
     rw (e, length-take-le n (drop a s) room)
 
-pub whole : (bytes w tail : List ℕ) (size : ℕ) (headers : List HeaderSpan) (r : RequestSpans) (h : RequestHead) (layout : Layout)
-    → Found bytes w tail headers r h → fault_of r.version (map (header_bytes w) (take r.headers headers)) ≡ None
+pub whole : (bytes w tail : List ℕ) (size : ℕ) (headers : List HeaderSpan) (r : RequestSpans)
+    (h : RequestHead) (layout : Layout)
+    → Found bytes w tail headers r h → fault_of r.version
+    (map (header_bytes w) (take r.headers headers)) ≡ None
     → size ≡ body_length (map (header_bytes w) (take r.headers headers))
-    → r.len + size ≤ length bytes → LaysOut w r (map (header_bytes w) (take r.headers headers)) size layout
+    → r.len + size ≤ length bytes → LaysOut w r
+    (map (header_bytes w) (take r.headers headers)) size layout
     → IsWhole bytes layout
 whole bytes w tail size headers r h layout f fault size_is fits laid =
     let len = length_part bytes r.len size fits in

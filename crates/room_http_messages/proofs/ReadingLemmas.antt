@@ -15,7 +15,8 @@ CountsBy-none : (known : Option ℕ) → CountsBy 0 known known
 CountsBy-none None = refl
 CountsBy-none (Some n) = omega arith
 
-CountsBy-trans : (j k m : ℕ) (a b c : Option ℕ) → CountsBy j a b → CountsBy k b c → m ≡ j + k → CountsBy m a c
+CountsBy-trans : (j k m : ℕ) (a b c : Option ℕ) → CountsBy j a b → CountsBy k b c → m ≡ j + k
+    → CountsBy m a c
 CountsBy-trans j k m None None c first second is = second
 CountsBy-trans j k m None (Some n) c first second is = absurd (cc)
 CountsBy-trans j k m (Some n) None None first second is = tt
@@ -24,19 +25,27 @@ CountsBy-trans j k m (Some n) (Some x) None first second is = tt
 CountsBy-trans j k m (Some n) (Some x) (Some y) first second is = omega arith
 
 -- the stream that bytes go from to the inbox stays the same
-same_stream : (old new : Option (List ℕ)) (before more after : List ℕ) → after ≡ before ++ more → Consumes old new more
+same_stream : (old new : Option (List ℕ)) (before more after : List ℕ) → after ≡ before ++ more
+    → Consumes old new more
     → Keeps (prepend_known before old) (prepend_known after new)
 same_stream None new before more after is taken = tt
 same_stream (Some old) None before more after is taken = taken
 same_stream (Some old) (Some new) before more after is taken = rw (is, taken) (append_assoc before more new)
 
 module _ {R : Type 0} (left : R → Option (List ℕ)) (reads : R → Option ℕ) where
-  pub Reads-none : (r : R) (bytes : List ℕ) (budget : ℕ) → Reads left reads r r bytes bytes budget budget
+  pub Reads-none : (r : R) (bytes : List ℕ) (budget : ℕ)
+      → Reads left reads r r bytes bytes budget budget
   Reads-none r bytes budget =
       let none : budget - budget ≡ 0 = omega arith in
-      record { same = Keeps-refl _; spent = omega arith; count = rw none (CountsBy-none (reads r)); room = omega arith }
+      record {
+        same = Keeps-refl _;
+        spent = omega arith;
+        count = rw none (CountsBy-none (reads r));
+        room = omega arith;
+      }
 
-  pub Reads-trans : {a b c : R} {x y z : List ℕ} {s t u : ℕ} → Reads left reads a b x y s t → Reads left reads b c y z t u → Reads left reads a c x z s u
+  pub Reads-trans : {a b c : R} {x y z : List ℕ} {s t u : ℕ} → Reads left reads a b x y s t
+      → Reads left reads b c y z t u → Reads left reads a c x z s u
   Reads-trans {s = s} {t = t} {u = u} first second = record {
     same = Keeps-trans _ _ _ first.same second.same;
     spent = omega (arith, first.spent, second.spent);
@@ -44,8 +53,10 @@ module _ {R : Type 0} (left : R → Option (List ℕ)) (reads : R → Option ℕ
     room = omega (arith, first.room, second.room);
   }
 
-  pub Reads-one : {E : Type 0} (failed ended : R → Bool) (old new : R) (before after : List ℕ) (n t u : ℕ)
-      → Fills {E = E} left reads failed ended old new before after (Ok n) → 0 < t → u ≡ t - 1 → Reads left reads old new before after t u
+  pub Reads-one : {E : Type 0} (failed ended : R → Bool) (old new : R) (before after : List ℕ)
+      (n t u : ℕ)
+      → Fills {E = E} left reads failed ended old new before after (Ok n) → 0 < t → u ≡ t - 1
+      → Reads left reads old new before after t u
   Reads-one failed ended old new before after n t u f some is =
       let one : t - u ≡ 1 = omega arith in
       record {
@@ -56,8 +67,10 @@ module _ {R : Type 0} (left : R → Option (List ℕ)) (reads : R → Option ℕ
       }
 
 -- a read that found the end ends the stream
-pub stops_at_end : (before bytes more : List ℕ) (budget : ℕ) (failed ended : Bool) (left : Option (List ℕ))
-    → length more ≡ 0 → bytes ≡ before ++ more → IsPart before → failed ≡ false → ended ≡ true → IsAtEnd left
+pub stops_at_end : (before bytes more : List ℕ) (budget : ℕ) (failed ended : Bool)
+    (left : Option (List ℕ))
+    → length more ≡ 0 → bytes ≡ before ++ more → IsPart before → failed ≡ false → ended ≡ true
+    → IsAtEnd left
     → StopsAs bytes budget failed ended left (end_of bytes)
 stops_at_end before bytes more budget failed ended left none is part sound found end =
     go bytes (is ∙ ap (λ t. before ++ t) (nil_from_length more none) ∙ append-nil before)
@@ -75,7 +88,8 @@ part-append count bytes after piece is part more short =
     rw same (part (piece ++ more) (rw same at short))
 
 -- bytes that follow leave a message at the front
-message-append : (bytes more : List ℕ) (m : WholeMessage) (rest : List ℕ) → HasMessage bytes m rest → HasMessage (bytes ++ more) m (rest ++ more)
+message-append : (bytes more : List ℕ) (m : WholeMessage) (rest : List ℕ) → HasMessage bytes m rest
+    → HasMessage (bytes ++ more) m (rest ++ more)
 message-append bytes more m rest x = record {
   begins = record {
     reads = (
@@ -103,8 +117,10 @@ says_first kept more budget failed ended (Err (Refused r head_only)) says = λ _
 says_first kept more budget failed ended (Err ReadFault) says = λ is. absurd (cc)
 says_first kept more budget failed ended (Err ReadsSpent) says = λ is. absurd (cc)
 
-pub first_found : (old new : Option (List ℕ)) (before after : List ℕ) (budget : ℕ) (failed ended : Bool) (result : Result Layout Unread)
-    → Keeps (prepend_known before old) (prepend_known after new) → SaysOf after budget failed ended new result
+pub first_found : (old new : Option (List ℕ)) (before after : List ℕ) (budget : ℕ)
+    (failed ended : Bool) (result : Result Layout Unread)
+    → Keeps (prepend_known before old) (prepend_known after new)
+    → SaysOf after budget failed ended new result
     → (stream : List ℕ) → prepend_known before old ≡ Some stream → FirstIs stream after result
 first_found None new before after budget failed ended result same says stream is = absurd (cc)
 first_found (Some old) None before after budget failed ended result same says stream is = absurd same

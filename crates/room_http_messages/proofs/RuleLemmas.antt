@@ -15,21 +15,25 @@ pub all_digits_more : (xs : List ℕ) (i : ℕ) → i < length xs → is_ascii_d
 all_digits_more xs i below digit before =
     rw (take_more xs i 0 below, list_all-append is_ascii_digit (take i xs) (get_or xs i 0 ∷ []), before, digit)
 
-pub bounded_more : (xs : List ℕ) (i n d m : ℕ) → i < length xs → n ≡ min (digits_value 10 (take i xs)) 1025
-    → d ≡ digit_value (get_or xs i 0) → m ≡ min (n * 10 + d) 1025 → m ≡ min (digits_value 10 (take (i + 1) xs)) 1025
+pub bounded_more : (xs : List ℕ) (i n d m : ℕ) → i < length xs
+    → n ≡ min (digits_value 10 (take i xs)) 1025
+    → d ≡ digit_value (get_or xs i 0) → m ≡ min (n * 10 + d) 1025
+    → m ≡ min (digits_value 10 (take (i + 1) xs)) 1025
 bounded_more xs i n d m below before digit next =
     let push : digits_value 10 (take (i + 1) xs) ≡ digits_value 10 (take i xs) * 10 + digit_value (get_or xs i 0) =
     rw (take_more xs i 0 below, digits_value_push 10 (take i xs) (get_or xs i 0)) in
     go (digits_value 10 (take i xs)) (digits_value 10 (take (i + 1) xs)) (digit_value (get_or xs i 0)) push before digit next
   where
-    go : (a b e : ℕ) → b ≡ a * 10 + e → n ≡ min a 1025 → d ≡ e → m ≡ min (n * 10 + d) 1025 → m ≡ min b 1025
+    go : (a b e : ℕ) → b ≡ a * 10 + e → n ≡ min a 1025 → d ≡ e → m ≡ min (n * 10 + d) 1025
+        → m ≡ min b 1025
     go a b e push before digit next = omega arith
 
 -- a bounded number is above the bound where the number is
 pub too_long : (n size : ℕ) → n ≡ min size 1025 → 1024 < n → nat_lt 1024 size ≡ true
 too_long n size is above = lt-ltb 1024 size (omega arith)
 
-pub not_too_long : (n size : ℕ) → n ≡ min size 1025 → n ≤ 1024 → (nat_lt 1024 size ≡ false) × (n ≡ size)
+pub not_too_long : (n size : ℕ) → n ≡ min size 1025 → n ≤ 1024
+    → (nat_lt 1024 size ≡ false) × (n ≡ size)
 not_too_long n size is below = (le-ltb 1024 size (omega arith), omega arith)
 
 pub digit_is : (c d : ℕ) → is_ascii_digit c ≡ true → d ≡ c - 48 → d ≡ digit_value c

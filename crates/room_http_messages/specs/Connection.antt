@@ -24,6 +24,7 @@ is_close_field field = is_named (codes "connection") field && has_option (codes 
 abbrev pub asks_for_close : Fields → Bool
 asks_for_close fields = list_any is_close_field fields
 
--- the connection closes after the answer: to a request of HTTP/1.0, and where the client asks for it
+-- the connection closes after the answer: to a request of HTTP/1.0, and where the client asks for
+-- it
 abbrev pub is_closing : ℕ → Fields → Bool
 is_closing minor fields = (minor == 0) || asks_for_close fields

@@ -6,12 +6,14 @@ use Rattle.room_http_messages.specs.Messages.{WholeMessage, HasMessage, EndsWith
 -- a stream begins with at most one message
 abbrev pub IsOneMessage : Type 0
 IsOneMessage =
-    (stream : List ℕ) (m n : WholeMessage) (rest left : List ℕ) → HasMessage stream m rest → HasMessage stream n left
+    (stream : List ℕ) (m n : WholeMessage) (rest left : List ℕ) → HasMessage stream m rest
+    → HasMessage stream n left
     → (m ≡ n) × (rest ≡ left)
 
 -- a stream that begins with a message doesn't end there
 abbrev pub IsNoEnd : Type 0
-IsNoEnd = (stream : List ℕ) (m : WholeMessage) (rest : List ℕ) (e : Unread) → HasMessage stream m rest → ¬ (EndsWith stream e)
+IsNoEnd = (stream : List ℕ) (m : WholeMessage) (rest : List ℕ) (e : Unread)
+    → HasMessage stream m rest → ¬ (EndsWith stream e)
 
 -- of two lists of messages that a stream splits into, the shorter begins the longer
 abbrev pub IsOneSplit : Type 0
@@ -24,4 +26,5 @@ IsOneSplit =
 abbrev pub IsOneReading : Type 0
 IsOneReading =
     (stream : List ℕ) (first second : List WholeMessage) (rest left : List ℕ) (e f : Unread)
-    → Splits stream first rest → EndsWith rest e → Splits stream second left → EndsWith left f → (first ≡ second) × (rest ≡ left)
+    → Splits stream first rest → EndsWith rest e → Splits stream second left → EndsWith left f
+    → (first ≡ second) × (rest ≡ left)

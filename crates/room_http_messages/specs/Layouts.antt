@@ -32,11 +32,13 @@ pub record LiesWithin (n : ℕ) (layout : Layout) : Type 0 where
   pub terminal : IfSome layout.terminal (IsWithin n)
 
 -- the layout of a head that the parser found, and of the size bytes after it
-pub record LaysOut (bytes : List ℕ) (head : RequestSpans) (fields : Fields) (size : ℕ) (layout : Layout) : Type 0 where
+pub record LaysOut (bytes : List ℕ) (head : RequestSpans) (fields : Fields) (size : ℕ)
+    (layout : Layout) : Type 0 where
   pub method : layout.method ≡ head.method
   pub target : layout.target ≡ head.path
   pub content : layout.body ≡ record { start = head.len; end = head.len + size }
-  pub terminal : option_map (span_bytes bytes) layout.terminal ≡ only_value (values_of (codes "x-terminal") fields)
+  pub terminal : option_map (span_bytes bytes) layout.terminal
+      ≡ only_value (values_of (codes "x-terminal") fields)
   pub terminal_in : IfSome layout.terminal (IsWithin (length bytes))
   pub head_only : layout.head_only ≡ is_head (span_bytes bytes head.method)
   pub closing : layout.closing ≡ is_closing head.version fields
@@ -53,7 +55,8 @@ pub record Shows (shown : Message) (m : WholeMessage) : Type 0 where
 -- the bytes begin with the message that has this layout
 abbrev pub IsWhole : List ℕ → Layout → Type 0
 IsWhole bytes layout =
-    (m : WholeMessage) × HasMessage bytes m (drop layout.body.end bytes) × IsLayout bytes layout m × LiesWithin (length bytes) layout
+    (m : WholeMessage) × HasMessage bytes m (drop layout.body.end bytes) × IsLayout bytes layout m
+    × LiesWithin (length bytes) layout
 
 -- What a look at the first bytes of a stream says of it, whatever bytes follow: the message at its
 -- front, the refusal, or the number of bytes below which it stays a part of a message.
@@ -61,4 +64,5 @@ abbrev pub LookIs : List ℕ → Look → Type 0
 LookIs bytes (Whole layout) = IsWhole bytes layout
 LookIs bytes (Refused r head_only) = (more : List ℕ) → IsRefused (bytes ++ more) r head_only
 LookIs bytes (Wants count) =
-    (length bytes < count) × (count ≤ INBOX_ROOM) × ((more : List ℕ) → length (bytes ++ more) < count → IsPart (bytes ++ more))
+    (length bytes < count) × (count ≤ INBOX_ROOM)
+    × ((more : List ℕ) → length (bytes ++ more) < count → IsPart (bytes ++ more))

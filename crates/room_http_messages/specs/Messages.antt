@@ -59,11 +59,13 @@ pub data IsRefused (stream : List ℕ) : Refusal → Bool → Type 0 where
   by_rule : (h : RequestHead) (rest : List ℕ) (r : Refusal) → HasHead stream h rest
       → fault_of h.minor (head_fields h) ≡ Some r → IsRefused stream r (is_head h.method)
 
--- the stream has less than a message: nothing, a part of a head, or a head that breaks no rule and a part of its body
+-- the stream has less than a message: nothing, a part of a head, or a head that breaks no rule and
+-- a part of its body
 pub data IsPart (stream : List ℕ) : Type 0 where
   in_head : length stream < HEAD_LIMIT → HasPartHead stream → IsPart stream
   in_body : (h : RequestHead) (part : List ℕ) → HasHead stream h part
-      → fault_of h.minor (head_fields h) ≡ None → length part < body_length (head_fields h) → IsPart stream
+      → fault_of h.minor (head_fields h) ≡ None → length part < body_length (head_fields h)
+      → IsPart stream
 
 -- the stream ends within a message
 abbrev pub IsCut : List ℕ → Type 0
@@ -73,7 +75,8 @@ IsCut stream = (0 < length stream) × IsPart stream
 abbrev pub Splits : List ℕ → List WholeMessage → List ℕ → Type 0
 Splits stream [] rest = stream ≡ rest
 Splits stream (m ∷ more) rest =
-    (next : List ℕ) × HasMessage stream m next × (closes m.head ≡ true → more ≡ []) × Splits next more rest
+    (next : List ℕ) × HasMessage stream m next × (closes m.head ≡ true → more ≡ [])
+    × Splits next more rest
 
 -- how a whole stream ends, by what follows its messages
 abbrev pub EndsWith : List ℕ → Unread → Type 0

@@ -18,14 +18,17 @@ CountsBy k (Some n) (Some m) = m ≡ n + k
 unfoldable pub known_count : ℕ → Option ℕ
 known_count n = if n == 4294967295 then None else Some n
 
--- one read of the stream to the back of the bytes that were kept: what it gave, and whether it failed or found the end
-pub record Fills {R E : Type 0} (left : R → Option (List ℕ)) (reads : R → Option ℕ) (has_failed has_ended : R → Bool)
+-- one read of the stream to the back of the bytes that were kept: what it gave, and whether it
+-- failed or found the end
+pub record Fills {R E : Type 0} (left : R → Option (List ℕ)) (reads : R → Option ℕ)
+    (has_failed has_ended : R → Bool)
     (old new : R) (before after : List ℕ) (result : Result ℕ E) : Type 0 where
   pub fits : length after ≤ INBOX_ROOM
   pub count : CountsBy 1 (reads old) (reads new)
   pub failed : has_failed new ≡ (has_failed old || is_err result)
   pub bytes : MatchResult result
-      (λ n. (more : List ℕ) × (length more ≡ n) × (after ≡ before ++ more) × Consumes (left old) (left new) more
+      (λ n. (more : List ℕ) × (length more ≡ n) × (after ≡ before ++ more)
+      × Consumes (left old) (left new) more
       × (n ≡ 0 → (has_ended new ≡ true) × IsAtEnd (left new)))
       (λ _. (after ≡ before) × Keeps (left old) (left new))
 
@@ -44,6 +47,8 @@ took_none (Ok n) size = (n == 0) && nat_lt 0 size
 took_none (Err e) size = true
 
 -- the writer holds all the bytes more, or the first of them, and then it failed
-pub record WritesAll {W E : Type 0} (held : W → Option (List ℕ)) (has_failed : W → Bool) (old new : W) (bytes : List ℕ) (result : Result (Unit {0}) E) : Type 0 where
+pub record WritesAll {W E : Type 0} (held : W → Option (List ℕ)) (has_failed : W → Bool)
+    (old new : W) (bytes : List ℕ) (result : Result (Unit {0}) E) : Type 0 where
   pub all : OnOk result (Appends (held old) (held new) bytes × (has_failed new ≡ false))
-  pub part : OnErr result ((front : List ℕ) × (rest : List ℕ) × (bytes ≡ front ++ rest) × Appends (held old) (held new) front × (has_failed new ≡ true))
+  pub part : OnErr result ((front : List ℕ) × (rest : List ℕ) × (bytes ≡ front ++ rest)
+      × Appends (held old) (held new) front × (has_failed new ≡ true))

@@ -16,7 +16,8 @@ use Rattle.room_types.specs.declared.codes.Button.TheVariants.{Position, Mobile,
 use Rattle.room_http_requests.specs.Fields.{button_of, buttons, fields_of, members_count, needs_at, needs_of}
 
 -- the members of a map are as many as its entries
-pub members_count-view : (entries : List (String Global × Value)) → members_count (members_view entries) ≡ length entries
+pub members_count-view : (entries : List (String Global × Value))
+    → members_count (members_view entries) ≡ length entries
 members_count-view [] = refl
 members_count-view (e ∷ es) = rw (members_count-view es) (omega arith)
 
@@ -30,13 +31,15 @@ not_three (a ∷ b ∷ c ∷ []) other = absurd (other refl)
 not_three (a ∷ b ∷ c ∷ d ∷ more) other = refl
 
 -- an array under a name that is not of three says no needs
-pub no_needs : (name : List ℕ) (fields value : Data) (values : List Value) → get name fields ≡ Some value → as_array value ≡ Some (items_view values)
+pub no_needs : (name : List ℕ) (fields value : Data) (values : List Value)
+    → get name fields ≡ Some value → as_array value ≡ Some (items_view values)
     → length values ≢ 3 → None ≡ needs_at name fields
 unfolding needs_at
 no_needs name fields value values under array other = rw (under, array) (sym (not_three values other))
 
 -- the fields of a body that is not empty are what is read
-pub fields_of-read : (body : List ℕ) (fields : Data) → (length body == 0) ≡ false → IsUtf8 body → read body ≡ Some fields → fields_of body ≡ Some fields
+pub fields_of-read : (body : List ℕ) (fields : Data) → (length body == 0) ≡ false → IsUtf8 body
+    → read body ≡ Some fields → fields_of body ≡ Some fields
 unfolding fields_of
 fields_of-read [] fields some utf8 was_read = cc
 fields_of-read (b ∷ bs) fields some utf8 was_read = rw (eq-eqb _ _ (utf8_valid_len-IsUtf8 (b ∷ bs) utf8)) was_read
@@ -53,26 +56,31 @@ own_name Return = refl
 own_name Home = refl
 
 -- what is found passes the test
-found_passes : {A : Type 0} (test : A → Bool) (x y : A) (rest : Option A) (passes : Bool) → test x ≡ passes → cond passes (Some x) rest ≡ Some y
+found_passes : {A : Type 0} (test : A → Bool) (x y : A) (rest : Option A) (passes : Bool)
+    → test x ≡ passes → cond passes (Some x) rest ≡ Some y
     → (rest ≡ Some y → test y ≡ true) → test y ≡ true
 found_passes test x y rest true is found later = let same : x ≡ y = cc in rw (← same) is
 found_passes test x y rest false is found later = later found
 
-find_passes : {A : Type 0} (test : A → Bool) (xs : List A) (y : A) → find test xs ≡ Some y → test y ≡ true
+find_passes : {A : Type 0} (test : A → Bool) (xs : List A) (y : A) → find test xs ≡ Some y
+    → test y ≡ true
 find_passes test [] y found = cc
 find_passes test (x ∷ xs) y found = found_passes test x y (find test xs) (test x) refl found (find_passes test xs y)
 
 -- the button found by a name has it
-has_name : (name : List ℕ) (button : Button) → button_of name ≡ Some button → button_name button ≡ name
+has_name : (name : List ℕ) (button : Button) → button_of name ≡ Some button
+    → button_name button ≡ name
 unfolding button_of
 has_name name button found = (bytes_eq-Decides (button_name button) name).0 (find_passes (λ b. bytes_eq (button_name b) name) buttons button found)
 
 -- where a name decodes to none, none is found by it
-none_is : (name : List ℕ) (found : Option Button) → button_of name ≡ found → Decodes button_name name None → None ≡ found
+none_is : (name : List ℕ) (found : Option Button) → button_of name ≡ found
+    → Decodes button_name name None → None ≡ found
 none_is name None is decodes = refl
 none_is name (Some button) is decodes = decodes.only_one button (has_name name button is)
 
 -- what a name decodes to is the button found by it
-pub decodes_to : (name : List ℕ) (decoded : Option Button) → Decodes button_name name decoded → decoded ≡ button_of name
+pub decodes_to : (name : List ℕ) (decoded : Option Button) → Decodes button_name name decoded
+    → decoded ≡ button_of name
 decodes_to name (Some button) decodes = sym (own_name button) ∙ ap button_of decodes.has_it
 decodes_to name None decodes = none_is name (button_of name) refl decodes

@@ -16,12 +16,14 @@ pub ascii_is_text : (bytes : List ℕ) → are_ascii bytes ≡ true → IsUtf8 b
 ascii_is_text = letters_text is_ascii (λ b. ltb-true b 128)
 
 -- a reading of bytes that are text does not fail
-pub reads_text : {A E : Type 0} (P : A → Type 0) (U : Type 0) (Q : E → Type 0) (r : Result A E) → MatchResult r P (λ e. ¬ U × Q e) → U → IsOk r
+pub reads_text : {A E : Type 0} (P : A → Type 0) (U : Type 0) (Q : E → Type 0) (r : Result A E)
+    → MatchResult r P (λ e. ¬ U × Q e) → U → IsOk r
 reads_text P U Q (Ok s) read u = refl
 reads_text P U Q (Err e) read u = absurd (read.0 u)
 
 -- what stands in for a text that is not there is seen as its text is
-pub unwrap_or-now : (text : Option (Bor (List ℕ))) (other : Bor (List ℕ)) → (unwrap_or text other).now ≡ unwrap_or (option_map (λ t. t.now) text) other.now
+pub unwrap_or-now : (text : Option (Bor (List ℕ))) (other : Bor (List ℕ))
+    → (unwrap_or text other).now ≡ unwrap_or (option_map (λ t. t.now) text) other.now
 unwrap_or-now None other = refl
 unwrap_or-now (Some t) other = refl
 
@@ -39,8 +41,10 @@ above : (least greatest n : ℕ) → greatest < n → within least greatest n �
 above least greatest n more = rw (lt-leb n greatest more, and-false) refl
 
 -- a numeral that is too large to be read is not in the range
-pub not_read : {E : Type 0} (parsed : Result ℕ E) (e : E) (least greatest : ℕ) (text : List ℕ) → greatest < 2 ^ 32
-    → is_numeral text ≡ true → parsed ≡ Err e → ParsesUnsigned 32 10 text parsed → None ≡ whole_of least greatest text
+pub not_read : {E : Type 0} (parsed : Result ℕ E) (e : E) (least greatest : ℕ) (text : List ℕ)
+    → greatest < 2 ^ 32
+    → is_numeral text ≡ true → parsed ≡ Err e → ParsesUnsigned 32 10 text parsed
+    → None ≡ whole_of least greatest text
 not_read parsed e least greatest text fits numeral failed gives =
     let digits : are_digits text ≡ true = (and_parts _ _ numeral).1 in
     let unread : ¬ ((0 < length text) × (digits_value 10 text < 2 ^ 32)) = rw failed at (parse_digits numerals 32 text parsed gives digits) in

@@ -25,27 +25,32 @@ use Rattle.room_http_requests.specs.declared.roles.Role.{Role}
 use Rattle.room_http_requests.specs.declared.roles.Role.TheVariants as role
 
 -- ---- what holds of all that may be found
-some_if : {A : Type 0} (P : A → Type 0) (test : Bool) (found : Option A) → IfSome found P → IfSome (if test then found else None) P
+some_if : {A : Type 0} (P : A → Type 0) (test : Bool) (found : Option A) → IfSome found P
+    → IfSome (if test then found else None) P
 some_if P true found holds = holds
 some_if P false found holds = tt
 
-some_exactly : {A : Type 0} (P : A → Type 0) (count : ℕ) (fields : Data) (found : Option A) → IfSome found P → IfSome (exactly count fields found) P
+some_exactly : {A : Type 0} (P : A → Type 0) (count : ℕ) (fields : Data) (found : Option A)
+    → IfSome found P → IfSome (exactly count fields found) P
 unfolding exactly
 some_exactly P count fields found holds = some_if P (has_members count fields) found holds
 
-some_then : {A B : Type 0} (P : B → Type 0) (Q : A → Type 0) (found : Option A) (next : A → Option B) → IfSome found Q
+some_then : {A B : Type 0} (P : B → Type 0) (Q : A → Type 0) (found : Option A)
+    (next : A → Option B) → IfSome found Q
     → ((x : A) → Q x → IfSome (next x) P) → IfSome (and_then found next) P
 unfolding and_then
 some_then P Q None next holds later = tt
 some_then P Q (Some x) next holds later = later x holds
 
 -- where nothing is known of what is found first
-some_next : {A B : Type 0} (P : B → Type 0) (found : Option A) (next : A → Option B) → ((x : A) → IfSome (next x) P) → IfSome (and_then found next) P
+some_next : {A B : Type 0} (P : B → Type 0) (found : Option A) (next : A → Option B)
+    → ((x : A) → IfSome (next x) P) → IfSome (and_then found next) P
 unfolding and_then
 some_next P None next later = tt
 some_next P (Some x) next later = later x
 
-some_map : {A B : Type 0} (P : B → Type 0) (found : Option A) (f : A → B) → IfSome found (λ x. P (f x)) → IfSome (option_map f found) P
+some_map : {A B : Type 0} (P : B → Type 0) (found : Option A) (f : A → B)
+    → IfSome found (λ x. P (f x)) → IfSome (option_map f found) P
 some_map P None f holds = tt
 some_map P (Some x) f holds = holds
 
@@ -53,27 +58,32 @@ some_any : {A : Type 0} (P : A → Type 0) (found : Option A) → ((x : A) → P
 some_any P None all = tt
 some_any P (Some x) all = all x
 
-some_more : {A : Type 0} (P Q : A → Type 0) (found : Option A) → IfSome found Q → ((x : A) → Q x → P x) → IfSome found P
+some_more : {A : Type 0} (P Q : A → Type 0) (found : Option A) → IfSome found Q
+    → ((x : A) → Q x → P x) → IfSome found P
 some_more P Q None holds more = tt
 some_more P Q (Some x) holds more = more x holds
 
 -- a number of a range is not below it
-if_least : (least n : ℕ) (test : Bool) → (test ≡ true → least ≤ n) → IfSome (if test then Some n else None) (λ m. least ≤ m)
+if_least : (least n : ℕ) (test : Bool) → (test ≡ true → least ≤ n)
+    → IfSome (if test then Some n else None) (λ m. least ≤ m)
 if_least least n true holds = holds refl
 if_least least n false holds = tt
 
 from_least : (least greatest n : ℕ) → IfSome (within least greatest n) (λ m. least ≤ m)
 from_least least greatest n = if_least least n _ (λ both. leb-true _ _ (and_parts _ _ both).0)
 
-in_range : (least greatest : ℕ) (found : Option ℕ) → IfSome (option_and_then (within least greatest) found) (λ n. least ≤ n)
+in_range : (least greatest : ℕ) (found : Option ℕ)
+    → IfSome (option_and_then (within least greatest) found) (λ n. least ≤ n)
 in_range least greatest None = tt
 in_range least greatest (Some n) = from_least least greatest n
 
-number_from : (least greatest : ℕ) (value : Option Data) → IfSome (option_and_then (number_in least greatest) value) (λ n. least ≤ n)
+number_from : (least greatest : ℕ) (value : Option Data)
+    → IfSome (option_and_then (number_in least greatest) value) (λ n. least ≤ n)
 number_from least greatest None = tt
 number_from least greatest (Some value) = in_range least greatest (option_and_then as_u64 (as_number value))
 
-numbered : (least greatest : ℕ) (name : List ℕ) (fields : Data) → IfSome (number_at least greatest name fields) (λ n. least ≤ n)
+numbered : (least greatest : ℕ) (name : List ℕ) (fields : Data)
+    → IfSome (number_at least greatest name fields) (λ n. least ≤ n)
 unfolding number_at
 numbered least greatest name fields = number_from least greatest (get name fields)
 
@@ -119,7 +129,8 @@ posted_is (target.SetPoint n) fields = some_exactly (IsAskOf (target.SetPoint n)
 posted_is target.Report fields = some_map (IsAskOf target.Report) (press fields) ask.Report (some_more (λ p. IsAskOf target.Report (ask.Report p)) (λ p. 1 ≤ p.number) _ (press_numbered fields) (λ p least. (refl, least)))
 posted_is other fields = tt
 
-fields_role : (t : Target) (fields : Option Data) → IfSome (option_and_then (posted t) fields) (IsAskOf t)
+fields_role : (t : Target) (fields : Option Data)
+    → IfSome (option_and_then (posted t) fields) (IsAskOf t)
 fields_role t None = tt
 fields_role t (Some fields) = posted_is t fields
 
@@ -137,11 +148,13 @@ request_is target.Order body = (refl, tt)
 request_is t body = some_map (IsRequestOf t) (option_and_then (posted t) (fields_of body)) request.Ask (fields_role t (fields_of body))
 
 -- what is asked is of its target's role
-pub asked_is : (t : Target) (body : List ℕ) (a : Ask) → request_by t body ≡ Some (request.Ask a) → IsAskOf t a
+pub asked_is : (t : Target) (body : List ℕ) (a : Ask) → request_by t body ≡ Some (request.Ask a)
+    → IsAskOf t a
 asked_is t body a asked = rw asked at (request_is t body)
 
 -- an ask of a role is for the known terminals of the role
-pub addressed : (of : Role) (a : Ask) (who : Who) (r : Room) → role_asks of a ≡ true → is_of of who ≡ true → is_for who a r ≡ is_known who r
+pub addressed : (of : Role) (a : Ask) (who : Who) (r : Room) → role_asks of a ≡ true
+    → is_of of who ≡ true → is_for who a r ≡ is_known who r
 addressed role.Desk a (Desk d) r asks may = rw asks refl
 addressed role.Position a (Position p) r asks may = asks
 addressed role.Crew a (Crew c) r asks may = rw asks refl

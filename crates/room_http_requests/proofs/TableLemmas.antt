@@ -12,7 +12,8 @@ abbrev pub are_free : Table → List Path → Bool
 are_free rows [] = true
 are_free rows (path ∷ more) = is_free_for rows path && are_free (with_path rows path) more
 
-pub free_at : (rows : Table) (paths : List Path) (i : ℕ) (d : Path) → are_free rows paths ≡ true → i < length paths
+pub free_at : (rows : Table) (paths : List Path) (i : ℕ) (d : Path) → are_free rows paths ≡ true
+    → i < length paths
     → is_free_for (fold with_path rows (take i paths)) (get_or paths i d) ≡ true
 free_at rows [] i d all within = absurd (omega arith)
 free_at rows (path ∷ more) zero d all within = (and_parts _ _ all).0

@@ -30,7 +30,14 @@ call_form fields = exactly 5 fields (
     and_then (number_at 1 3 (codes "class") fields) (λ class.
     and_then (needs_at (codes "needs") fields) (λ needs.
     and_then (note_at (codes "note") fields) (λ note.
-    Some (record { serial = serial; place = place; class = class; needs = needs; note = note })))))))
+    Some (record {
+      serial = serial;
+      place = place;
+      class = class;
+      needs = needs;
+      note =
+          note;
+    })))))))
 
 -- a vehicle for an incident
 unfoldable pub mobilise : ℕ → Data → Option Ask

@@ -1,4 +1,5 @@
--- Which targets name which paths, in examples: each path with its parameters, and targets that miss them narrowly.
+-- Which targets name which paths, in examples: each path with its parameters, and targets that miss
+-- them narrowly.
 use Rattle.std.specs.Prelude.{◌≡◌, ℕ, List, [], ◌∷◌, codes, map, Some, None, Result, Ok, Err}
 use Rattle.room_types.specs.declared.refusals.Allow.TheVariants.{GetHead, Post}
 use Rattle.room_types.specs.declared.refusals.Refusal.{Refusal}
@@ -147,7 +148,8 @@ requests =
 
 -- each of the targets names what stands beside it
 abbrev pub Name : List (List ℕ × Target) → Type 0
-Name examples = map (λ example. target_of example.0) examples ≡ map (λ example. Some example.1) examples
+Name examples =
+    map (λ example. target_of example.0) examples ≡ map (λ example. Some example.1) examples
 
 -- none of the targets names anything
 abbrev pub NameNothing : List (List ℕ) → Type 0
@@ -155,4 +157,5 @@ NameNothing targets = map target_of targets ≡ map (λ target. None) targets
 
 -- each request comes to what stands beside it
 abbrev pub AreRouted : List ((List ℕ × List ℕ) × Result Target Refusal) → Type 0
-AreRouted examples = map (λ example. routed example.0.0 example.0.1) examples ≡ map (λ example. example.1) examples
+AreRouted examples =
+    map (λ example. routed example.0.0 example.0.1) examples ≡ map (λ example. example.1) examples

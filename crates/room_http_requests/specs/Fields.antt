@@ -20,7 +20,8 @@ use Rattle.room_http_requests.specs.Parameters.{callsign_of, within}
 abbrev pub is_utf8 : List ℕ → Bool
 is_utf8 bytes = utf8_valid_len bytes == length bytes
 
--- the fields that a body has: an empty one has none, another is read as JSON, where of equal names the last stays
+-- the fields that a body has: an empty one has none, another is read as JSON, where of equal names
+-- the last stays
 unfoldable pub fields_of : List ℕ → Option Data
 fields_of [] = Some (object no_members)
 fields_of (b ∷ bs) = if is_utf8 (b ∷ bs) then read (b ∷ bs) else None
@@ -41,7 +42,8 @@ has_members count fields = are_so_many count (as_object fields)
 
 -- the whole number of a range that a value is, written without point or exponent
 abbrev pub number_in : ℕ → ℕ → Data → Option ℕ
-number_in least greatest value = option_and_then (within least greatest) (option_and_then as_u64 (as_number value))
+number_in least greatest value =
+    option_and_then (within least greatest) (option_and_then as_u64 (as_number value))
 
 -- the whole number of a range under a name
 unfoldable pub number_at : ℕ → ℕ → List ℕ → Data → Option ℕ
@@ -90,7 +92,9 @@ needs_of no_items = None
 needs_of (item a no_items) = None
 needs_of (item a (item b no_items)) = None
 needs_of (item a (item b (item c no_items))) =
-    option_and_then (λ x. option_and_then (λ y. option_and_then (λ z. some_needs x y z) (number_in 0 9 c)) (number_in 0 9 b)) (number_in 0 9 a)
+    option_and_then (λ x. option_and_then
+    (λ y. option_and_then (λ z. some_needs x y z) (number_in 0 9 c)) (number_in 0 9 b))
+    (number_in 0 9 a)
 needs_of (item a (item b (item c (item d more)))) = None
 
 -- the needs under a name
@@ -99,7 +103,8 @@ needs_at name fields = option_and_then needs_of (option_and_then as_array (get n
 
 -- the standby point that a value is, or none where it is null
 abbrev pub point_of : Data → Option (Option ℕ)
-point_of value = if is_some (as_null value) then Some None else option_map Some (number_in 1 99 value)
+point_of value =
+    if is_some (as_null value) then Some None else option_map Some (number_in 1 99 value)
 
 -- the standby point under a name
 unfoldable pub point_at : List ℕ → Data → Option (Option ℕ)

@@ -39,7 +39,8 @@ within least greatest n = if nat_le least n && nat_le n greatest then Some n els
 
 -- the number of a range that a text writes in decimal, without a leading zero
 abbrev pub whole_of : ℕ → ℕ → List ℕ → Option ℕ
-whole_of least greatest text = if is_numeral text then within least greatest (digits_value 10 text) else None
+whole_of least greatest text =
+    if is_numeral text then within least greatest (digits_value 10 text) else None
 
 -- the number of an incident or of a report
 abbrev pub number_of : List ℕ → Option ℕ

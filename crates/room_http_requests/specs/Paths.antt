@@ -1,4 +1,5 @@
--- The paths of the room: their patterns, the methods that they take, and how a target is looked up among them.
+-- The paths of the room: their patterns, the methods that they take, and how a target is looked up
+-- among them.
 use Rattle.std.specs.Prelude.{ℕ, List, [], codes, Bool, false, ◌||◌, bytes_eq, is_none, Result, Ok, Err, Option, option_map}
 use Rattle.std.specs.List.{fold}
 use Rattle.matchit.specs.Order.{placed}

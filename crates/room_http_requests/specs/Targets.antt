@@ -43,7 +43,8 @@ path_of Report = path.Report
 -- the report that a callsign and a number name
 abbrev pub cleared : List ℕ → List ℕ → Option Target
 cleared callsign number =
-    option_and_then (λ c. option_and_then (λ n. Some (Clear c n)) (number_of number)) (callsign_of callsign)
+    option_and_then (λ c. option_and_then (λ n. Some (Clear c n)) (number_of number))
+    (callsign_of callsign)
 
 -- what a target of a path names: its parameters are its third segment, and for a report the fourth
 abbrev pub named_by : Path → List ℕ → Option Target
@@ -77,12 +78,14 @@ named_by path.Report target = Some Report
 
 -- what a target names, if it names anything
 unfoldable pub target_of : List ℕ → Option Target
-target_of bytes = option_and_then (λ target. option_and_then (λ p. named_by p target) (path_at target)) (text_of bytes)
+target_of bytes = option_and_then
+    (λ target. option_and_then (λ p. named_by p target) (path_at target)) (text_of bytes)
 
 -- a target by a method: the path has to take the method
 abbrev pub by_method : List ℕ → Target → Result Target Refusal
 by_method method target =
-    if is_allowed (allow_of (path_of target)) method then Ok target else Err (WrongMethod (allow_of (path_of target)))
+    if is_allowed (allow_of (path_of target)) method then Ok target else Err
+    (WrongMethod (allow_of (path_of target)))
 
 abbrev pub known_by : List ℕ → Option Target → Result Target Refusal
 known_by method (Some target) = by_method method target

@@ -18,7 +18,8 @@ civil_date year month day h =
     ((omega (arith, signed_arith), omega (arith, signed_arith)), (h.month_least, h.month_greatest), (h.day_least, h.day_greatest))
 
 -- fewer days come before it than before the year 9999
-below_last_year : (year month day : ℕ) → IsDay year month day → day_count (pos year) month day < 7_304_485
+below_last_year : (year month day : ℕ) → IsDay year month day
+    → day_count (pos year) month day < 7_304_485
 below_last_year year month day h =
     let until = h.until in
     omega (
@@ -29,7 +30,8 @@ below_last_year year month day h =
     )
 
 -- and at least those of the year -9999
-above_first_year : (year month day : ℕ) → IsDay year month day → 730 < day_count (pos year) month day
+above_first_year : (year month day : ℕ) → IsDay year month day
+    → 730 < day_count (pos year) month day
 above_first_year year month day h =
     let since = h.since in
     omega (
@@ -42,7 +44,8 @@ above_first_year year month day h =
     )
 
 -- the day and the next one
-pub inner_days : (at : ℤ) (year month day : ℕ) → at ≡ days_from_civil (pos year) month day → IsDay year month day → IsInner at × IsInner (at +ℤ pos 1)
+pub inner_days : (at : ℤ) (year month day : ℕ) → at ≡ days_from_civil (pos year) month day
+    → IsDay year month day → IsInner at × IsInner (at +ℤ pos 1)
 inner_days at year month day e h =
     let count = days_from_civil-day_count (pos year) month day in
     let below = below_last_year year month day h in
@@ -52,16 +55,20 @@ inner_days at year month day e h =
 add-zero_z : (z : ℤ) → z +ℤ pos 0 ≡ z
 add-zero_z z = omega (arith, signed_arith)
 
-pub civil_nanos-midnight : (at : DateTime) (date : Date) → at.date ≡ date → time_nanos at.time ≡ 0 → civil_nanos at ≡ epoch_day date *ℤ pos 86_400_000_000_000
+pub civil_nanos-midnight : (at : DateTime) (date : Date) → at.date ≡ date → time_nanos at.time ≡ 0
+    → civil_nanos at ≡ epoch_day date *ℤ pos 86_400_000_000_000
 civil_nanos-midnight at date same zero_time =
     civil_nanos-parts at ∙ rw (zero_time, ap epoch_day same) (add-zero_z (epoch_day date *ℤ pos 86_400_000_000_000))
 
-pub midnight_is_instant : (at : DateTime) (offset : Offset) (day : ℤ) → civil_nanos at ≡ day *ℤ pos 86_400_000_000_000 → IsInner day → IsTimestampNanos (instant_of at offset)
+pub midnight_is_instant : (at : DateTime) (offset : Offset) (day : ℤ)
+    → civil_nanos at ≡ day *ℤ pos 86_400_000_000_000 → IsInner day
+    → IsTimestampNanos (instant_of at offset)
 midnight_is_instant at offset day is inner =
     let range = offset.in_range in
     (omega (arith, signed_arith), omega (arith, signed_arith))
 
-pub midnight_fits : (zone : TimeZone) (day second : ℤ) → IsMidnight zone day second → IsInner day → FitsSigned w64 second
+pub midnight_fits : (zone : TimeZone) (day second : ℤ) → IsMidnight zone day second → IsInner day
+    → FitsSigned w64 second
 midnight_fits zone day second (at, is, e) inner =
     let range = midnight_is_instant at (compatible_offset (ambiguous_at zone at)) day is inner in
     rw e (omega (arith, signed_arith, range))

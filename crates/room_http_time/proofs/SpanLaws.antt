@@ -7,7 +7,8 @@ use Rattle.jiff_zoned.proofs.SameLemmas.{same_datetime}
 use Rattle.room_http_time.specs.Days.{IsMidnight}
 use Rattle.room_http_time.specs.Laws.{IsOneSpan}
 
-midnight-one : (zone : TimeZone) (day second other : ℤ) → IsMidnight zone day second → IsMidnight zone day other → second ≡ other
+midnight-one : (zone : TimeZone) (day second other : ℤ) → IsMidnight zone day second
+    → IsMidnight zone day other → second ≡ other
 midnight-one zone day second other (at, nanos, is) (there, nanos_there, is_other) =
     is ∙ ap (λ (d : DateTime). int_div (picked_instant zone d) (pos 1_000_000_000)) (same_datetime at there (nanos ∙ sym nanos_there)) ∙ sym is_other
 

@@ -15,12 +15,14 @@ days_in year month =
 
 -- the numbers are a day of these years
 abbrev pub is_date : ℕ → ℕ → ℕ → Bool
-is_date year month day = (nat_le 1970 year && nat_le year 2099) && (nat_le 1 day && nat_le day (days_in year month))
+is_date year month day =
+    (nat_le 1970 year && nat_le year 2099) && (nat_le 1 day && nat_le day (days_in year month))
 
 -- the number that two digits write
 abbrev pub two_digits : ℕ → ℕ → Option ℕ
 two_digits tens ones =
-    if is_ascii_digit tens && is_ascii_digit ones then Some ((tens - 48) * 10 + (ones - 48)) else None
+    if is_ascii_digit tens && is_ascii_digit ones then Some
+    ((tens - 48) * 10 + (ones - 48)) else None
 
 -- the numbers of a day
 pub record Date : Type 0 where
@@ -37,11 +39,13 @@ date_of year month day =
 abbrev pub two_digits_at : ℕ → List ℕ → Option ℕ
 two_digits_at i text = two_digits (slice_index text i) (slice_index text (i + 1))
 
--- the day that a text writes as YYYY-MM-DD: four digits, two and two, with a hyphen between them (45 is its code)
+-- the day that a text writes as YYYY-MM-DD: four digits, two and two, with a hyphen between them
+-- (45 is its code)
 abbrev pub day_of : List ℕ → Option Date
 day_of text =
     if (length text == 10) && ((slice_index text 4 == 45) && (slice_index text 7 == 45)) then
-    option_and_then (λ century. option_and_then (λ year. option_and_then (λ month. option_and_then (λ day.
+    option_and_then (λ century. option_and_then
+    (λ year. option_and_then (λ month. option_and_then (λ day.
     date_of (century * 100 + year) month day)
     (two_digits_at 8 text)) (two_digits_at 5 text)) (two_digits_at 2 text)) (two_digits_at 0 text)
     else None

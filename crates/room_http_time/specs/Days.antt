@@ -24,7 +24,8 @@ pub record IsDay (year month day : ℕ) : Type 0 where
 -- from 1970-01-01.
 abbrev pub IsMidnight : TimeZone → ℤ → ℤ → Type 0
 IsMidnight zone day second =
-    (at : DateTime) × (civil_nanos at ≡ day *ℤ pos 86_400_000_000_000) × (second ≡ int_div (picked_instant zone at) (pos 1_000_000_000))
+    (at : DateTime) × (civil_nanos at ≡ day *ℤ pos 86_400_000_000_000)
+    × (second ≡ int_div (picked_instant zone at) (pos 1_000_000_000))
 
 -- a day goes from its midnight to that of the next day
 abbrev pub IsSpan : TimeZone → ℤ → ℤ × ℤ → Type 0

@@ -11,7 +11,14 @@ use Rattle.room_model.specs.Room.{Room}
 use Rattle.room_incident.proofs.MergeLaws.{larger_second}
 use Rattle.room_incident.specs.Taken.{Covers}
 
-pub linked_covers : (d : ℕ) (new : NewCall) (i : Incident) (v : Option Division) → is_active i.state ≡ true → i.division ≡ d → Covers new (record { call = call_row d i.number true new; incident = with_call new i; division = v })
+pub linked_covers : (d : ℕ) (new : NewCall) (i : Incident) (v : Option Division)
+    → is_active i.state ≡ true → i.division ≡ d
+    → Covers new (record {
+      call = call_row d i.number true new;
+      incident =
+          with_call new i;
+      division = v;
+    })
 linked_covers d new i v active owned = record {
   active = active;
   class = omega arith;
@@ -22,7 +29,13 @@ linked_covers d new i v active owned = record {
   division = sym owned;
 }
 
-pub opened_covers : (d n : ℕ) (new : NewCall) (v : Option Division) → Covers new (record { call = call_row d n false new; incident = new_incident d n new; division = v })
+pub opened_covers : (d n : ℕ) (new : NewCall) (v : Option Division)
+    → Covers new (record {
+      call = call_row d n false new;
+      incident =
+          new_incident d n new;
+      division = v;
+    })
 opened_covers d n new v = record {
   active = refl;
   class = omega arith;
@@ -33,5 +46,6 @@ opened_covers d n new v = record {
   division = refl;
 }
 
-pub taken_in : (d : ℕ) (new : NewCall) (r : Room) → kept_call new.position new.serial r ≡ None → division_of r.plan new.place ≡ Some d → take_call new r ≡ call_in d new r
+pub taken_in : (d : ℕ) (new : NewCall) (r : Room) → kept_call new.position new.serial r ≡ None
+    → division_of r.plan new.place ≡ Some d → take_call new r ≡ call_in d new r
 taken_in d new r absent there = ap (λ k. call_kept k new r) absent ∙ ap (λ o. call_somewhere o new r) there

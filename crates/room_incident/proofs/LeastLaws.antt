@@ -3,14 +3,16 @@ use Rattle.std.proofs.Common.{Bool, List, None, Option, Some, [], ap, cond, fals
 use Rattle.std.specs.Prelude.{filter}
 use Rattle.room_place.specs.Choice.{Among, least, least_from}
 
-pub into_filter : {X : Type 0} (p : X → Bool) (xs : List X) (y : X) → Among y xs → p y ≡ true → Among y (filter p xs)
+pub into_filter : {X : Type 0} (p : X → Bool) (xs : List X) (y : X) → Among y xs → p y ≡ true
+    → Among y (filter p xs)
 into_filter p [] y h e = absurd h
 into_filter {X} p (x ∷ xs) y h e = (elim (p x) as (λ (b : Bool). p x ≡ b → Among y (cond b (x ∷ filter p xs) (filter p xs))) [
   | true ↦ λ f. elim h [ inl k ↦ inl k | inr k ↦ inr (into_filter p xs y k e) ]
   | false ↦ λ f. elim h [ inl k ↦ let passes = ap p k in absurd (cc) | inr k ↦ into_filter p xs y k e ]
 ]) refl
 
-module _ {X : Type 0} (lt : X → X → Bool) (turned : (x y : X) → lt x y ≡ true → lt y x ≡ false) (passed : (x y z : X) → lt y x ≡ false → lt z y ≡ false → lt z x ≡ false) where
+module _ {X : Type 0} (lt : X → X → Bool) (turned : (x y : X) → lt x y ≡ true → lt y x ≡ false)
+    (passed : (x y z : X) → lt y x ≡ false → lt z y ≡ false → lt z x ≡ false) where
   -- x is the old best or one of the list, and none of these is below it
   record IsFound (o : Option X) (ys : List X) (x : X) : Type 0 where
     from : (o ≡ Some x) ⊎ Among x ys
@@ -21,10 +23,13 @@ module _ {X : Type 0} (lt : X → X → Bool) (turned : (x y : X) → lt x y ≡
   itself true x e = sym e ∙ turned x x e
   itself false x e = refl
 
-  found_again : (o : Option X) (w y x : X) (ys : List X) → IsFound (Some w) ys x → (w ≡ y) ⊎ (o ≡ Some w) → lt y w ≡ false → ((z : X) → o ≡ Some z → lt z w ≡ false) → IsFound o (y ∷ ys) x
+  found_again : (o : Option X) (w y x : X) (ys : List X) → IsFound (Some w) ys x
+      → (w ≡ y) ⊎ (o ≡ Some w) → lt y w ≡ false → ((z : X) → o ≡ Some z → lt z w ≡ false)
+      → IsFound o (y ∷ ys) x
   found_again o w y x ys f chosen here before = record {
     from = elim f.from [
-      | inl g ↦ let same : w ≡ x = cc in elim chosen [ inl k ↦ inr (inl (sym same ∙ k)) | inr k ↦ inl (k ∙ ap Some same) ]
+      | inl g ↦ let same : w ≡ x = cc in elim chosen
+          [ inl k ↦ inr (inl (sym same ∙ k)) | inr k ↦ inl (k ∙ ap Some same) ]
       | inr g ↦ inr (inr g)
     ];
     old = λ z g. passed x w z (f.old w refl) (before z g);
@@ -50,7 +55,8 @@ module _ {X : Type 0} (lt : X → X → Bool) (turned : (x y : X) → lt x y ≡
   pub least_among : (ys : List X) (x : X) → least lt ys ≡ Some x → Among x ys
   least_among ys x e = elim (finds ys None x e).from [ inl g ↦ absurd (cc) | inr g ↦ g ]
 
-  pub least_below : (ys : List X) (x : X) → least lt ys ≡ Some x → (y : X) → Among y ys → lt y x ≡ false
+  pub least_below : (ys : List X) (x : X) → least lt ys ≡ Some x → (y : X) → Among y ys
+      → lt y x ≡ false
   least_below ys x e = (finds ys None x e).all
 
   -- only an empty list has none

@@ -21,7 +21,8 @@ puts_all : (m : ℕ) (cs : List Call) → map PutCall (map (moved_to m) cs) ≡ 
 puts_all m [] = refl
 puts_all m (c ∷ cs) = ap (λ (xs : List Change). moved_call m c ∷ xs) (puts_all m cs)
 
-pub puts_moved : (d n m : ℕ) (r : Room) (moved : List Call) → moved ≡ moved_calls d n m r.calls → map PutCall moved ≡ map (moved_call m) (calls_of d n r)
+pub puts_moved : (d n m : ℕ) (r : Room) (moved : List Call) → moved ≡ moved_calls d n m r.calls
+    → map PutCall moved ≡ map (moved_call m) (calls_of d n r)
 unfolding calls_of
 puts_moved d n m r moved e = ap (map PutCall) e ∙ puts_all m (filter (is_call_of d n) r.calls)
 
@@ -29,7 +30,8 @@ moved_among : (m : ℕ) (cs : List Call) (c : Call) → Among c (map (moved_to m
 moved_among m [] c h = absurd h
 moved_among m (x ∷ cs) c h = elim h [ inl e ↦ ap (λ (y : Call). y.incident) e | inr g ↦ moved_among m cs c g ]
 
-pub all_moved : (d n m : ℕ) (calls moved : List Call) → moved ≡ moved_calls d n m calls → (c : Call) → Among c moved → c.incident ≡ m
+pub all_moved : (d n m : ℕ) (calls moved : List Call) → moved ≡ moved_calls d n m calls
+    → (c : Call) → Among c moved → c.incident ≡ m
 all_moved d n m calls moved e c among = moved_among m (filter (is_call_of d n) calls) c (subst (Among c) e among)
 
 -- ---- no less than either
@@ -49,7 +51,9 @@ first_no_less n m = record { class = omega arith; needs = larger_first n.needs m
 second_no_less : (n m : Incident) → IsNoLess m (joined n m)
 second_no_less n m = record { class = omega arith; needs = larger_second n.needs m.needs; opened = omega arith }
 
-joined_so : (n m from : Incident) (calls : List Call) → ((c : Call) → Among c calls → c.incident ≡ m.number) → Joins n m (record { from = from; into = joined n m; calls = calls })
+joined_so : (n m from : Incident) (calls : List Call)
+    → ((c : Call) → Among c calls → c.incident ≡ m.number)
+    → Joins n m (record { from = from; into = joined n m; calls = calls })
 joined_so n m from calls all = record {
   source = first_no_less n m;
   target = second_no_less n m;
@@ -58,5 +62,7 @@ joined_so n m from calls all = record {
   calls = all;
 }
 
-pub joins_so : (n m from into : Incident) (calls : List Call) → into ≡ joined n m → ((c : Call) → Among c calls → c.incident ≡ m.number) → Joins n m (record { from = from; into = into; calls = calls })
+pub joins_so : (n m from into : Incident) (calls : List Call) → into ≡ joined n m
+    → ((c : Call) → Among c calls → c.incident ≡ m.number)
+    → Joins n m (record { from = from; into = into; calls = calls })
 joins_so n m from into calls e all = subst (λ (i : Incident). Joins n m (record { from = from; into = i; calls = calls })) (sym e) (joined_so n m from calls all)

@@ -19,17 +19,34 @@ use Rattle.room_model.specs.Room.{Room}
 use Rattle.room_incident.specs.Times.{is_opened_between, line_number}
 
 module _ (d : ℕ) (from to : ℤ) where
-  opened_are : (xs : List Incident) → list_all (owns_incident d) xs ≡ true → filter (λ i. i.division == d && is_opened_between from to i) xs ≡ filter (is_opened_between from to) xs
+  opened_are : (xs : List Incident) → list_all (owns_incident d) xs ≡ true
+      → filter (λ i. i.division == d && is_opened_between from to i) xs
+      ≡ filter (is_opened_between from to) xs
   opened_are [] h = refl
   opened_are (x ∷ xs) h =
       rw (left_true (x.division == d) _ h)
       (ap (λ ys. cond (is_opened_between from to x) (x ∷ ys) ys) (opened_are xs (right_true (x.division == d) _ h)))
 
-  pub opened_so : (r : Room) (xs : List Incident) → r.incidents ≡ xs → list_all (owns_incident d) xs ≡ true → filter (is_opened_between from to) xs ≡ incidents_opened d from to r
+  pub opened_so : (r : Room) (xs : List Incident) → r.incidents ≡ xs
+      → list_all (owns_incident d) xs ≡ true
+      → filter (is_opened_between from to) xs ≡ incidents_opened d from to r
   unfolding incidents_opened
   opened_so r xs same owned = sym (opened_are xs owned) ∙ ap (filter (λ i. i.division == d && is_opened_between from to i)) (sym same)
 
-  pub times_so : (r : Room) (xs : List Incident) → r.incidents ≡ xs → list_all (owns_incident d) xs ≡ true → (f t : ℤ) (lines : List TimesLine) (activated within : ℕ) → f ≡ from → t ≡ to → lines ≡ map times_line (filter (is_opened_between f t) xs) → activated ≡ length (filter (λ (l : TimesLine). is_some l.activation) lines) → within ≡ length (filter (λ (l : TimesLine). is_prompt l.activation) lines) → show (answer.Times (record { from = f; to = t; activated = activated; within = within; lines = lines })) ≡ show_times d from to r
+  pub times_so : (r : Room) (xs : List Incident) → r.incidents ≡ xs
+      → list_all (owns_incident d) xs ≡ true
+      → (f t : ℤ) (lines : List TimesLine) (activated within : ℕ) → f ≡ from → t ≡ to
+      → lines ≡ map times_line (filter (is_opened_between f t) xs)
+      → activated ≡ length (filter (λ (l : TimesLine). is_some l.activation) lines)
+      → within ≡ length (filter (λ (l : TimesLine). is_prompt l.activation) lines)
+      → show (answer.Times (record {
+        from = f;
+        to = t;
+        activated = activated;
+        within =
+            within;
+        lines = lines;
+      })) ≡ show_times d from to r
   unfolding show_times
   times_so r xs same owned f t lines activated within from_is to_is listed counted_all counted_prompt =
       let all : lines ≡ map times_line (incidents_opened d from to r) =
@@ -48,7 +65,9 @@ pair_less d n m e = ranked n m Less (sym (number_less d n m e))
 
 module _ (d : ℕ) where
   -- each is at least as far above the first as its place in the list
-  climbs_from : (y : Incident) (ys : List Incident) → list_all (owns_incident d) (y ∷ ys) ≡ true → IsKeyed pair_cmp incident_key (y ∷ ys) → (i : ℕ) (x : Incident) → i < length (y ∷ ys) → x ≡ get_or (y ∷ ys) i x → y.number + i ≤ x.number
+  climbs_from : (y : Incident) (ys : List Incident) → list_all (owns_incident d) (y ∷ ys) ≡ true
+      → IsKeyed pair_cmp incident_key (y ∷ ys) → (i : ℕ) (x : Incident) → i < length (y ∷ ys)
+      → x ≡ get_or (y ∷ ys) i x → y.number + i ≤ x.number
   climbs_from y ys owned keyed zero x lt e = let same = ap (λ (z : Incident). z.number) e in omega arith
   climbs_from y [] owned keyed (suc i) x lt e = absurd (omega (arith, lt))
   climbs_from y (z ∷ zs) owned keyed (suc i) x lt e =
@@ -62,13 +81,17 @@ module _ (d : ℕ) where
       let first : y.number < z.number = pair_less d y.number z.number below in
       omega (arith, next, first)
 
-  pub climbs : (xs : List Incident) → list_all (owns_incident d) xs ≡ true → IsKeyed pair_cmp incident_key xs → (i : ℕ) (x : Incident) → i < length xs → x ≡ get_or xs i x → i ≤ x.number
+  pub climbs : (xs : List Incident) → list_all (owns_incident d) xs ≡ true
+      → IsKeyed pair_cmp incident_key xs → (i : ℕ) (x : Incident) → i < length xs
+      → x ≡ get_or xs i x → i ≤ x.number
   climbs [] owned keyed i x lt e = absurd (omega (arith, lt))
   climbs (y ∷ ys) owned keyed i x lt e = omega (arith, climbs_from y ys owned keyed i x lt e)
 
   -- the lines stand in the order of their incidents
   module _ (p : Incident → Bool) where
-    lines_below : (n : ℕ) (zs : List Incident) → list_all (owns_incident d) zs ≡ true → IsBelowAll pair_cmp incident_key (d, n) zs → IsBelowAll nat_cmp line_number n (map times_line (filter p zs))
+    lines_below : (n : ℕ) (zs : List Incident) → list_all (owns_incident d) zs ≡ true
+        → IsBelowAll pair_cmp incident_key (d, n) zs
+        → IsBelowAll nat_cmp line_number n (map times_line (filter p zs))
     lines_below n [] owned h = tt
     lines_below n (z ∷ zs) owned h =
         let z_is : z.division ≡ d = eqb-true _ _ (left_true (z.division == d) _ owned) in
@@ -79,7 +102,9 @@ module _ (d : ℕ) where
           | false ↦ rest
         ]
 
-    pub lines_rise : (xs : List Incident) → list_all (owns_incident d) xs ≡ true → IsKeyed pair_cmp incident_key xs → IsKeyed nat_cmp line_number (map times_line (filter p xs))
+    pub lines_rise : (xs : List Incident) → list_all (owns_incident d) xs ≡ true
+        → IsKeyed pair_cmp incident_key xs
+        → IsKeyed nat_cmp line_number (map times_line (filter p xs))
     lines_rise [] owned keyed = tt
     lines_rise (x ∷ xs) owned keyed =
         let x_is : x.division ≡ d = eqb-true _ _ (left_true (x.division == d) _ owned) in

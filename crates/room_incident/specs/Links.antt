@@ -10,7 +10,8 @@ use Rattle.room_model.specs.Queries.{is_candidate, is_nearer}
 
 -- a candidate, whichever division's it is
 abbrev pub is_open_near : Place → ℕ → Incident → Bool
-is_open_near p at i = is_active i.state && (nat_le (distance i.place p) 200 && nat_le (age at i.opened) 900)
+is_open_near p at i =
+    is_active i.state && (nat_le (distance i.place p) 200 && nat_le (age at i.opened) 900)
 
 -- a candidate of this number, and no candidate is nearer
 pub record IsNearest (d : ℕ) (p : Place) (at : ℕ) (xs : List Incident) (n : ℕ) : Type 0 where
@@ -18,7 +19,8 @@ pub record IsNearest (d : ℕ) (p : Place) (at : ℕ) (xs : List Incident) (n : 
   pub among : Among target xs
   pub candidate : is_candidate d p at target ≡ true
   pub number : target.number ≡ n
-  pub nearest : (i : Incident) → Among i xs → is_candidate d p at i ≡ true → is_nearer p i target ≡ false
+  pub nearest : (i : Incident) → Among i xs → is_candidate d p at i ≡ true
+      → is_nearer p i target ≡ false
 
 -- one of the candidates to which no other is preferred; none only where there is no candidate
 abbrev pub IsLinkTarget : ℕ → Place → ℕ → List Incident → Option ℕ → Type 0

@@ -18,10 +18,12 @@ put_division (Some v) = PutDivision v ∷ []
 
 -- these rows are put and no others, and the call's division, incident and link are told
 abbrev pub verdict_of_taken : Result Taken Refusal → Verdict
-verdict_of_taken (Ok t) = tell (Called t.call.division t.call.given t.call.linked) (put_division t.division ++ (PutIncident t.incident ∷ PutCall t.call ∷ []))
+verdict_of_taken (Ok t) = tell (Called t.call.division t.call.given t.call.linked)
+    (put_division t.division ++ (PutIncident t.incident ∷ PutCall t.call ∷ []))
 verdict_of_taken (Err e) = Err e
 
--- the call's incident is active, as urgent as the call at least, with as large needs, and opened no later
+-- the call's incident is active, as urgent as the call at least, with as large needs, and opened no
+-- later
 pub record Covers (new : NewCall) (t : Taken) : Type 0 where
   pub active : is_active t.incident.state ≡ true
   pub class : t.incident.class ≤ new.class

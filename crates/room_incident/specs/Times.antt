@@ -12,7 +12,8 @@ AreOneDivisions xs = (d : ℕ) × (list_all (owns_incident d) xs ≡ true)
 
 -- active or closed, and opened in the day, whichever division's it is
 abbrev pub is_opened_between : ℤ → ℤ → Incident → Bool
-is_opened_between from to i = not (is_merged i.state) && (int_le from (pos i.opened) && int_lt (pos i.opened) to)
+is_opened_between from to i =
+    not (is_merged i.state) && (int_le from (pos i.opened) && int_lt (pos i.opened) to)
 
 abbrev pub line_number : TimesLine → ℕ
 line_number l = l.number

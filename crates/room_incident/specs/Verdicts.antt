@@ -12,5 +12,7 @@ put_verdict (Ok i) = done (PutIncident i ∷ [])
 put_verdict (Err e) = Err e
 
 -- what is decided; or memory is refused, where the request is not
-abbrev pub DecidesAs : {X : Type 0} → (Result X Refusal → Verdict) → Result X Refusal → Verdict → Type 0
-DecidesAs told result decided = (told result ≡ decided) ⊎ ((result ≡ Err Memory) × (is_ok decided ≡ true))
+abbrev pub DecidesAs : {X : Type 0} → (Result X Refusal → Verdict) → Result X Refusal → Verdict
+    → Type 0
+DecidesAs told result decided =
+    (told result ≡ decided) ⊎ ((result ≡ Err Memory) × (is_ok decided ≡ true))

@@ -43,16 +43,19 @@ module _ (d h : ℕ) (r : Room) (w : IsWellFormed r) (apart : h == d ≡ false) 
   abbrev pub LeavesShare : Verdict → Type 0
   LeavesShare x = AllForeign d (own d r) (changes_of x)
 
-  pub refuse_leaves : (b : Bool) (e : Refusal) (x : Verdict) → LeavesShare x → LeavesShare (refuse_if b e x)
+  pub refuse_leaves : (b : Bool) (e : Refusal) (x : Verdict) → LeavesShare x
+      → LeavesShare (refuse_if b e x)
   unfolding refuse_if
   refuse_leaves true e x f = tt
   refuse_leaves false e x f = f
 
-  pub held_leaves : (o : Option Vehicle) (l : Option Loan) (f : Vehicle → Verdict) → ((v : Vehicle) → o ≡ Some v → LeavesShare (f v)) → LeavesShare (where_held o l f)
+  pub held_leaves : (o : Option Vehicle) (l : Option Loan) (f : Vehicle → Verdict)
+      → ((v : Vehicle) → o ≡ Some v → LeavesShare (f v)) → LeavesShare (where_held o l f)
   held_leaves None l f g = tt
   held_leaves (Some v) l f g = g v refl
 
-  pub active_leaves : (o : Option Incident) (f : Incident → Verdict) → ((i : Incident) → o ≡ Some i → LeavesShare (f i)) → LeavesShare (where_active o f)
+  pub active_leaves : (o : Option Incident) (f : Incident → Verdict)
+      → ((i : Incident) → o ≡ Some i → LeavesShare (f i)) → LeavesShare (where_active o f)
   active_leaves None f g = tt
   active_leaves (Some i) f g = refuse_leaves (not (is_active i.state)) refusal.IncidentNotOpen (f i) (g i refl)
 
@@ -69,7 +72,9 @@ module _ (d h : ℕ) (r : Room) (w : IsWellFormed r) (apart : h == d ≡ false) 
   unfolding close
   close_leaves n = active_leaves _ _ (λ i g. refuse_leaves _ _ _ (incident_foreign d h r w apart (record i { state = Closed }) (division_of_incident n i g), tt))
 
-  moved_calls : (m : ℕ) (cs : List Call) → ((c : Call) → Among c cs → Among c r.calls × (c.division ≡ h)) → AllForeign d (own d r) (map (moved_call m) cs)
+  moved_calls : (m : ℕ) (cs : List Call)
+      → ((c : Call) → Among c cs → Among c r.calls × (c.division ≡ h))
+      → AllForeign d (own d r) (map (moved_call m) cs)
   moved_calls m [] g = tt
   moved_calls m (c ∷ cs) g = (call_foreign d h r w apart c (g c (inl refl)).0 (g c (inl refl)).1 m, moved_calls m cs (λ x f. g x (inr f)))
 
@@ -77,7 +82,11 @@ module _ (d h : ℕ) (r : Room) (w : IsWellFormed r) (apart : h == d ≡ false) 
   unfolding calls_of
   calls_are n c g = let parts = among_filter (λ c. c.division == h && c.incident == n) r.calls c g in (parts.0, eqb-true c.division h (left_true _ _ parts.1))
 
-  merge_leaves_both : (n m : Option Incident) (attended : Bool) (cs : List Call) → ((i : Incident) → n ≡ Some i → i.division ≡ h) → ((i : Incident) → m ≡ Some i → i.division ≡ h) → ((c : Call) → Among c cs → Among c r.calls × (c.division ≡ h)) → LeavesShare (merge_of n m attended cs)
+  merge_leaves_both : (n m : Option Incident) (attended : Bool) (cs : List Call)
+      → ((i : Incident) → n ≡ Some i → i.division ≡ h)
+      → ((i : Incident) → m ≡ Some i → i.division ≡ h)
+      → ((c : Call) → Among c cs → Among c r.calls × (c.division ≡ h))
+      → LeavesShare (merge_of n m attended cs)
   merge_leaves_both None m attended cs f g k = tt
   merge_leaves_both (Some n) None attended cs f g k = tt
   merge_leaves_both (Some n) (Some m) attended cs f g k =
@@ -89,10 +98,12 @@ module _ (d h : ℕ) (r : Room) (w : IsWellFormed r) (apart : h == d ≡ false) 
   merge_leaves n m = merge_leaves_both _ _ _ _ (division_of_incident n) (division_of_incident m) (calls_are n)
 
   -- ---- vehicles
-  posted_leaves : (c : Callsign) (v : Vehicle) → IsHeld h c r v → (p : Option ℕ) → LeavesShare (posted v p)
+  posted_leaves : (c : Callsign) (v : Vehicle) → IsHeld h c r v → (p : Option ℕ)
+      → LeavesShare (posted v p)
   posted_leaves c v g p = (vehicle_foreign d h r w apart c v g (record v { post = p }) refl g.holder, tt)
 
-  stands_by_leaves : (c : Callsign) (v : Vehicle) → IsHeld h c r v → (p : Option ℕ) (has : ℕ → Bool) (at : ℕ) → LeavesShare (standby_at p has at v)
+  stands_by_leaves : (c : Callsign) (v : Vehicle) → IsHeld h c r v
+      → (p : Option ℕ) (has : ℕ → Bool) (at : ℕ) → LeavesShare (standby_at p has at v)
   stands_by_leaves c v g None has at = posted_leaves c v g None
   stands_by_leaves c v g (Some n) has at = refuse_leaves _ _ _ (refuse_leaves _ _ _ (posted_leaves c v g (Some n)))
 
@@ -100,7 +111,8 @@ module _ (d h : ℕ) (r : Room) (w : IsWellFormed r) (apart : h == d ≡ false) 
   unfolding standby
   standby_leaves c p at = held_leaves _ _ _ (λ v g. refuse_leaves _ _ _ (stands_by_leaves c v (held_is h c r v g) p _ at))
 
-  duty_leaves : (c : Callsign) (place : Place) (until at : ℕ) → LeavesShare (duty h c place until at r)
+  duty_leaves : (c : Callsign) (place : Place) (until at : ℕ)
+      → LeavesShare (duty h c place until at r)
   unfolding duty
   duty_leaves c place until at = held_leaves _ _ _ (λ v g. let is = held_is h c r v g in refuse_leaves _ _ _ (refuse_leaves _ _ _ (vehicle_foreign d h r w apart c v is (record v { status = Available; shift_end = until; place = place }) refl is.holder, tt)))
 
@@ -108,11 +120,14 @@ module _ (d h : ℕ) (r : Room) (w : IsWellFormed r) (apart : h == d ≡ false) 
   unfolding off
   off_leaves c = held_leaves _ _ _ (λ v g. let is = held_is h c r v g in refuse_leaves _ _ _ (refuse_leaves _ _ _ (vehicle_foreign d h r w apart c v is (record v { status = OffDuty; post = None }) refl is.holder, tt)))
 
-  turn_leaves : (c : Callsign) (at : ℕ) (o : Option Turn) → ((t : Turn) → o ≡ Some t → Among t r.turns × (t.division ≡ h)) → AllForeign d (own d r) (turn_stood_down at o)
+  turn_leaves : (c : Callsign) (at : ℕ) (o : Option Turn)
+      → ((t : Turn) → o ≡ Some t → Among t r.turns × (t.division ≡ h))
+      → AllForeign d (own d r) (turn_stood_down at o)
   turn_leaves c at None g = tt
   turn_leaves c at (Some t) g = (turn_foreign d h r w apart t (g t refl).0 (g t refl).1 (record t { ended = Some at; stood_down = true }) refl refl (g t refl).1, tt)
 
-  open_is : (c : Callsign) (t : Turn) → open_turn h c r ≡ Some t → Among t r.turns × (t.division ≡ h)
+  open_is : (c : Callsign) (t : Turn) → open_turn h c r ≡ Some t
+      → Among t r.turns × (t.division ≡ h)
   unfolding open_turn
   open_is c t g = let parts = among_filter (λ t. t.division == h && (same_callsign t.callsign c && is_none t.ended)) r.turns t (first_among _ t g) in (parts.0, eqb-true t.division h (left_true _ _ parts.1))
 
@@ -137,7 +152,8 @@ module _ (d h : ℕ) (r : Room) (w : IsWellFormed r) (apart : h == d ≡ false) 
       ))))))
 
   -- ---- reports
-  clear_leaves_found : (c : Callsign) (n : ℕ) (o : Option Report) → ((x : Report) → o ≡ Some x → report_of h c n r ≡ Some x) → LeavesShare (clear_found o)
+  clear_leaves_found : (c : Callsign) (n : ℕ) (o : Option Report)
+      → ((x : Report) → o ≡ Some x → report_of h c n r ≡ Some x) → LeavesShare (clear_found o)
   clear_leaves_found c n None g = tt
   clear_leaves_found c n (Some x) g = refuse_leaves _ _ _ (report_foreign d h r w apart c n x (g x refl) (record x { cleared = true }) refl refl refl, tt)
 

@@ -34,27 +34,33 @@ use Rattle.room_types.specs.declared.answers.Answer.TheVariants as answer
 use Rattle.room_types.specs.declared.refusals.Refusal.TheVariants as refusal
 
 -- what is decided of a vehicle, where it is there
-held_by : (o : Option Vehicle) (l : Option Loan) (f g : Vehicle → Verdict) → ((v : Vehicle) → o ≡ Some v → f v ≡ g v) → where_held o l f ≡ where_held o l g
+held_by : (o : Option Vehicle) (l : Option Loan) (f g : Vehicle → Verdict)
+    → ((v : Vehicle) → o ≡ Some v → f v ≡ g v) → where_held o l f ≡ where_held o l g
 held_by None l f g h = refl
 held_by (Some v) l f g h = h v refl
 
 -- a point is looked up only where one is named
-stands_alike : (p : Option ℕ) (has had : ℕ → Bool) (at : ℕ) (v : Vehicle) → ((n : ℕ) → p ≡ Some n → has n ≡ had n) → stands_by p has at v ≡ stands_by p had at v
+stands_alike : (p : Option ℕ) (has had : ℕ → Bool) (at : ℕ) (v : Vehicle)
+    → ((n : ℕ) → p ≡ Some n → has n ≡ had n) → stands_by p has at v ≡ stands_by p had at v
 stands_alike None has had at v h = refl
 stands_alike (Some n) has had at v h = ap (λ (b : Bool). refuse_if (not (is_free v.status)) refusal.WrongStatus (refuse_if (nat_le v.shift_end at) refusal.ShiftOver (refuse_if (not b) refusal.NoSuchPoint (posted v (Some n))))) (h n refl)
 
 module _ (d : ℕ) (s r : Room) where
   -- ---- vehicles
-  where_same : (c : Callsign) (f : Vehicle → Verdict) → SeesVehicle d c s r → where_held (held d c s) (lent d c s) f ≡ where_held (held d c r) (lent d c r) f
+  where_same : (c : Callsign) (f : Vehicle → Verdict) → SeesVehicle d c s r
+      → where_held (held d c s) (lent d c s) f ≡ where_held (held d c r) (lent d c r) f
   where_same c f sees = ap (λ v. where_held v (lent d c s) f) sees.same_held ∙ ap (λ l. where_held (held d c r) l f) sees.same_lent
 
-  pub vehicles_same : all_held d s ≡ all_held d r → ((c : Callsign) → assignment_of d c s ≡ assignment_of d c r) → show_vehicles d s ≡ show_vehicles d r
+  pub vehicles_same : all_held d s ≡ all_held d r
+      → ((c : Callsign) → assignment_of d c s ≡ assignment_of d c r)
+      → show_vehicles d s ≡ show_vehicles d r
   unfolding show_vehicles
   vehicles_same all assigned =
       ap (λ vs. show (answer.Vehicles (map (vehicle_line d s) vs))) all
       ∙ ap (λ (f : Vehicle → VehicleLine). show (answer.Vehicles (map f (all_held d r)))) (λ i v. record (vehicle_line d r v) { incident = option_map (λ a. a.incident) (assigned v.callsign i) })
 
-  pub mobilise_same : (n : ℕ) (c : Callsign) (at : ℕ) → SeesVehicle d c s r → SeesIncident d n s r → mobilise d n c at s ≡ mobilise d n c at r
+  pub mobilise_same : (n : ℕ) (c : Callsign) (at : ℕ) → SeesVehicle d c s r → SeesIncident d n s r
+      → mobilise d n c at s ≡ mobilise d n c at r
   unfolding mobilise
   mobilise_same n c at sees i =
       ap (λ x. where_active x (mobilise_held d (held d c s) (lent d c s) at (λ k. served d n k s))) i.same_incident
@@ -63,15 +69,20 @@ module _ (d : ℕ) (s r : Room) where
       ∙ ap (λ (x : Kind → ℕ). where_active (incident_of d n r) (mobilise_held d (held d c r) (lent d c r) at x)) (λ j k. i.same_served k j)
 
   -- the turn is looked up only where the vehicle is held
-  pub stand_down_same : (c : Callsign) (at : ℕ) → SeesVehicle d c s r → ((v : Vehicle) → held d c r ≡ Some v → open_turn d c s ≡ open_turn d c r) → stand_down d c at s ≡ stand_down d c at r
+  pub stand_down_same : (c : Callsign) (at : ℕ) → SeesVehicle d c s r
+      → ((v : Vehicle) → held d c r ≡ Some v → open_turn d c s ≡ open_turn d c r)
+      → stand_down d c at s ≡ stand_down d c at r
   unfolding stand_down
   stand_down_same c at sees t = where_same c _ sees ∙ held_by (held d c r) (lent d c r) _ _ (λ v e. ap (λ x. stand_down_held at x v) (t v e))
 
-  pub standby_same : (c : Callsign) (p : Option ℕ) (at : ℕ) → SeesVehicle d c s r → ((n : ℕ) → p ≡ Some n → point_of d n s ≡ point_of d n r) → standby d c p at s ≡ standby d c p at r
+  pub standby_same : (c : Callsign) (p : Option ℕ) (at : ℕ) → SeesVehicle d c s r
+      → ((n : ℕ) → p ≡ Some n → point_of d n s ≡ point_of d n r)
+      → standby d c p at s ≡ standby d c p at r
   unfolding standby
   standby_same c p at sees h = where_same c _ sees ∙ held_by (held d c r) (lent d c r) _ _ (λ v e. stands_alike p (λ n. is_some (point_of d n s)) (λ n. is_some (point_of d n r)) at v (λ n f. ap (λ o. is_some o) (h n f)))
 
-  pub duty_same : (c : Callsign) (place : Place) (until at : ℕ) → SeesVehicle d c s r → duty d c place until at s ≡ duty d c place until at r
+  pub duty_same : (c : Callsign) (place : Place) (until at : ℕ) → SeesVehicle d c s r
+      → duty d c place until at s ≡ duty d c place until at r
   unfolding duty
   duty_same c place until at sees = where_same c _ sees
 
@@ -80,19 +91,23 @@ module _ (d : ℕ) (s r : Room) where
   off_same c sees = where_same c _ sees
 
   -- ---- offers and loans
-  pub lend_same : (c : Callsign) (to until at : ℕ) → SeesVehicle d c s r → s.plan ≡ r.plan → lend d c to until at s ≡ lend d c to until at r
+  pub lend_same : (c : Callsign) (to until at : ℕ) → SeesVehicle d c s r → s.plan ≡ r.plan
+      → lend d c to until at s ≡ lend d c to until at r
   unfolding lend
   lend_same c to until at sees planned = where_same c _ sees ∙ ap (λ plan. where_held (held d c r) (lent d c r) (offered plan d to until at)) planned
 
-  pub withdraw_same : (c : Callsign) → SeesVehicle d c s r → offered_by d c s ≡ offered_by d c r → withdraw d c s ≡ withdraw d c r
+  pub withdraw_same : (c : Callsign) → SeesVehicle d c s r → offered_by d c s ≡ offered_by d c r
+      → withdraw d c s ≡ withdraw d c r
   unfolding withdraw
   withdraw_same c sees offered = where_same c _ sees ∙ ap (λ o. where_held (held d c r) (lent d c r) (withdrawn o)) offered
 
-  pub decline_same : (c : Callsign) → offered_to d c s ≡ offered_to d c r → decline d c s ≡ decline d c r
+  pub decline_same : (c : Callsign) → offered_to d c s ≡ offered_to d c r
+      → decline d c s ≡ decline d c r
   unfolding decline
   decline_same c offered = ap declined offered
 
-  pub accept_same : (c : Callsign) (at : ℕ) → offered_to d c s ≡ offered_to d c r → accept d c at s ≡ accept d c at r
+  pub accept_same : (c : Callsign) (at : ℕ) → offered_to d c s ≡ offered_to d c r
+      → accept d c at s ≡ accept d c at r
   unfolding accept
   accept_same c at offered = ap (λ o. accepted o at) offered
 
@@ -100,7 +115,8 @@ module _ (d : ℕ) (s r : Room) where
   unfolding recall
   recall_same c sees = ap (λ l. recall_lent l (held d c s)) sees.same_lent ∙ ap (recall_lent (lent d c r)) sees.same_held
 
-  pub give_back_same : (c : Callsign) → SeesVehicle d c s r → borrowed d c s ≡ borrowed d c r → give_back d c s ≡ give_back d c r
+  pub give_back_same : (c : Callsign) → SeesVehicle d c s r → borrowed d c s ≡ borrowed d c r
+      → give_back d c s ≡ give_back d c r
   unfolding give_back
   give_back_same c sees borrows = where_same c _ sees ∙ ap (λ l. where_held (held d c r) (lent d c r) (given_back d l)) borrows
 
@@ -113,20 +129,23 @@ module _ (d : ℕ) (s r : Room) where
   offers_same h = ap (λ os. show (answer.Offers os)) h
 
   -- ---- points
-  pub points_same : (at : ℕ) → points_of d s ≡ points_of d r → ((n : ℕ) → holders d n at s ≡ holders d n at r) → show_points d at s ≡ show_points d at r
+  pub points_same : (at : ℕ) → points_of d s ≡ points_of d r
+      → ((n : ℕ) → holders d n at s ≡ holders d n at r) → show_points d at s ≡ show_points d at r
   unfolding show_points
   points_same at all hold =
       ap (λ ps. show (answer.Points (map (point_line d at s) ps))) all
       ∙ ap (λ (f : Point → PointLine). show (answer.Points (map f (points_of d r)))) (λ i p. record (point_line d at r p) { held = length (hold p.number i) })
 
   -- ---- incidents
-  pub needs_same : (n : ℕ) (needs : Counts) → SeesIncident d n s r → change_needs d n needs s ≡ change_needs d n needs r
+  pub needs_same : (n : ℕ) (needs : Counts) → SeesIncident d n s r
+      → change_needs d n needs s ≡ change_needs d n needs r
   unfolding change_needs
   needs_same n needs i =
       ap (λ x. where_active x (needs_changed needs (λ k. served d n k s))) i.same_incident
       ∙ ap (λ (x : Kind → ℕ). where_active (incident_of d n r) (needs_changed needs x)) (λ j k. i.same_served k j)
 
-  pub merge_same : (n m : ℕ) → SeesIncident d n s r → calls_of d n s ≡ calls_of d n r → incident_of d m s ≡ incident_of d m r → merge d n m s ≡ merge d n m r
+  pub merge_same : (n m : ℕ) → SeesIncident d n s r → calls_of d n s ≡ calls_of d n r
+      → incident_of d m s ≡ incident_of d m r → merge d n m s ≡ merge d n m r
   unfolding merge
   merge_same n m i calls j =
       ap (λ x. merge_of x (incident_of d m s) (is_attended d n s) (calls_of d n s)) i.same_incident
@@ -139,41 +158,55 @@ module _ (d : ℕ) (s r : Room) where
   close_same n i = ap (λ x. where_active x (close_active (is_attended d n s))) i.same_incident ∙ ap (λ x. where_active (incident_of d n r) (close_active x)) i.same_attended
 
   -- an incident's line, from its calls and turns
-  line_same : (i : Incident) → SeesIncident d i.number s r → calls_of d i.number s ≡ calls_of d i.number r → incident_line d s i ≡ incident_line d r i
+  line_same : (i : Incident) → SeesIncident d i.number s r
+      → calls_of d i.number s ≡ calls_of d i.number r → incident_line d s i ≡ incident_line d r i
   line_same i h calls =
       ap (λ (cs : List Call). record (incident_line d s i) { calls = length cs }) calls
       ∙ ap (λ (f : Kind → ℕ). record (incident_line d r i) { lack = needs_by (λ k. need_of i.needs k - f k) }) (λ j k. h.same_served k j)
 
-  pub incidents_same : active_incidents d s ≡ active_incidents d r → ((i : Incident) → Among i (active_incidents d r) → SeesIncident d i.number s r) → ((i : Incident) → Among i (active_incidents d r) → calls_of d i.number s ≡ calls_of d i.number r) → show_incidents d s ≡ show_incidents d r
+  pub incidents_same : active_incidents d s ≡ active_incidents d r
+      → ((i : Incident) → Among i (active_incidents d r) → SeesIncident d i.number s r)
+      → ((i : Incident) → Among i (active_incidents d r)
+      → calls_of d i.number s ≡ calls_of d i.number r) → show_incidents d s ≡ show_incidents d r
   unfolding show_incidents
   incidents_same a h calls = ap (λ is. show (answer.Incidents (map (incident_line d s) is))) a ∙ ap (λ ls. show (answer.Incidents ls)) (map_among (incident_line d s) (incident_line d r) (active_incidents d r) (λ i m. line_same i (h i m) (calls i m)))
 
-  pub times_same : (from to : ℤ) → incidents_opened d from to s ≡ incidents_opened d from to r → show_times d from to s ≡ show_times d from to r
+  pub times_same : (from to : ℤ) → incidents_opened d from to s ≡ incidents_opened d from to r
+      → show_times d from to s ≡ show_times d from to r
   unfolding show_times
   times_same from to h = ap (λ is. show (answer.Times (times_of from to (map times_line is)))) h
 
   -- ---- proposals
-  breaks_same : (at : ℕ) (p : Option ℕ) → SeesCover d s r → breaks_post d at s p ≡ breaks_post d at r p
+  breaks_same : (at : ℕ) (p : Option ℕ) → SeesCover d s r
+      → breaks_post d at s p ≡ breaks_post d at r p
   breaks_same at None sees = refl
   breaks_same at (Some n) sees = ap (λ vs. is_short (length vs) (point_of d n s)) (sees.same_holders n at) ∙ ap (is_short (length (holders d n at r))) (sees.same_point n)
 
-  proposal_same : (i : Incident) (at : ℕ) (v : Vehicle) → SeesCover d s r → proposal_of d i at s v ≡ proposal_of d i at r v
+  proposal_same : (i : Incident) (at : ℕ) (v : Vehicle) → SeesCover d s r
+      → proposal_of d i at s v ≡ proposal_of d i at r v
   proposal_same i at v sees = ap (λ (b : Bool). record (proposal_of d i at r v) { breaks = is_eligible d at v && b }) (breaks_same at v.post sees)
 
-  candidates_same : (i : Incident) (k : Kind) (at : ℕ) → SeesCover d s r → eligible d k at s ≡ eligible d k at r → candidates d i k at s ≡ candidates d i k at r
+  candidates_same : (i : Incident) (k : Kind) (at : ℕ) → SeesCover d s r
+      → eligible d k at s ≡ eligible d k at r → candidates d i k at s ≡ candidates d i k at r
   unfolding candidates
   candidates_same i k at sees able = ap (λ vs. map (proposal_of d i at s) vs) able ∙ map_among (proposal_of d i at s) (proposal_of d i at r) (eligible d k at r) (λ v m. proposal_same i at v sees)
 
-  proposed_same : (i : Incident) (at : ℕ) (k : Kind) → SeesCover d s r → eligible d k at s ≡ eligible d k at r → served d i.number k s ≡ served d i.number k r → proposed d i at s k ≡ proposed d i at r k
+  proposed_same : (i : Incident) (at : ℕ) (k : Kind) → SeesCover d s r
+      → eligible d k at s ≡ eligible d k at r → served d i.number k s ≡ served d i.number k r
+      → proposed d i at s k ≡ proposed d i at r k
   proposed_same i at k sees able h = ap (λ (n : ℕ). chosen is_before (need_of i.needs k - n) None (candidates d i k at s)) h ∙ ap (chosen is_before (lacking d i r k) None) (candidates_same i k at sees able)
 
-  all_proposed_same : (i : Incident) (at : ℕ) → SeesCover d s r → ((k : Kind) → eligible d k at s ≡ eligible d k at r) → ((k : Kind) → served d i.number k s ≡ served d i.number k r) → all_proposed d i at s ≡ all_proposed d i at r
+  all_proposed_same : (i : Incident) (at : ℕ) → SeesCover d s r
+      → ((k : Kind) → eligible d k at s ≡ eligible d k at r)
+      → ((k : Kind) → served d i.number k s ≡ served d i.number k r)
+      → all_proposed d i at s ≡ all_proposed d i at r
   all_proposed_same i at sees able h =
       ap (λ ps. ps ++ (proposed d i at s Car ++ proposed d i at s Support)) (proposed_same i at Ambulance sees (able Ambulance) (h Ambulance))
       ∙ ap (λ ps. proposed d i at r Ambulance ++ (ps ++ proposed d i at s Support)) (proposed_same i at Car sees (able Car) (h Car))
       ∙ ap (λ ps. proposed d i at r Ambulance ++ (proposed d i at r Car ++ ps)) (proposed_same i at Support sees (able Support) (h Support))
 
-  active_same : (o : Option Incident) (f g : Incident → Verdict) → ((i : Incident) → o ≡ Some i → f i ≡ g i) → where_active o f ≡ where_active o g
+  active_same : (o : Option Incident) (f g : Incident → Verdict)
+      → ((i : Incident) → o ≡ Some i → f i ≡ g i) → where_active o f ≡ where_active o g
   active_same None f g h = refl
   active_same (Some i) f g h = ap (λ (x : Verdict). refuse_if (not (is_active i.state)) refusal.IncidentNotOpen x) (h i refl)
 
@@ -182,17 +215,20 @@ module _ (d : ℕ) (s r : Room) where
   unfolding incident_of
   named n i h = ap (λ (p : ℕ × ℕ). p.1) (sym (row_key pair_cmp incident_key pairs_total exact_pair r.incidents (d, n) i h))
 
-  pub propose_same : (n at : ℕ) → SeesIncident d n s r → SeesCover d s r → ((k : Kind) → eligible d k at s ≡ eligible d k at r) → propose d n at s ≡ propose d n at r
+  pub propose_same : (n at : ℕ) → SeesIncident d n s r → SeesCover d s r
+      → ((k : Kind) → eligible d k at s ≡ eligible d k at r) → propose d n at s ≡ propose d n at r
   unfolding propose
   propose_same n at h sees able =
       ap (λ x. where_active x (λ i. show (answer.Proposals (all_proposed d i at s)))) h.same_incident
       ∙ active_same (incident_of d n r) _ _ (λ i e. ap (λ ps. show (answer.Proposals ps)) (all_proposed_same i at sees able (λ k. subst (λ m. served d m k s ≡ served d m k r) (sym (named n i e)) (h.same_served k))))
 
   -- ---- queue
-  pub queue_same : (at : ℕ) → entries d at s ≡ entries d at r → show_queue d at s ≡ show_queue d at r
+  pub queue_same : (at : ℕ) → entries d at s ≡ entries d at r
+      → show_queue d at s ≡ show_queue d at r
   unfolding show_queue
   queue_same at h = ap (λ es. show (answer.Queue (ordered_from [] es))) h
 
-  pub clear_same : (c : Callsign) (n : ℕ) → report_of d c n s ≡ report_of d c n r → clear d c n s ≡ clear d c n r
+  pub clear_same : (c : Callsign) (n : ℕ) → report_of d c n s ≡ report_of d c n r
+      → clear d c n s ≡ clear d c n r
   unfolding clear
   clear_same c n h = ap clear_found h

@@ -44,7 +44,8 @@ use Rattle.room_model.specs.Working.{reads_calls, reads_division, reads_incident
 use Rattle.room_types.specs.declared.asks.Ask.TheVariants as ask
 
 -- the least of a list is one of it
-least_among : {X : Type 0} (lt : X → X → Bool) (xs : List X) (o : Option X) (x : X) → least_from lt o xs ≡ Some x → (o ≡ Some x) ⊎ Among x xs
+least_among : {X : Type 0} (lt : X → X → Bool) (xs : List X) (o : Option X) (x : X)
+    → least_from lt o xs ≡ Some x → (o ≡ Some x) ⊎ Among x xs
 least_among lt [] o x e = inl e
 least_among lt (y ∷ ys) None x e = inr (elim (least_among lt ys (Some y) x e) [ inl g ↦ let same : x ≡ y = cc in inl same | inr g ↦ inr g ])
 least_among {X} lt (y ∷ ys) (Some z) x e = (elim (lt y z) as (λ (b : Bool). least_from lt (cond b (Some y) (Some z)) ys ≡ Some x → (Some z ≡ Some x) ⊎ Among x (y ∷ ys)) [
@@ -53,7 +54,8 @@ least_among {X} lt (y ∷ ys) (Some z) x e = (elim (lt y z) as (λ (b : Bool). l
 ]) e
 
 -- ---- in another division
-module _ (d h : ℕ) (r : Room) (w : IsWellFormed r) (apart : h == d ≡ false) (new : NewCall) (fresh : kept_call new.position new.serial r ≡ None) where
+module _ (d h : ℕ) (r : Room) (w : IsWellFormed r) (apart : h == d ≡ false) (new : NewCall)
+    (fresh : kept_call new.position new.serial r ≡ None) where
   target_is : (i : Incident) → link_target h new.place new.at r ≡ Some i → i.division ≡ h
   unfolding link_target
   target_is i e = elim (least_among (is_nearer new.place) _ None i e) [
@@ -75,7 +77,8 @@ module _ (d h : ℕ) (r : Room) (w : IsWellFormed r) (apart : h == d ≡ false) 
   unfolding kept_call
   call_absent = none_own pair_cmp call_key pairs_total (owns_call d) r.calls (new.position, new.serial) w.order.calls (λ y f. let both : None ≡ Some y = sym fresh ∙ f in cc)
 
-  taken_leaves : (i : Option Incident) (v : Option Division) → link_target h new.place new.at r ≡ i → last_number h r ≡ v → LeavesShare d h r w apart (call_taken h new i v)
+  taken_leaves : (i : Option Incident) (v : Option Division) → link_target h new.place new.at r ≡ i
+      → last_number h r ≡ v → LeavesShare d h r w apart (call_taken h new i v)
   taken_leaves (Some i) v e f = (incident_foreign d h r w apart (with_call new i) (target_is i e), ((apart, call_absent), tt))
   taken_leaves None None e f = tt
   taken_leaves None (Some v) e f = refuse_leaves d h r w apart (nat_le number_limit v.last_incident) _ _ (
@@ -89,7 +92,8 @@ module _ (d h : ℕ) (r : Room) (w : IsWellFormed r) (apart : h == d ≡ false) 
 
 -- ---- by the rows that it reads
 module _ (d : ℕ) (r : Room) (order : IsInOrder r) (f : CallForm) (at : ℕ) where
-  near_reads : (i : Incident) → nat_le (distance i.place f.place) 200 && nat_le (age at i.opened) 900 ≡ true → reads_incident (ask.Call f) at i ≡ true
+  near_reads : (i : Incident) → nat_le (distance i.place f.place) 200
+      && nat_le (age at i.opened) 900 ≡ true → reads_incident (ask.Call f) at i ≡ true
   near_reads i e = both_true _ _ (right_true (nat_le (distance i.place f.place) 200) _ e) (near_around i.place f.place (left_true _ _ e))
 
   target_read : link_target d f.place at (working d (ask.Call f) at r) ≡ link_target d f.place at r
@@ -102,11 +106,13 @@ module _ (d : ℕ) (r : Room) (order : IsInOrder r) (f : CallForm) (at : ℕ) wh
       row_filter nat_cmp division_key nat_cmp_total (λ x. owns_division d x && reads_division (ask.Call f)) r.divisions d order.divisions
       ∙ keep_row nat_cmp division_key (λ x. owns_division d x && reads_division (ask.Call f)) r.divisions d (λ x h. both_true _ _ (eq-eqb x.number d (sym (exact_unsigned d x.number (is_equal _ h)))) refl)
 
-  kept_read : (p s : ℕ) → kept_call p s r ≡ None → kept_call p s (working d (ask.Call f) at r) ≡ None
+  kept_read : (p s : ℕ) → kept_call p s r ≡ None
+      → kept_call p s (working d (ask.Call f) at r) ≡ None
   unfolding kept_call
   kept_read p s e = row_filter pair_cmp call_key pairs_total _ r.calls (p, s) order.calls ∙ ap (keep (λ c. c.division == d && (reads_calls (ask.Call f) && reads_number d (ask.Call f) r c.incident))) e
 
-  call_in_read : (p : ℕ) → call_in d (new_call p f at) (working d (ask.Call f) at r) ≡ call_in d (new_call p f at) r
+  call_in_read : (p : ℕ) → call_in d (new_call p f at) (working d (ask.Call f) at r)
+      ≡ call_in d (new_call p f at) r
   unfolding call_in
   call_in_read p i = call_taken d (new_call p f at) (target_read i) (number_read i)
 
@@ -123,16 +129,21 @@ module _ (d : ℕ) (r : Room) (w : IsWellFormed r) (p : ℕ) (f : CallForm) (at 
   kept_own e = row_filter pair_cmp call_key pairs_total (owns_call d) r.calls (p, f.serial) w.order.calls ∙ ap (keep (owns_call d)) e
 
   -- a call that is not kept is decided in its division
-  new_taken : (s : Room) (h : ℕ) → kept_call p f.serial s ≡ None → division_of s.plan f.place ≡ Some h → take_call call s ≡ call_in h call s
+  new_taken : (s : Room) (h : ℕ) → kept_call p f.serial s ≡ None
+      → division_of s.plan f.place ≡ Some h → take_call call s ≡ call_in h call s
   new_taken s h k e = ap (λ q. call_kept q call s) k ∙ ap (λ q. call_somewhere q call s) e
 
-  pub call_by_share : kept_call p f.serial r ≡ None → division_of r.plan f.place ≡ Some d → take_call call (own d r) ≡ take_call call r
+  pub call_by_share : kept_call p f.serial r ≡ None → division_of r.plan f.place ≡ Some d
+      → take_call call (own d r) ≡ take_call call r
   call_by_share k e = new_taken (own d r) d (kept_own k) e ∙ call_own d r w.order call ∙ sym (new_taken r d k e)
 
-  pub call_by_working : kept_call p f.serial r ≡ None → division_of r.plan f.place ≡ Some d → take_call call (working d (ask.Call f) at r) ≡ take_call call r
+  pub call_by_working : kept_call p f.serial r ≡ None → division_of r.plan f.place ≡ Some d
+      → take_call call (working d (ask.Call f) at r) ≡ take_call call r
   call_by_working k e = new_taken (working d (ask.Call f) at r) d (kept_read d r w.order f at p f.serial k) e ∙ call_in_read d r w.order f at p ∙ sym (new_taken r d k e)
 
-  placed : (o : Option ℕ) → kept_call p f.serial r ≡ None → division_of r.plan f.place ≡ o → own d (apply r (changes_of (call_somewhere o call r))) ≡ share_by d (own d r) (cond (is_division_of d o) (Some (CallIn taken)) None)
+  placed : (o : Option ℕ) → kept_call p f.serial r ≡ None → division_of r.plan f.place ≡ o
+      → own d (apply r (changes_of (call_somewhere o call r)))
+      ≡ share_by d (own d r) (cond (is_division_of d o) (Some (CallIn taken)) None)
   placed None k e = refl
   placed (Some h) k e = (elim (h == d) as (λ (b : Bool). h == d ≡ b → own d (apply r (changes_of (call_in h call r))) ≡ share_by d (own d r) (cond b (Some (CallIn taken)) None)) [
     | true ↦ λ same. own_apply_own d r (changes_of (call_in h call r)) w.order (all_plain (changes_of (call_in h call r)) (call_in_all r IsPlain (plain_allowed r) h call k)) ∙ ap (λ x. own d (apply (own d r) (changes_of x))) (sym (call_by_share k (e ∙ ap Some (eqb-true h d same)) ∙ new_taken r h k e))
@@ -143,7 +154,9 @@ module _ (d : ℕ) (r : Room) (w : IsWellFormed r) (p : ℕ) (f : CallForm) (at 
   told_again : (k : Call) → own d (apply r (changes_of (call_kept (Some k) call r))) ≡ own d r
   told_again k = by_refuse (λ x. own d (apply r (changes_of x)) ≡ own d r) _ _ _ refl (λ e. refl)
 
-  call_event : (o : Option Call) → kept_call p f.serial r ≡ o → own d (apply r (changes_of (call_kept o call r))) ≡ share_by d (own d r) (cross_call d taken f o r)
+  call_event : (o : Option Call) → kept_call p f.serial r ≡ o
+      → own d (apply r (changes_of (call_kept o call r)))
+      ≡ share_by d (own d r) (cross_call d taken f o r)
   call_event None e = placed (division_of r.plan f.place) e refl
   call_event (Some k) e = told_again k
 
@@ -155,7 +168,8 @@ module _ (d : ℕ) (r : Room) (w : IsWellFormed r) (p : ℕ) (at : ℕ) where
   abbrev sent : Ask → Event
   sent a = record { who = Position p; ask = a; at = at }
 
-  pub position_event : (a : Ask) → own d (apply r (changes_of (position_asks p a at r))) ≡ share_by d (own d r) (cross_position d p (sent a) a r)
+  pub position_event : (a : Ask) → own d (apply r (changes_of (position_asks p a at r)))
+      ≡ share_by d (own d r) (cross_position d p (sent a) a r)
   position_event (ask.Call f) = call_event d r w p f at (kept_call p f.serial r) refl
   position_event a = refl
 

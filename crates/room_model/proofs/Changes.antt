@@ -1,4 +1,5 @@
--- What an event may change: a fact of each change that an event may make is a fact of all that it makes.
+-- What an event may change: a fact of each change that an event may make is a fact of all that it
+-- makes.
 use Rattle.std.proofs.Common.{ap, inl, inr, sym, ◌∙◌}
 use Rattle.std.specs.Prelude.{Bool, List, None, Option, Some, [], false, is_some, map, not, refl, true, ℕ, ◌&&◌, ◌++◌, ◌==◌, ◌∷◌, ◌≡◌}
 use Rattle.room_place.specs.Choice.{Among}
@@ -61,13 +62,15 @@ is_silent (PutReport x) = false
 is_silent (Settle c d) = false
 is_silent x = true
 
--- the fact holds of what may be done to a room: a call is new, or goes to another incident; a report is new, or is cleared; whatever is done to other rows
+-- the fact holds of what may be done to a room: a call is new, or goes to another incident; a
+-- report is new, or is cleared; whatever is done to other rows
 pub record Allows (r : Room) (Q : Change → Type 0) : Type 0 where
   pub silent : (x : Change) → is_silent x ≡ true → Q x
   pub new_call : (x : Call) → kept_call x.position x.serial r ≡ None → Q (PutCall x)
   pub moved : (x : Call) → Among x r.calls → (m : ℕ) → Q (PutCall (record x { incident = m }))
   pub new_report : (x : Report) → kept_report x.callsign x.number r ≡ None → Q (PutReport x)
-  pub cleared : (c : Callsign) (n : ℕ) (x : Report) → kept_report c n r ≡ Some x → Q (PutReport (record x { cleared = true }))
+  pub cleared : (c : Callsign) (n : ℕ) (x : Report) → kept_report c n r ≡ Some x
+      → Q (PutReport (record x { cleared = true }))
 
 -- and of vehicles that are settled, where an offer is answered
 abbrev pub AllowsSettling : (Change → Type 0) → Type 0
@@ -80,11 +83,13 @@ module _ (r : Room) (Q : Change → Type 0) (q : Allows r Q) where
   refuse : (b : Bool) (e : Refusal) (x : Verdict) → Holds x → Holds (refuse_if b e x)
   refuse b e x f = by_refuse Holds b e x tt (λ g. f)
 
-  by_vehicle : (o : Option Vehicle) (l : Option Loan) (f : Vehicle → Verdict) → ((v : Vehicle) → Holds (f v)) → Holds (where_held o l f)
+  by_vehicle : (o : Option Vehicle) (l : Option Loan) (f : Vehicle → Verdict)
+      → ((v : Vehicle) → Holds (f v)) → Holds (where_held o l f)
   by_vehicle None l f g = tt
   by_vehicle (Some v) l f g = g v
 
-  by_incident : (o : Option Incident) (f : Incident → Verdict) → ((i : Incident) → Holds (f i)) → Holds (where_active o f)
+  by_incident : (o : Option Incident) (f : Incident → Verdict) → ((i : Incident) → Holds (f i))
+      → Holds (where_active o f)
   by_incident None f g = tt
   by_incident (Some i) f g = refuse (not (is_active i.state)) refusal.IncidentNotOpen (f i) (g i)
 
@@ -97,7 +102,8 @@ module _ (r : Room) (Q : Change → Type 0) (q : Allows r Q) where
   stood_down at None = tt
   stood_down at (Some t) = (q.silent _ refl, tt)
 
-  moved_all : (m : ℕ) (cs : List Call) → ((x : Call) → Among x cs → Among x r.calls) → AllOf Q (map (moved_call m) cs)
+  moved_all : (m : ℕ) (cs : List Call) → ((x : Call) → Among x cs → Among x r.calls)
+      → AllOf Q (map (moved_call m) cs)
   moved_all m [] g = tt
   moved_all m (c ∷ cs) g = (q.moved c (g c (inl refl)) m, moved_all m cs (λ x a. g x (inr a)))
 
@@ -105,7 +111,8 @@ module _ (r : Room) (Q : Change → Type 0) (q : Allows r Q) where
   unfolding calls_of
   own_calls d n x a = (among_filter (λ c. c.division == d && c.incident == n) r.calls x a).0
 
-  merged : (n m : Option Incident) (b : Bool) (cs : List Call) → ((x : Call) → Among x cs → Among x r.calls) → Holds (merge_of n m b cs)
+  merged : (n m : Option Incident) (b : Bool) (cs : List Call)
+      → ((x : Call) → Among x cs → Among x r.calls) → Holds (merge_of n m b cs)
   merged None m b cs g = tt
   merged (Some n) None b cs g = tt
   merged (Some n) (Some m) b cs g = refuse _ _ _ (refuse _ _ _ (refuse _ _ _ (refuse _ _ _ (q.silent _ refl, (q.silent _ refl, moved_all m.number cs g)))))
@@ -127,16 +134,19 @@ module _ (r : Room) (Q : Change → Type 0) (q : Allows r Q) where
   recalled_all None (Some v) = tt
   recalled_all None None = tt
 
-  cleared_all : (d : ℕ) (c : Callsign) (n : ℕ) (o : Option Report) → report_of d c n r ≡ o → Holds (clear_found o)
+  cleared_all : (d : ℕ) (c : Callsign) (n : ℕ) (o : Option Report) → report_of d c n r ≡ o
+      → Holds (clear_found o)
   unfolding report_of kept_report
   cleared_all d c n None e = tt
   cleared_all d c n (Some x) e = refuse _ _ _ (q.cleared c n x (keep_some (λ x. x.division == d) (row_at numbered_cmp report_key r.reports (c, n)) x e).0, tt)
 
-  standby_all : (p : Option ℕ) (has : ℕ → Bool) (at : ℕ) (v : Vehicle) → Holds (standby_at p has at v)
+  standby_all : (p : Option ℕ) (has : ℕ → Bool) (at : ℕ) (v : Vehicle)
+      → Holds (standby_at p has at v)
   standby_all None has at v = (q.silent _ refl, tt)
   standby_all (Some n) has at v = refuse _ _ _ (refuse _ _ _ (q.silent _ refl, tt))
 
-  pub desk_all : (d : ℕ) (a : Ask) (at : ℕ) → (settles a ≡ true → AllowsSettling Q) → Holds (desk_asks d a at r)
+  pub desk_all : (d : ℕ) (a : Ask) (at : ℕ) → (settles a ≡ true → AllowsSettling Q)
+      → Holds (desk_asks d a at r)
   unfolding show_incidents show_vehicles show_queue show_points show_loans show_offers show_times propose mobilise change_needs merge close stand_down standby duty off lend withdraw decline accept recall give_back clear
   desk_all d (ask.Propose n) at f = by_incident (incident_of d n r) (λ i. show (answer.Proposals (all_proposed d i at r))) (λ i. tt)
   desk_all d (ask.Mobilise n c) at f = by_incident (incident_of d n r) (mobilise_held d (held d c r) (lent d c r) at (λ k. served d n k r)) (λ i. by_vehicle (held d c r) (lent d c r) (mobilised d i at (λ k. served d n k r)) (λ v. refuse _ _ _ (refuse _ _ _ (refuse _ _ _ (refuse _ _ _ (q.silent _ refl, (q.silent _ refl, (q.silent _ refl, (q.silent _ refl, tt)))))))))
@@ -158,20 +168,24 @@ module _ (r : Room) (Q : Change → Type 0) (q : Allows r Q) where
   desk_all d a at f = tt
 
   -- ---- a call
-  taken_all : (d : ℕ) (new : NewCall) (i : Option Incident) (v : Option Division) → kept_call new.position new.serial r ≡ None → Holds (call_taken d new i v)
+  taken_all : (d : ℕ) (new : NewCall) (i : Option Incident) (v : Option Division)
+      → kept_call new.position new.serial r ≡ None → Holds (call_taken d new i v)
   taken_all d new (Some i) v e = (q.silent _ refl, (q.new_call _ e, tt))
   taken_all d new None None e = tt
   taken_all d new None (Some v) e = refuse _ _ _ (q.silent _ refl, (q.silent _ refl, (q.new_call _ e, tt)))
 
-  pub call_in_all : (d : ℕ) (new : NewCall) → kept_call new.position new.serial r ≡ None → Holds (call_in d new r)
+  pub call_in_all : (d : ℕ) (new : NewCall) → kept_call new.position new.serial r ≡ None
+      → Holds (call_in d new r)
   unfolding call_in
   call_in_all d new e = taken_all d new (link_target d new.place new.at r) (last_number d r) e
 
-  somewhere_all : (o : Option ℕ) (new : NewCall) → kept_call new.position new.serial r ≡ None → Holds (call_somewhere o new r)
+  somewhere_all : (o : Option ℕ) (new : NewCall) → kept_call new.position new.serial r ≡ None
+      → Holds (call_somewhere o new r)
   somewhere_all None new e = tt
   somewhere_all (Some d) new e = call_in_all d new e
 
-  call_all : (new : NewCall) (o : Option Call) → kept_call new.position new.serial r ≡ o → Holds (call_kept o new r)
+  call_all : (new : NewCall) (o : Option Call) → kept_call new.position new.serial r ≡ o
+      → Holds (call_kept o new r)
   call_all new (Some k) e = refuse _ _ _ tt
   call_all new None e = somewhere_all (division_of r.plan new.place) new e
 
@@ -192,7 +206,9 @@ module _ (r : Room) (Q : Change → Type 0) (q : Allows r Q) where
   back_all c true = (q.silent _ refl, tt)
   back_all c false = tt
 
-  held_all : (h : ℕ) (c : Callsign) (v : Option Vehicle) → held h c r ≡ v → (t : Option Turn) (l : Option Loan) (p : Press) (at : ℕ) → kept_report c p.number r ≡ None → Holds (report_held v t l p at)
+  held_all : (h : ℕ) (c : Callsign) (v : Option Vehicle) → held h c r ≡ v
+      → (t : Option Turn) (l : Option Loan) (p : Press) (at : ℕ) → kept_report c p.number r ≡ None
+      → Holds (report_held v t l p at)
   held_all h c None e t l p at k = tt
   held_all h c (Some v) e t l p at k =
       let fresh : kept_report v.callsign p.number r ≡ None = ap (λ c. kept_report c p.number r) (sym (held_is h c r v e).key) ∙ k in
@@ -201,15 +217,18 @@ module _ (r : Room) (Q : Change → Type 0) (q : Allows r Q) where
       (λ o. (q.new_report _ fresh, (q.silent _ refl, tt)))
       (outcome_of v t p)
 
-  pub report_all : (h : ℕ) (c : Callsign) (p : Press) (at : ℕ) → kept_report c p.number r ≡ None → Holds (report_in h c p at r)
+  pub report_all : (h : ℕ) (c : Callsign) (p : Press) (at : ℕ) → kept_report c p.number r ≡ None
+      → Holds (report_in h c p at r)
   unfolding report_in
   report_all h c p at k = held_all h c (held h c r) refl (open_turn h c r) (borrowed h c r) p at k
 
-  placed_all : (v : Option Vehicle) (c : Callsign) (p : Press) (at : ℕ) → kept_report c p.number r ≡ None → Holds (report_somewhere v c p at r)
+  placed_all : (v : Option Vehicle) (c : Callsign) (p : Press) (at : ℕ)
+      → kept_report c p.number r ≡ None → Holds (report_somewhere v c p at r)
   placed_all None c p at k = tt
   placed_all (Some v) c p at k = report_all v.holder c p at k
 
-  kept_all : (c : Callsign) (p : Press) (at : ℕ) (o : Option Report) → kept_report c p.number r ≡ o → Holds (report_kept o c p at r)
+  kept_all : (c : Callsign) (p : Press) (at : ℕ) (o : Option Report) → kept_report c p.number r ≡ o
+      → Holds (report_kept o c p at r)
   kept_all c p at (Some k) e = refuse _ _ _ tt
   kept_all c p at None e = placed_all (vehicle_at c r) c p at e
 
@@ -222,7 +241,8 @@ module _ (r : Room) (Q : Change → Type 0) (q : Allows r Q) where
   crew_all c (ask.Report p) at = kept_all c p at (kept_report c p.number r) refl
   crew_all c a at = tt
 
-  who_all : AllowsSettling Q → (who : Who) (a : Ask) (at : ℕ) → Holds (decided (record { who = who; ask = a; at = at }) r)
+  who_all : AllowsSettling Q → (who : Who) (a : Ask) (at : ℕ)
+      → Holds (decided (record { who = who; ask = a; at = at }) r)
   who_all f (Desk d) a at = desk_all d a at (λ e. f)
   who_all f (Position p) a at = position_all p a at
   who_all f (Crew c) a at = crew_all c a at

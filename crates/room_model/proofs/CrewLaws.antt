@@ -50,15 +50,19 @@ module _ (c : Callsign) (s r : Room) (sees : SeesCrew c s r) where
   unfolding report_in
   in_same d p at i = report_held (held_same d i) (sees.same_turn d i) (borrowed_same d i) p at
 
-  somewhere_same : (o : Option Vehicle) (p : Press) (at : ℕ) → report_somewhere o c p at s ≡ report_somewhere o c p at r
+  somewhere_same : (o : Option Vehicle) (p : Press) (at : ℕ)
+      → report_somewhere o c p at s ≡ report_somewhere o c p at r
   somewhere_same None p at = refl
   somewhere_same (Some v) p at = in_same v.holder p at
 
-  kept_same : (o : Option Report) (p : Press) (at : ℕ) → report_kept o c p at s ≡ report_kept o c p at r
+  kept_same : (o : Option Report) (p : Press) (at : ℕ)
+      → report_kept o c p at s ≡ report_kept o c p at r
   kept_same None p at = ap (λ o. report_somewhere o c p at s) sees.same_vehicle ∙ somewhere_same (vehicle_at c r) p at
   kept_same (Some k) p at = refl
 
-  crew_same : (a : Ask) (at : ℕ) → ((p : Press) → a ≡ ask.Report p → kept_report c p.number s ≡ kept_report c p.number r) → crew_asks c a at s ≡ crew_asks c a at r
+  crew_same : (a : Ask) (at : ℕ) → ((p : Press) → a ≡ ask.Report p
+      → kept_report c p.number s ≡ kept_report c p.number r)
+      → crew_asks c a at s ≡ crew_asks c a at r
   crew_same ask.Order at h = λ i. order_of (sees.same_vehicle i) (sees.same_assignment i)
   crew_same (ask.Report p) at h = ap (λ o. report_kept o c p at s) (h p refl) ∙ kept_same (kept_report c p.number r) p at
   crew_same a at h = refl
@@ -82,7 +86,9 @@ module _ (c : Callsign) (r : Room) (order : IsInOrder r) where
   }
 
   -- a report that is looked up by its number passes a test of its callsign and number
-  report_kept_by : (p : Report → Bool) (n : ℕ) → ((x : Report) → same_callsign x.callsign c ≡ true → n ≡ x.number → p x ≡ true) → kept_report c n (beside (filter p r.reports)) ≡ kept_report c n r
+  report_kept_by : (p : Report → Bool) (n : ℕ)
+      → ((x : Report) → same_callsign x.callsign c ≡ true → n ≡ x.number → p x ≡ true)
+      → kept_report c n (beside (filter p r.reports)) ≡ kept_report c n r
   unfolding kept_report
   report_kept_by p n h = row_filter numbered_cmp report_key numbered_total p r.reports (c, n) order.reports ∙ keep_row numbered_cmp report_key p r.reports (c, n) (λ x e.
       let key : (c, n) ≡ report_key x = exact_numbered (c, n) (report_key x) (is_equal _ e) in
@@ -99,13 +105,15 @@ module _ (c : Callsign) (r : Room) (order : IsInOrder r) where
   pub crew_mine : (a : Ask) (at : ℕ) → crew_asks c a at (mine c r) ≡ crew_asks c a at r
   crew_mine a at = crew_same c (mine c r) r (sees_beside (mine c r).reports) a at (λ p e. report_kept_by (λ x. same_callsign x.callsign c) p.number (λ x k n. k))
 
-  pub order_in_hand : (n at : ℕ) → crew_asks c ask.Order at (in_hand c n r) ≡ crew_asks c ask.Order at r
+  pub order_in_hand : (n at : ℕ) → crew_asks c ask.Order at (in_hand c n r)
+      ≡ crew_asks c ask.Order at r
   order_in_hand n at = crew_same c (in_hand c n r) r (sees_beside (in_hand c n r).reports) ask.Order at (λ p e. absurd (no_report p e))
     where
       no_report : (p : Press) → ask.Order ≡ ask.Report p → ⊥
       no_report p e = cc
 
-  pub report_in_hand : (p : Press) (at : ℕ) → crew_asks c (ask.Report p) at (in_hand c p.number r) ≡ crew_asks c (ask.Report p) at r
+  pub report_in_hand : (p : Press) (at : ℕ)
+      → crew_asks c (ask.Report p) at (in_hand c p.number r) ≡ crew_asks c (ask.Report p) at r
   report_in_hand p at = crew_same c (in_hand c p.number r) r (sees_beside (in_hand c p.number r).reports) (ask.Report p) at (λ q e.
       let same : p ≡ q = cc in
       subst (λ z. kept_report c z.number (in_hand c p.number r) ≡ kept_report c z.number r) same
@@ -113,17 +121,20 @@ module _ (c : Callsign) (r : Room) (order : IsInOrder r) where
 
 -- ---- its vehicle's rows afterwards
 -- a put, and a drop, in the rows that pass
-module _ {R K : Type 0} (cmp : K → K → Ordering) (key : R → K) (total : IsTotalOrder cmp) (p : R → Bool) (xs : List R) (h : IsKeyed cmp key xs) where
+module _ {R K : Type 0} (cmp : K → K → Ordering) (key : R → K) (total : IsTotalOrder cmp)
+    (p : R → Bool) (xs : List R) (h : IsKeyed cmp key xs) where
   filter_same : filter p (filter p xs) ≡ filter p xs
   filter_same = filter_filter p p xs (λ x e. e)
 
-  put_within : (x : R) → filter p (put_row cmp key (filter p xs) x) ≡ filter p (put_row cmp key xs x)
+  put_within : (x : R) → filter p (put_row cmp key (filter p xs) x)
+      ≡ filter p (put_row cmp key xs x)
   put_within x =
       filter_put cmp key total p (filter p xs) x (keyed_filter cmp key total p xs h)
       ∙ ap (λ ys. cond (p x) (put_row cmp key ys x) (drop_row cmp key ys (key x))) filter_same
       ∙ sym (filter_put cmp key total p xs x h)
 
-  drop_within : (k : K) → filter p (drop_row cmp key (filter p xs) k) ≡ filter p (drop_row cmp key xs k)
+  drop_within : (k : K) → filter p (drop_row cmp key (filter p xs) k)
+      ≡ filter p (drop_row cmp key xs k)
   drop_within k =
       filter_drop cmp key total p (filter p xs) k (keyed_filter cmp key total p xs h)
       ∙ ap (λ ys. drop_row cmp key ys k) filter_same
@@ -159,7 +170,8 @@ module _ (c : Callsign) where
     reports = keyed_filter numbered_cmp report_key numbered_total _ r.reports h.reports;
   }
 
-  mine_one : (r : Room) (x : Change) → IsInOrder r → IsPlain x → mine c (apply_one (mine c r) x) ≡ mine c (apply_one r x)
+  mine_one : (r : Room) (x : Change) → IsInOrder r → IsPlain x
+      → mine c (apply_one (mine c r) x) ≡ mine c (apply_one r x)
   mine_one r (PutDivision x) h q = mine_twice r
   mine_one r (PutIncident x) h q = mine_twice r
   mine_one r (PutCall x) h q = mine_twice r
@@ -175,7 +187,8 @@ module _ (c : Callsign) where
   mine_one r (DropOffer k) h q = λ i. record (mine_twice r i) { offers = drop_within callsign_cmp offer_key callsigns_total (λ x. same_callsign x.callsign c) r.offers h.offers k i }
   mine_one r (Settle k e) h q = absurd q
 
-  mine_apply : (r : Room) (cs : List Change) → IsInOrder r → ArePlain cs → mine c (apply (mine c r) cs) ≡ mine c (apply r cs)
+  mine_apply : (r : Room) (cs : List Change) → IsInOrder r → ArePlain cs
+      → mine c (apply (mine c r) cs) ≡ mine c (apply r cs)
   mine_apply r [] h q = mine_twice r
   mine_apply r (x ∷ cs) h q =
       let s = mine c r in
@@ -183,12 +196,16 @@ module _ (c : Callsign) where
       ∙ ap (λ t. mine c (apply t cs)) (mine_one r x h q.0)
       ∙ mine_apply (apply_one r x) cs (in_order_one r x h) q.1
 
-  pub mine_after : (a : Ask) (at : ℕ) (r : Room) → IsInOrder r → mine c (room_after (by_crew c a at) r) ≡ mine c (room_after (by_crew c a at) (mine c r))
+  pub mine_after : (a : Ask) (at : ℕ) (r : Room) → IsInOrder r
+      → mine c (room_after (by_crew c a at) r) ≡ mine c (room_after (by_crew c a at) (mine c r))
   mine_after a at r h = sym (ap (λ x. mine c (apply (mine c r) (changes_of x))) (crew_mine c r h a at) ∙ mine_apply r (changes_of (crew_asks c a at r)) h (all_plain (changes_of (crew_asks c a at r)) (crew_all r IsPlain (plain_allowed r) c a at)))
 
   -- two vehicles with equal rows are answered alike, and have equal rows afterwards
-  pub mine_answer : (a : Ask) (at : ℕ) (r s : Room) → IsInOrder r → IsInOrder s → mine c r ≡ mine c s → crew_asks c a at r ≡ crew_asks c a at s
+  pub mine_answer : (a : Ask) (at : ℕ) (r s : Room) → IsInOrder r → IsInOrder s
+      → mine c r ≡ mine c s → crew_asks c a at r ≡ crew_asks c a at s
   mine_answer a at r s h g same = sym (crew_mine c r h a at) ∙ ap (crew_asks c a at) same ∙ crew_mine c s g a at
 
-  pub mine_equal : (a : Ask) (at : ℕ) (r s : Room) → IsInOrder r → IsInOrder s → mine c r ≡ mine c s → mine c (room_after (by_crew c a at) r) ≡ mine c (room_after (by_crew c a at) s)
+  pub mine_equal : (a : Ask) (at : ℕ) (r s : Room) → IsInOrder r → IsInOrder s
+      → mine c r ≡ mine c s → mine c (room_after (by_crew c a at) r)
+      ≡ mine c (room_after (by_crew c a at) s)
   mine_equal a at r s h g same = mine_after a at r h ∙ ap (λ t. mine c (room_after (by_crew c a at) t)) same ∙ sym (mine_after a at s g)

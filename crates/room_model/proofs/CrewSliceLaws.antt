@@ -24,18 +24,22 @@ use Rattle.room_model.specs.WellFormed as room
 same_self : (c k : Callsign) → c ≡ k → same_callsign k c ≡ true
 same_self c k e = subst (λ j. same_callsign j c ≡ true) e (ap is_eq (tied_itself callsigns_total c))
 
-mine_row : {X : Type 0} (key : X → Callsign) (xs : List X) (c : Callsign) → IsKeyed callsign_cmp key xs → row_at callsign_cmp key (filter (λ x. same_callsign (key x) c) xs) c ≡ row_at callsign_cmp key xs c
+mine_row : {X : Type 0} (key : X → Callsign) (xs : List X) (c : Callsign)
+    → IsKeyed callsign_cmp key xs → row_at callsign_cmp key
+    (filter (λ x. same_callsign (key x) c) xs) c ≡ row_at callsign_cmp key xs c
 mine_row key xs c in_order =
     row_filter callsign_cmp key callsigns_total (λ x. same_callsign (key x) c) xs c in_order
     ∙ keep_row callsign_cmp key (λ x. same_callsign (key x) c) xs c (λ x h. same_self c (key x) (exact_callsigns c (key x) (is_equal _ h)))
 
 module _ (c : Callsign) (n : ℕ) (r : Room) (in_order : IsInOrder r) where
-  mine_turn : (m : ℕ) → keep is_open (row_at numbered_cmp turn_key (mine c r).turns (c, m)) ≡ keep is_open (row_at numbered_cmp turn_key r.turns (c, m))
+  mine_turn : (m : ℕ) → keep is_open (row_at numbered_cmp turn_key (mine c r).turns (c, m))
+      ≡ keep is_open (row_at numbered_cmp turn_key r.turns (c, m))
   mine_turn m =
       ap (keep is_open) (row_filter numbered_cmp turn_key numbered_total (λ x. same_callsign x.callsign c && is_none x.ended) r.turns (c, m) in_order.turns)
       ∙ keep_keep_row numbered_cmp turn_key is_open (λ x. same_callsign x.callsign c && is_none x.ended) r.turns (c, m) (λ x h open_one. both_true _ _ (same_self c x.callsign (ap (λ (k : Callsign × ℕ). k.0) (exact_numbered (c, m) (turn_key x) (is_equal _ h)))) open_one)
 
-  mine_report : row_at numbered_cmp report_key (mine c r).reports (c, n) ≡ row_at numbered_cmp report_key r.reports (c, n)
+  mine_report : row_at numbered_cmp report_key (mine c r).reports (c, n)
+      ≡ row_at numbered_cmp report_key r.reports (c, n)
   mine_report =
       row_filter numbered_cmp report_key numbered_total (λ x. same_callsign x.callsign c) r.reports (c, n) in_order.reports
       ∙ keep_row numbered_cmp report_key (λ x. same_callsign x.callsign c) r.reports (c, n) (λ x h. same_self c x.callsign (ap (λ (k : Callsign × ℕ). k.0) (exact_numbered (c, n) (report_key x) (is_equal _ h))))
@@ -59,15 +63,18 @@ module _ (c : Callsign) (n : ℕ) (r : Room) (in_order : IsInOrder r) where
   )
 
 -- ---- and they agree
-module _ (c : Callsign) (n : ℕ) (r : Room) (x : CrewRows) (formed : IsWellFormed r) (mine : AreCrewRows c n r x) where
+module _ (c : Callsign) (n : ℕ) (r : Room) (x : CrewRows) (formed : IsWellFormed r)
+    (mine : AreCrewRows c n r x) where
   vehicle_named : x.vehicle.callsign ≡ c
   vehicle_named = subst (λ o. IfSome o (λ v. v.callsign ≡ c)) mine.vehicle (row_key callsign_cmp vehicle_key callsigns_total exact_callsigns r.vehicles c)
 
-  of_vehicle : {X : Type 0} (key : X → Callsign) (xs : List X) (o : Option X) → row_at callsign_cmp key xs c ≡ o → IfSome o (λ y. key y ≡ x.vehicle.callsign)
+  of_vehicle : {X : Type 0} (key : X → Callsign) (xs : List X) (o : Option X)
+      → row_at callsign_cmp key xs c ≡ o → IfSome o (λ y. key y ≡ x.vehicle.callsign)
   of_vehicle key xs o e = subst (λ p. IfSome p (λ y. key y ≡ x.vehicle.callsign)) e
       (if_then (λ y. key y ≡ c) (λ y. key y ≡ x.vehicle.callsign) (row_at callsign_cmp key xs c) (λ y f. f ∙ sym vehicle_named) (row_key callsign_cmp key callsigns_total exact_callsigns xs c))
 
-  turn_named : (m : ℕ) → IfSome (row_at numbered_cmp turn_key r.turns (c, m)) (λ t. turn_key t ≡ (c, m))
+  turn_named : (m : ℕ) → IfSome (row_at numbered_cmp turn_key r.turns (c, m))
+      (λ t. turn_key t ≡ (c, m))
   turn_named m = row_key numbered_cmp turn_key numbered_total exact_numbered r.turns (c, m)
 
   turn_open : IfSome x.turn (λ t. (t.callsign ≡ x.vehicle.callsign) × (t.ended ≡ None))

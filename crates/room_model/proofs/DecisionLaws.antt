@@ -12,13 +12,15 @@ use Rattle.room_model.specs.Decisions.{Verdict, refuse_if, tell}
 use Rattle.room_model.specs.Reports.{is_due, is_home, report_acts, report_made, report_row, status_after, with_report}
 use Rattle.room_types.specs.declared.answers.Answer.TheVariants as answer
 
-pub by_refuse : (P : Verdict → Type 0) (b : Bool) (e : Refusal) (x : Verdict) → P (Err e) → (b ≡ false → P x) → P (refuse_if b e x)
+pub by_refuse : (P : Verdict → Type 0) (b : Bool) (e : Refusal) (x : Verdict) → P (Err e)
+    → (b ≡ false → P x) → P (refuse_if b e x)
 unfolding refuse_if
 by_refuse P true e x f g = f
 by_refuse P false e x f g = g refl
 
 -- what holds of a report that acts, and of one that doesn't
-pub by_report : (P : Verdict → Type 0) (v : Vehicle) (t : Option Turn) (l : Option Loan) (p : Press) (at : ℕ) →
+pub by_report : (P : Verdict → Type 0) (v : Vehicle) (t : Option Turn) (l : Option Loan)
+    (p : Press) (at : ℕ) →
     ((o : Outcome) → P (tell (answer.Reported p.number o (status_after v.status p.button)) (report_acts v t l p at o (is_home p.button && is_due at l)))) →
     ((o : Outcome) → P (tell (answer.Reported p.number o v.status) (PutReport (report_row v p at o v.status) ∷ PutVehicle (with_report v p) ∷ []))) →
     (o : Outcome) → P (report_made v t l p at o)

@@ -36,9 +36,11 @@ record Stays (r : Room) (ts : List Terminal) (s : Room) (us : List Terminal) : T
   plan : s.plan ≡ r.plan
   fleet : (c : Callsign) (p : ℕ × Kind) → fleet_at c r ≡ Some p → fleet_at c s ≡ Some p
   terminal : (k : Token) (t : Terminal) → terminal_at k ts ≡ Some t → terminal_at k us ≡ Some t
-  fresh : (k : Token) (c : Callsign) → terminal_at k ts ≡ None → is_crews_terminal c (terminal_at k us) ≡ true → fleet_at c r ≡ None
+  fresh : (k : Token) (c : Callsign) → terminal_at k ts ≡ None
+      → is_crews_terminal c (terminal_at k us) ≡ true → fleet_at c r ≡ None
 
-none_before : (o p : Option (ℕ × Kind)) → ((x : ℕ × Kind) → o ≡ Some x → p ≡ Some x) → p ≡ None → o ≡ None
+none_before : (o p : Option (ℕ × Kind)) → ((x : ℕ × Kind) → o ≡ Some x → p ≡ Some x) → p ≡ None
+    → o ≡ None
 none_before None p f e = refl
 none_before (Some x) p f e = let g = f x refl in cc
 
@@ -50,8 +52,11 @@ stays_itself r ts = record {
   fresh = λ k c e f. absurd (let g : is_crews_terminal c (terminal_at k ts) ≡ false = ap (is_crews_terminal c) e in cc);
 }
 
-module _ (q r : Room) (ss ts : List Terminal) (s : Room) (us : List Terminal) (a : Stays q ss r ts) (b : Stays r ts s us) where
-  fresh_then : (k : Token) (c : Callsign) (o : Option Terminal) → terminal_at k ts ≡ o → terminal_at k ss ≡ None → is_crews_terminal c (terminal_at k us) ≡ true → fleet_at c q ≡ None
+module _ (q r : Room) (ss ts : List Terminal) (s : Room) (us : List Terminal) (a : Stays q ss r ts)
+    (b : Stays r ts s us) where
+  fresh_then : (k : Token) (c : Callsign) (o : Option Terminal) → terminal_at k ts ≡ o
+      → terminal_at k ss ≡ None → is_crews_terminal c (terminal_at k us) ≡ true
+      → fleet_at c q ≡ None
   fresh_then k c None e none f = none_before _ _ (a.fleet c) (b.fresh k c e f)
   fresh_then k c (Some t) e none f = a.fresh k c none (ap (is_crews_terminal c) (e ∙ sym (b.terminal k t e)) ∙ f)
 
@@ -90,12 +95,14 @@ module _ (r : Room) (ts : List Terminal) (x : FleetRow) where
   row_stays_so : Stays r ts (room_enrolled r ts x) (terminals_enrolled r ts x)
   row_stays_so = by_fate (fate_of r ts x) refl
 
-since_stays : (xs : List Reaching) (r : Room) (ts : List Terminal) → Stays r ts (since xs r ts).0 (since xs r ts).1
+since_stays : (xs : List Reaching) (r : Room) (ts : List Terminal)
+    → Stays r ts (since xs r ts).0 (since xs r ts).1
 since_stays [] r ts = stays_itself r ts
 since_stays (Sent e ∷ xs) r ts = stays_then r (room_after e r) ts ts _ _ (event_stays e r ts) (since_stays xs (room_after e r) ts)
 since_stays (Imported x ∷ xs) r ts = stays_then r (room_enrolled r ts x) ts (terminals_enrolled r ts x) _ _ (row_stays_so r ts x) (since_stays xs (room_enrolled r ts x) (terminals_enrolled r ts x))
 
-fleet_stays_so : (xs : List FleetRow) (r : Room) (ts : List Terminal) → Stays r ts (enrolled xs r ts).0 (enrolled xs r ts).1
+fleet_stays_so : (xs : List FleetRow) (r : Room) (ts : List Terminal)
+    → Stays r ts (enrolled xs r ts).0 (enrolled xs r ts).1
 fleet_stays_so [] r ts = stays_itself r ts
 fleet_stays_so (x ∷ xs) r ts = stays_then r (room_enrolled r ts x) ts (terminals_enrolled r ts x) _ _ (row_stays_so r ts x) (fleet_stays_so xs (room_enrolled r ts x) (terminals_enrolled r ts x))
 
@@ -104,26 +111,31 @@ not_true : (b : Bool) → (b ≡ true → ⊥) → b ≡ false
 not_true true f = absurd (f refl)
 not_true false f = refl
 
-by_same : (b : Bool) → MayBecome (cond b Same (Refused refusal.CallsignTaken)) (cond b Same (Refused refusal.CallsignTaken))
+by_same : (b : Bool) → MayBecome (cond b Same (Refused refusal.CallsignTaken))
+    (cond b Same (Refused refusal.CallsignTaken))
 by_same true = refl
 by_same false = refl
 
 -- a terminal that isn't the crew's makes no vehicle the row's
-not_crews : (a b c : Bool) → c ≡ false → cond (a && (b && c)) Same (Refused refusal.CallsignTaken) ≡ Refused refusal.CallsignTaken
+not_crews : (a b c : Bool) → c ≡ false
+    → cond (a && (b && c)) Same (Refused refusal.CallsignTaken) ≡ Refused refusal.CallsignTaken
 not_crews true true c e = rw e
 not_crews true false c e = refl
 not_crews false b c e = refl
 
-taken_still : (u : Option Vehicle) (t : Terminal) (x : FleetRow) → is_crew x.callsign t.who ≡ false → MayBecome (Refused refusal.TokenTaken) (fate_by u (Some t) x)
+taken_still : (u : Option Vehicle) (t : Terminal) (x : FleetRow) → is_crew x.callsign t.who ≡ false
+    → MayBecome (Refused refusal.TokenTaken) (fate_by u (Some t) x)
 taken_still None t x e = inl refl
 taken_still (Some u) t x e = inr (not_crews _ _ _ e)
 
-module _ (r s : Room) (ts us : List Terminal) (x : FleetRow) (stays : Stays r ts s us) (are : AreTerminals r ts) where
+module _ (r s : Room) (ts us : List Terminal) (x : FleetRow) (stays : Stays r ts s us)
+    (are : AreTerminals r ts) where
   abbrev vehicle_in : Room → Option Vehicle
   vehicle_in q = row_at callsign_cmp vehicle_key q.vehicles x.callsign
 
   -- a crew's terminal is one of a vehicle that is there
-  not_its_crew : (t : Terminal) (who : Who) → t.who ≡ who → terminal_at x.token ts ≡ Some t → vehicle_in r ≡ None → is_crew x.callsign who ≡ false
+  not_its_crew : (t : Terminal) (who : Who) → t.who ≡ who → terminal_at x.token ts ≡ Some t
+      → vehicle_in r ≡ None → is_crew x.callsign who ≡ false
   not_its_crew t (Desk d) is e none = refl
   not_its_crew t (Position p) is e none = refl
   not_its_crew t (Crew k) is e none = not_true _ (λ f.
@@ -133,11 +145,15 @@ module _ (r s : Room) (ts us : List Terminal) (x : FleetRow) (stays : Stays r ts
       let absent : is_some (vehicle_in r) ≡ false = ap is_some none in
       cc)
 
-  crew_alike : (v : Vehicle) → vehicle_in r ≡ Some v → (t : Option Terminal) → terminal_at x.token ts ≡ t → is_crews_terminal x.callsign (terminal_at x.token us) ≡ is_crews_terminal x.callsign t
+  crew_alike : (v : Vehicle) → vehicle_in r ≡ Some v → (t : Option Terminal)
+      → terminal_at x.token ts ≡ t → is_crews_terminal x.callsign (terminal_at x.token us)
+      ≡ is_crews_terminal x.callsign t
   crew_alike v there (Some t) e = ap (is_crews_terminal x.callsign) (stays.terminal x.token t e)
   crew_alike v there None e = not_true _ (λ f. let g = stays.fresh x.token x.callsign e f in let h : fleet_at x.callsign r ≡ Some (home_and_kind v) = ap (option_map home_and_kind) there in cc)
 
-  by_rows : (v : Option Vehicle) (t : Option Terminal) → vehicle_in r ≡ v → terminal_at x.token ts ≡ t → (fate_by v t x ≡ Added → ⊥) → MayBecome (fate_by v t x) (fate_by (vehicle_in s) (terminal_at x.token us) x)
+  by_rows : (v : Option Vehicle) (t : Option Terminal) → vehicle_in r ≡ v
+      → terminal_at x.token ts ≡ t → (fate_by v t x ≡ Added → ⊥)
+      → MayBecome (fate_by v t x) (fate_by (vehicle_in s) (terminal_at x.token us) x)
   by_rows (Some v) t there e apart =
       let same = fate_alike (vehicle_in s) (Some v) (terminal_at x.token us) x (stays.fleet x.callsign (home_and_kind v) (ap (option_map home_and_kind) there))
       ∙ ap (λ (b : Bool). cond (v.home == x.division && (same_kind v.kind x.kind && b)) Same (Refused refusal.CallsignTaken)) (crew_alike v there t e) in
@@ -148,7 +164,9 @@ module _ (r s : Room) (ts us : List Terminal) (x : FleetRow) (stays : Stays r ts
   abbrev fate_in : Bool → RowFate → RowFate
   fate_in planned f = cond planned f (Refused refusal.NoSuchDivision)
 
-  by_plan : (b : Bool) → (fate_in b (fate_by (vehicle_in r) (terminal_at x.token ts) x) ≡ Added → ⊥) → MayBecome (fate_in b (fate_by (vehicle_in r) (terminal_at x.token ts) x)) (fate_in b (fate_by (vehicle_in s) (terminal_at x.token us) x))
+  by_plan : (b : Bool) → (fate_in b (fate_by (vehicle_in r) (terminal_at x.token ts) x) ≡ Added
+      → ⊥) → MayBecome (fate_in b (fate_by (vehicle_in r) (terminal_at x.token ts) x))
+      (fate_in b (fate_by (vehicle_in s) (terminal_at x.token us) x))
   by_plan true apart = by_rows _ _ refl refl apart
   by_plan false apart = refl
 
@@ -166,7 +184,9 @@ since_first Same g h = h
 since_first (Refused why) g h = h
 
 -- a row that was enrolled, after what came in between
-row_again : (r : Room) (ts : List Terminal) (x : FleetRow) (s : Room) (us : List Terminal) → AreTerminals r ts → Stays (room_enrolled r ts x) (terminals_enrolled r ts x) s us → MayBecome (fate_of r ts x) (fate_of s us x)
+row_again : (r : Room) (ts : List Terminal) (x : FleetRow) (s : Room) (us : List Terminal)
+    → AreTerminals r ts → Stays (room_enrolled r ts x) (terminals_enrolled r ts x) s us
+    → MayBecome (fate_of r ts x) (fate_of s us x)
 row_again r ts x s us are stays =
     let again = enrolled_again r ts x in
     since_first (fate_of r ts x) _ (subst (λ f. MayBecome f (fate_of s us x)) again (later_fate (room_enrolled r ts x) s (terminals_enrolled r ts x) us x stays (terminals_kept r ts x are) (λ e. not_added (fate_of r ts x) (sym again ∙ e))))
@@ -181,13 +201,16 @@ never_added (Refused refusal.TokenTaken) h = elim h [
 never_added (Refused why) h = cc
 
 -- and it changes nothing then
-nothing_more : (f g : RowFate) (x : FleetRow) (s : Room) (us : List Terminal) → MayBecome f g → ◌≡◌ {A = Room × List Terminal} (s, us) (room_by g x s, terminals_by g x us)
+nothing_more : (f g : RowFate) (x : FleetRow) (s : Room) (us : List Terminal) → MayBecome f g
+    → ◌≡◌ {A = Room × List Terminal} (s, us) (room_by g x s, terminals_by g x us)
 nothing_more f Same x s us h = refl
 nothing_more f (Refused why) x s us h = refl
 nothing_more f Added x s us h = absurd (never_added f h)
 
 -- ---- a fleet
-all_again : (xs : List FleetRow) (r : Room) (ts : List Terminal) (s : Room) (us : List Terminal) → AreTerminals r ts → Stays (enrolled xs r ts).0 (enrolled xs r ts).1 s us → AreAgain xs (fates_of xs r ts) (s, us)
+all_again : (xs : List FleetRow) (r : Room) (ts : List Terminal) (s : Room) (us : List Terminal)
+    → AreTerminals r ts → Stays (enrolled xs r ts).0 (enrolled xs r ts).1 s us
+    → AreAgain xs (fates_of xs r ts) (s, us)
 all_again [] r ts s us are stays = record { fates = tt; unchanged = refl }
 all_again (x ∷ xs) r ts s us are stays =
     let now = room_enrolled r ts x in
@@ -197,5 +220,7 @@ all_again (x ∷ xs) r ts s us are stays =
     let rest = subst (AreAgain xs (fates_of xs now known)) same (all_again xs now known s us (terminals_kept r ts x are) stays) in
     record { fates = (row, rest.fates); unchanged = rest.unchanged ∙ sym same }
 
-pub fleet_again : (xs : List FleetRow) (between : List Reaching) (r : Room) (ts : List Terminal) → AreTerminals r ts → AreAgain xs (fates_of xs r ts) (since between (enrolled xs r ts).0 (enrolled xs r ts).1)
+pub fleet_again : (xs : List FleetRow) (between : List Reaching) (r : Room) (ts : List Terminal)
+    → AreTerminals r ts → AreAgain xs (fates_of xs r ts)
+    (since between (enrolled xs r ts).0 (enrolled xs r ts).1)
 fleet_again xs between r ts are = all_again xs r ts _ _ are (since_stays between (enrolled xs r ts).0 (enrolled xs r ts).1)

@@ -65,26 +65,33 @@ abbrev pub AllKeepFleet : Room → List Change → Type 0
 AllKeepFleet r [] = Unit {0}
 AllKeepFleet r (x ∷ xs) = KeepsFleet r x × AllKeepFleet r xs
 
-settled_fleet : (c k : Callsign) (d : ℕ) (r : Room) (o : Option Vehicle) → row_at callsign_cmp vehicle_key r.vehicles k ≡ o → option_map home_and_kind (row_at callsign_cmp vehicle_key (settled o d r.vehicles) c) ≡ fleet_at c r
+settled_fleet : (c k : Callsign) (d : ℕ) (r : Room) (o : Option Vehicle)
+    → row_at callsign_cmp vehicle_key r.vehicles k ≡ o
+    → option_map home_and_kind (row_at callsign_cmp vehicle_key (settled o d r.vehicles) c)
+    ≡ fleet_at c r
 settled_fleet c k d r None e = refl
 settled_fleet c k d r (Some v) e =
     let key : k ≡ v.callsign = row_key callsign_cmp vehicle_key callsigns_total exact_callsigns r.vehicles k v e in
     vehicles_put (λ j o. option_map home_and_kind o ≡ fleet_at j r) r.vehicles (settle d v) (sym (ap (λ j. fleet_at j r) (sym key) ∙ ap (option_map home_and_kind) e)) (λ j apart. refl) c
 
-fleet_one : (c : Callsign) (r : Room) (x : Change) → KeepsFleet r x → fleet_at c (apply_one r x) ≡ fleet_at c r
+fleet_one : (c : Callsign) (r : Room) (x : Change) → KeepsFleet r x
+    → fleet_at c (apply_one r x) ≡ fleet_at c r
 fleet_one c r (PutVehicle x) h = vehicles_put (λ j o. option_map home_and_kind o ≡ fleet_at j r) r.vehicles x (sym h) (λ j apart. refl) c
 fleet_one c r (Settle k d) h = settled_fleet c k d r _ refl
 fleet_one c r x h = refl
 
-still_keeps : (r s : Room) (x : Change) → ((c : Callsign) → fleet_at c s ≡ fleet_at c r) → KeepsFleet r x → KeepsFleet s x
+still_keeps : (r s : Room) (x : Change) → ((c : Callsign) → fleet_at c s ≡ fleet_at c r)
+    → KeepsFleet r x → KeepsFleet s x
 still_keeps r s (PutVehicle x) f h = f x.callsign ∙ h
 still_keeps r s x f h = tt
 
-all_still_keep : (r s : Room) (xs : List Change) → ((c : Callsign) → fleet_at c s ≡ fleet_at c r) → AllKeepFleet r xs → AllKeepFleet s xs
+all_still_keep : (r s : Room) (xs : List Change) → ((c : Callsign) → fleet_at c s ≡ fleet_at c r)
+    → AllKeepFleet r xs → AllKeepFleet s xs
 all_still_keep r s [] f h = tt
 all_still_keep r s (x ∷ xs) f h = (still_keeps r s x f h.0, all_still_keep r s xs f h.1)
 
-fleet_after : (c : Callsign) (r : Room) (xs : List Change) → AllKeepFleet r xs → fleet_at c (apply r xs) ≡ fleet_at c r
+fleet_after : (c : Callsign) (r : Room) (xs : List Change) → AllKeepFleet r xs
+    → fleet_at c (apply r xs) ≡ fleet_at c r
 fleet_after c r [] h = refl
 fleet_after c r (x ∷ xs) h = fleet_after c (apply_one r x) xs (all_still_keep r (apply_one r x) xs (λ k. fleet_one k r x h.0) h.1) ∙ fleet_one c r x h.0
 
@@ -102,17 +109,21 @@ module _ (r : Room) where
   refused_fleet true e x f = tt
   refused_fleet false e x f = f
 
-  held_fleet : (d : ℕ) (c : Callsign) (f : Vehicle → Verdict) → ((v : Vehicle) → IsThere v → SameFleet (f v)) → SameFleet (where_held (held d c r) (lent d c r) f)
+  held_fleet : (d : ℕ) (c : Callsign) (f : Vehicle → Verdict)
+      → ((v : Vehicle) → IsThere v → SameFleet (f v))
+      → SameFleet (where_held (held d c r) (lent d c r) f)
   held_fleet d c f g = (elim (held d c r) as (λ (o : Option Vehicle). held d c r ≡ o → SameFleet (where_held o (lent d c r) f)) [
     | None ↦ λ e. tt
     | Some v ↦ λ e. g v (ap (option_map home_and_kind) (held_is d c r v e).there)
   ]) refl
 
-  active_fleet : (o : Option Incident) (f : Incident → Verdict) → ((i : Incident) → SameFleet (f i)) → SameFleet (where_active o f)
+  active_fleet : (o : Option Incident) (f : Incident → Verdict)
+      → ((i : Incident) → SameFleet (f i)) → SameFleet (where_active o f)
   active_fleet None f g = tt
   active_fleet (Some i) f g = refused_fleet _ _ _ (g i)
 
-  fleet_append : (xs ys : List Change) → AllKeepFleet r xs → AllKeepFleet r ys → AllKeepFleet r (xs ++ ys)
+  fleet_append : (xs ys : List Change) → AllKeepFleet r xs → AllKeepFleet r ys
+      → AllKeepFleet r (xs ++ ys)
   fleet_append [] ys f g = g
   fleet_append (x ∷ xs) ys f g = (f.0, fleet_append xs ys f.1 g)
 
@@ -129,7 +140,8 @@ module _ (r : Room) where
   turn_fleet at None = tt
   turn_fleet at (Some t) = (tt, tt)
 
-  standby_fleet : (p : Option ℕ) (has : ℕ → Bool) (at : ℕ) (v : Vehicle) → IsThere v → SameFleet (standby_at p has at v)
+  standby_fleet : (p : Option ℕ) (has : ℕ → Bool) (at : ℕ) (v : Vehicle) → IsThere v
+      → SameFleet (standby_at p has at v)
   standby_fleet None has at v k = (k, tt)
   standby_fleet (Some n) has at v k = refused_fleet _ _ _ (refused_fleet _ _ _ (k, tt))
 
@@ -180,7 +192,8 @@ module _ (r : Room) where
   new_fleet d new None = tt
   new_fleet d new (Some v) = refused_fleet _ _ _ (tt, (tt, (tt, tt)))
 
-  taken_fleet : (d : ℕ) (new : NewCall) (i : Option Incident) (v : Option Division) → SameFleet (call_taken d new i v)
+  taken_fleet : (d : ℕ) (new : NewCall) (i : Option Incident) (v : Option Division)
+      → SameFleet (call_taken d new i v)
   taken_fleet d new (Some i) v = (tt, (tt, tt))
   taken_fleet d new None v = new_fleet d new v
 
@@ -214,7 +227,8 @@ module _ (r : Room) where
   either_fleet true x y f g = f
   either_fleet false x y f g = g
 
-  made_fleet : (v : Vehicle) (t : Option Turn) (l : Option Loan) (p : Press) (at : ℕ) (o : Outcome) → IsThere v → SameFleet (report_made v t l p at o)
+  made_fleet : (v : Vehicle) (t : Option Turn) (l : Option Loan) (p : Press) (at : ℕ) (o : Outcome)
+      → IsThere v → SameFleet (report_made v t l p at o)
   made_fleet v t l p at o k = either_fleet (acts o) _ (tell (answer.Reported p.number o v.status) (PutReport (report_row v p at o v.status) ∷ PutVehicle (with_report v p) ∷ []))
       (tt, fleet_append (turn_changes p.button at t) _ (turns_fleet p.button at t) (fleet_append (drop_changes v.callsign (ends_turn p.button)) _ (drop_fleet v.callsign (ends_turn p.button)) (fleet_append (back_changes v.callsign (is_home p.button && is_due at l)) _ (back_fleet v.callsign (is_home p.button && is_due at l)) (k, tt))))
       (tt, (k, tt))
@@ -226,11 +240,13 @@ module _ (r : Room) where
     | Some v ↦ λ e. made_fleet v (open_turn d c r) (borrowed d c r) p at _ (ap (option_map home_and_kind) (held_is d c r v e).there)
   ]) refl
 
-  reported_fleet : (o : Option Vehicle) (c : Callsign) (p : Press) (at : ℕ) → SameFleet (report_somewhere o c p at r)
+  reported_fleet : (o : Option Vehicle) (c : Callsign) (p : Press) (at : ℕ)
+      → SameFleet (report_somewhere o c p at r)
   reported_fleet None c p at = tt
   reported_fleet (Some v) c p at = report_fleet v.holder c p at
 
-  kept_fleet : (o : Option Report) (c : Callsign) (p : Press) (at : ℕ) → SameFleet (report_kept o c p at r)
+  kept_fleet : (o : Option Report) (c : Callsign) (p : Press) (at : ℕ)
+      → SameFleet (report_kept o c p at r)
   kept_fleet None c p at = reported_fleet _ c p at
   kept_fleet (Some k) c p at = refused_fleet _ _ _ tt
 
@@ -252,7 +268,8 @@ pub fleet_stays : (c : Callsign) (e : Event) (r : Room) → fleet_at c (room_aft
 fleet_stays c e r = fleet_after c r (changes_of (decided e r)) (who_fleet r e.who e.ask e.at)
 
 -- ---- over lists of events
-pub fleet_run : (c : Callsign) (es : List Event) (r : Room) → fleet_at c (room_run es r) ≡ fleet_at c r
+pub fleet_run : (c : Callsign) (es : List Event) (r : Room)
+    → fleet_at c (room_run es r) ≡ fleet_at c r
 fleet_run c [] r = refl
 fleet_run c (e ∷ es) r = fleet_run c es (room_after e r) ∙ fleet_stays c e r
 
@@ -261,7 +278,8 @@ plan_run [] r = refl
 plan_run (e ∷ es) r = plan_run es (room_after e r) ∙ plan_stays r (changes_of (decided e r))
 
 -- a fate looks at the plan, the fleet and the terminals alone
-pub fate_alike : (v u : Option Vehicle) (t : Option Terminal) (x : FleetRow) → option_map home_and_kind v ≡ option_map home_and_kind u → fate_by v t x ≡ fate_by u t x
+pub fate_alike : (v u : Option Vehicle) (t : Option Terminal) (x : FleetRow)
+    → option_map home_and_kind v ≡ option_map home_and_kind u → fate_by v t x ≡ fate_by u t x
 fate_alike None None t x e = refl
 fate_alike None (Some u) t x e = cc
 fate_alike (Some v) None t x e = cc
@@ -269,19 +287,22 @@ fate_alike (Some v) (Some u) t x e =
     let same : home_and_kind v ≡ home_and_kind u = cc in
     ap (λ (p : ℕ × Kind). cond (p.0 == x.division && (same_kind p.1 x.kind && is_crews_terminal x.callsign t)) Same (Refused refusal.CallsignTaken)) same
 
-pub fate_run : (es : List Event) (r : Room) (ts : List Terminal) (x : FleetRow) → fate_of (room_run es r) ts x ≡ fate_of r ts x
+pub fate_run : (es : List Event) (r : Room) (ts : List Terminal) (x : FleetRow)
+    → fate_of (room_run es r) ts x ≡ fate_of r ts x
 fate_run es r ts x =
     ap (λ plan. cond (has_division plan x.division) (fate_by (row_at callsign_cmp vehicle_key (room_run es r).vehicles x.callsign) (terminal_at x.token ts) x) (Refused refusal.NoSuchDivision)) (plan_run es r)
     ∙ ap (λ f. cond (has_division r.plan x.division) f (Refused refusal.NoSuchDivision)) (fate_alike _ _ (terminal_at x.token ts) x (fleet_run x.callsign es r))
 
-some_alike : (v u : Option Vehicle) → option_map home_and_kind v ≡ option_map home_and_kind u → is_some v ≡ is_some u
+some_alike : (v u : Option Vehicle) → option_map home_and_kind v ≡ option_map home_and_kind u
+    → is_some v ≡ is_some u
 some_alike None None e = refl
 some_alike None (Some u) e = cc
 some_alike (Some v) None e = cc
 some_alike (Some v) (Some u) e = refl
 
 -- the terminals fit the room after any events
-pub terminals_run : (es : List Event) (r : Room) (ts : List Terminal) → AreTerminals r ts → AreTerminals (room_run es r) ts
+pub terminals_run : (es : List Event) (r : Room) (ts : List Terminal) → AreTerminals r ts
+    → AreTerminals (room_run es r) ts
 terminals_run es r ts are = record {
   keyed = are.keyed;
   has_crew = λ c e. are.has_crew c (sym (some_alike _ _ (fleet_run c es r)) ∙ e);

@@ -69,7 +69,10 @@ share_foreign d s (DropLoan c) h = ap (λ (xs : List Loan). record s { loans = x
 share_foreign d s (DropOffer c) h = ap (λ (xs : List Offer). record s { offers = xs }) (drop_absent callsign_cmp offer_key callsigns_total s.offers c h)
 share_foreign d s (Settle c e) h = refl
 
-settled_foreign : (d e : ℕ) (r : Room) (c : Callsign) (o : Option Vehicle) → IsInOrder r → row_at callsign_cmp vehicle_key r.vehicles c ≡ o → e == d ≡ false → row_at callsign_cmp vehicle_key (own d r).vehicles c ≡ None → filter (owns_vehicle d) (settled o e r.vehicles) ≡ filter (owns_vehicle d) r.vehicles
+settled_foreign : (d e : ℕ) (r : Room) (c : Callsign) (o : Option Vehicle) → IsInOrder r
+    → row_at callsign_cmp vehicle_key r.vehicles c ≡ o → e == d ≡ false
+    → row_at callsign_cmp vehicle_key (own d r).vehicles c ≡ None
+    → filter (owns_vehicle d) (settled o e r.vehicles) ≡ filter (owns_vehicle d) r.vehicles
 settled_foreign d e r c None w h f g = refl
 settled_foreign d e r c (Some v) w h f g =
     let key : c ≡ v.callsign = row_key callsign_cmp vehicle_key callsigns_total exact_callsigns r.vehicles c v h in
@@ -77,7 +80,8 @@ settled_foreign d e r c (Some v) w h f g =
     filter_put callsign_cmp vehicle_key callsigns_total (owns_vehicle d) r.vehicles (record v { holder = e; status = Available }) w.vehicles
     ∙ cond_false (e == d) _ _ _ f (drop_absent callsign_cmp vehicle_key callsigns_total (own d r).vehicles v.callsign absent)
 
-pub own_foreign_one : (d : ℕ) (r : Room) (c : Change) → IsInOrder r → IsForeign d (own d r) c → own d (apply_one r c) ≡ own d r
+pub own_foreign_one : (d : ℕ) (r : Room) (c : Change) → IsInOrder r → IsForeign d (own d r) c
+    → own d (apply_one r c) ≡ own d r
 own_foreign_one d r (Settle c e) w h = ap (λ (vs : List Vehicle). record (own d r) { vehicles = vs }) (settled_foreign d e r c _ w refl h.0 h.1)
 own_foreign_one d r (PutDivision x) w h = own_apply_one d r (PutDivision x) w tt ∙ share_foreign d (own d r) (PutDivision x) h
 own_foreign_one d r (PutIncident x) w h = own_apply_one d r (PutIncident x) w tt ∙ share_foreign d (own d r) (PutIncident x) h
@@ -93,12 +97,14 @@ own_foreign_one d r (DropAssignment c) w h = own_apply_one d r (DropAssignment c
 own_foreign_one d r (DropLoan c) w h = own_apply_one d r (DropLoan c) w tt ∙ share_foreign d (own d r) (DropLoan c) h
 own_foreign_one d r (DropOffer c) w h = own_apply_one d r (DropOffer c) w tt ∙ share_foreign d (own d r) (DropOffer c) h
 
-pub own_foreign : (d : ℕ) (r : Room) (cs : List Change) → IsInOrder r → AllForeign d (own d r) cs → own d (apply r cs) ≡ own d r
+pub own_foreign : (d : ℕ) (r : Room) (cs : List Change) → IsInOrder r → AllForeign d (own d r) cs
+    → own d (apply r cs) ≡ own d r
 own_foreign d r [] w h = refl
 own_foreign d r (c ∷ cs) w h =
     let same = own_foreign_one d r c w h.0 in
     own_foreign d (apply_one r c) cs (in_order_one r c w) (subst (λ (s : Room). AllForeign d s cs) (sym same) h.1) ∙ same
 
-pub foreign_append : (d : ℕ) (s : Room) (cs bs : List Change) → AllForeign d s cs → AllForeign d s bs → AllForeign d s (cs ++ bs)
+pub foreign_append : (d : ℕ) (s : Room) (cs bs : List Change) → AllForeign d s cs
+    → AllForeign d s bs → AllForeign d s (cs ++ bs)
 foreign_append d s [] bs h g = g
 foreign_append d s (c ∷ cs) bs h g = (h.0, foreign_append d s cs bs h.1 g)

@@ -37,7 +37,8 @@ use Rattle.room_model.specs.Step.{desk_asks}
 use Rattle.room_model.specs.WellFormed.{IsWellFormed, LoanAgrees, OfferAgrees}
 use Rattle.room_types.specs.declared.asks.Ask.TheVariants as ask
 
-pub put_found : {R K : Type 0} (cmp : K → K → Ordering) (key : R → K) (total : IsTotalOrder cmp) (xs : List R) (x : R) → row_at cmp key (put_row cmp key xs x) (key x) ≡ Some x
+pub put_found : {R K : Type 0} (cmp : K → K → Ordering) (key : R → K) (total : IsTotalOrder cmp)
+    (xs : List R) (x : R) → row_at cmp key (put_row cmp key xs x) (key x) ≡ Some x
 put_found cmp key total xs x = row_put cmp key total xs x (key x) ∙ ap (λ (b : Bool). cond b (Some x) (row_at cmp key xs (key x))) (alike (cmp (key x) (key x)) (total.antisymm (key x) (key x)))
   where
     alike : (o : Ordering) → o ≡ ordering_reverse o → is_eq o ≡ true
@@ -66,12 +67,14 @@ module _ (d h : ℕ) (r : Room) (w : IsWellFormed r) (apart : h == d ≡ false) 
   abbrev pub Isolated : Ask → Verdict → Type 0
   Isolated a x = own d (apply r (changes_of x)) ≡ share_by d (own d r) (cond (is_ok x) (cross_other d h a r (apply r (changes_of x))) None)
 
-  refuse_isolated : (a : Ask) (b : Bool) (e : Refusal) (x : Verdict) → (b ≡ false → Isolated a x) → Isolated a (refuse_if b e x)
+  refuse_isolated : (a : Ask) (b : Bool) (e : Refusal) (x : Verdict) → (b ≡ false → Isolated a x)
+      → Isolated a (refuse_if b e x)
   unfolding refuse_if
   refuse_isolated a true e x f = refl
   refuse_isolated a false e x f = f refl
 
-  held_isolated : (a : Ask) (o : Option Vehicle) (l : Option Loan) (f : Vehicle → Verdict) → ((v : Vehicle) → o ≡ Some v → Isolated a (f v)) → Isolated a (where_held o l f)
+  held_isolated : (a : Ask) (o : Option Vehicle) (l : Option Loan) (f : Vehicle → Verdict)
+      → ((v : Vehicle) → o ≡ Some v → Isolated a (f v)) → Isolated a (where_held o l f)
   held_isolated a None l f g = refl
   held_isolated a (Some v) l f g = g v refl
 
@@ -94,18 +97,22 @@ module _ (d h : ℕ) (r : Room) (w : IsWellFormed r) (apart : h == d ≡ false) 
       ∙ sym (ap (λ (x : Option Crossing). share_by d (own d r) (cond (is_ok (desk_asks h a at r)) x None)) (cross_local a (apply r (changes_of (desk_asks h a at r))) l) ∙ ap (share_by d (own d r)) (none_either (is_ok (desk_asks h a at r))))
 
   -- a foreign change, and then a plain one
-  after_foreign : (x y : Change) → IsForeign d (own d r) x → IsPlain y → own d (apply_one (apply_one r x) y) ≡ share_one d (own d r) y
+  after_foreign : (x y : Change) → IsForeign d (own d r) x → IsPlain y
+      → own d (apply_one (apply_one r x) y) ≡ share_one d (own d r) y
   after_foreign x y f p = own_apply_one d (apply_one r x) y (in_order_one r x w.order) p ∙ ap (λ s. share_one d s y) (own_foreign_one d r x w.order f)
 
-  offer_found : (c : Callsign) (o : Offer) → row_at callsign_cmp offer_key r.offers c ≡ Some o → c ≡ o.callsign
+  offer_found : (c : Callsign) (o : Offer) → row_at callsign_cmp offer_key r.offers c ≡ Some o
+      → c ≡ o.callsign
   offer_found c o g = row_key callsign_cmp offer_key callsigns_total exact_callsigns r.offers c o g
 
   -- the offer of h to a third division is not in the share
-  other_offer : (c : Callsign) (o : Offer) → row_at callsign_cmp offer_key r.offers c ≡ Some o → owns_offer d o ≡ false → row_at callsign_cmp offer_key (own d r).offers c ≡ None
+  other_offer : (c : Callsign) (o : Offer) → row_at callsign_cmp offer_key r.offers c ≡ Some o
+      → owns_offer d o ≡ false → row_at callsign_cmp offer_key (own d r).offers c ≡ None
   other_offer c o g f = none_own callsign_cmp offer_key callsigns_total (owns_offer d) r.offers c w.order.offers (λ y e. let same : o ≡ y = found_same d h r w apart _ o y g e in ap (owns_offer d) (sym same) ∙ f)
 
   -- ---- withdraw
-  withdrawn_isolated : (c : Callsign) (v : Vehicle) → IsHeld h c r v → (o : Option Offer) → offered_by h c r ≡ o → Isolated (ask.Withdraw c) (withdrawn o v)
+  withdrawn_isolated : (c : Callsign) (v : Vehicle) → IsHeld h c r v → (o : Option Offer)
+      → offered_by h c r ≡ o → Isolated (ask.Withdraw c) (withdrawn o v)
   unfolding offered_by offer_at
   withdrawn_isolated c v is None e = refl
   withdrawn_isolated c v is (Some o) e =
@@ -123,13 +130,17 @@ module _ (d h : ℕ) (r : Room) (w : IsWellFormed r) (apart : h == d ≡ false) 
   withdraw_isolated c = held_isolated (ask.Withdraw c) (held h c r) (lent h c r) (withdrawn (offered_by h c r)) (λ v g. withdrawn_isolated c v (held_is h c r v g) (offered_by h c r) refl)
 
   -- ---- lend
-  no_offer : (c : Callsign) (v : Vehicle) → IsHeld h c r v → is_free v.status ≡ true → row_at callsign_cmp offer_key (own d r).offers v.callsign ≡ None
+  no_offer : (c : Callsign) (v : Vehicle) → IsHeld h c r v → is_free v.status ≡ true
+      → row_at callsign_cmp offer_key (own d r).offers v.callsign ≡ None
   no_offer c v is free = none_own callsign_cmp offer_key callsigns_total (owns_offer d) r.offers v.callsign w.order.offers (λ o e. absurd (clash o (subst (λ x. OfferAgrees r.plan x (Some o)) is.there (subst (λ x. OfferAgrees r.plan (row_at callsign_cmp vehicle_key r.vehicles v.callsign) x) e (w.offers v.callsign)))))
     where
       clash : (o : Offer) → OfferAgrees r.plan (Some v) (Some o) → ⊥
       clash o f = let yes_ = f.0 in let no_ = not_offered v.status free in cc
 
-  offer_isolated : (c : Callsign) (to until at : ℕ) (v : Vehicle) → IsHeld h c r v → is_free v.status ≡ true → Isolated (ask.Lend c to until) (done (PutVehicle (record v { status = Offered; post = None }) ∷ PutOffer (offer_row v h to until at) ∷ []))
+  offer_isolated : (c : Callsign) (to until at : ℕ) (v : Vehicle) → IsHeld h c r v
+      → is_free v.status ≡ true → Isolated (ask.Lend c to until)
+      (done (PutVehicle (record v { status = Offered; post = None })
+      ∷ PutOffer (offer_row v h to until at) ∷ []))
   unfolding offer_at
   offer_isolated c to until at v is free =
       let o = offer_row v h to until at in
@@ -141,12 +152,14 @@ module _ (d h : ℕ) (r : Room) (w : IsWellFormed r) (apart : h == d ≡ false) 
       ]) refl
       ∙ sym (ap (λ (y : Option Offer). share_by d (own d r) (cond (to == d) (option_map OfferIn y) None)) (ap (λ k. row_at callsign_cmp offer_key (put_row callsign_cmp offer_key r.offers o) k) is.key ∙ put_found callsign_cmp offer_key callsigns_total r.offers o))
 
-  lend_isolated : (c : Callsign) (to until at : ℕ) → Isolated (ask.Lend c to until) (lend h c to until at r)
+  lend_isolated : (c : Callsign) (to until at : ℕ)
+      → Isolated (ask.Lend c to until) (lend h c to until at r)
   unfolding lend
   lend_isolated c to until at = held_isolated (ask.Lend c to until) (held h c r) (lent h c r) (offered r.plan h to until at) (λ v g. refuse_isolated (ask.Lend c to until) _ _ _ (λ e. refuse_isolated (ask.Lend c to until) _ _ _ (λ e. refuse_isolated (ask.Lend c to until) _ _ _ (λ e. refuse_isolated (ask.Lend c to until) _ _ _ (λ free. refuse_isolated (ask.Lend c to until) _ _ _ (λ e. offer_isolated c to until at v (held_is h c r v g) (free_if _ free)))))))
 
   -- ---- recall
-  loan_isolated : (c : Callsign) (l : Option Loan) → lent h c r ≡ l → (v : Option Vehicle) → Isolated (ask.Recall c) (recall_lent l v)
+  loan_isolated : (c : Callsign) (l : Option Loan) → lent h c r ≡ l → (v : Option Vehicle)
+      → Isolated (ask.Recall c) (recall_lent l v)
   unfolding lent loan_at
   loan_isolated c None e None = refl
   loan_isolated c None e (Some v) = refl
@@ -160,13 +173,19 @@ module _ (d h : ℕ) (r : Room) (w : IsWellFormed r) (apart : h == d ≡ false) 
       ]) refl
       ∙ sym (ap (λ (x : Option Loan). share_by d (own d r) (newly_recalled d c x)) e)
     where
-      in_share : (c : Callsign) (l : Loan) → row_at callsign_cmp loan_key r.loans c ≡ Some l → owns_loan d l ≡ true → row_at callsign_cmp loan_key (own d r).loans c ≡ Some l
+      in_share : (c : Callsign) (l : Loan) → row_at callsign_cmp loan_key r.loans c ≡ Some l
+          → owns_loan d l ≡ true → row_at callsign_cmp loan_key (own d r).loans c ≡ Some l
       in_share c l g f = row_filter callsign_cmp loan_key callsigns_total (owns_loan d) r.loans c w.order.loans ∙ ap (keep (owns_loan d)) g ∙ ap (λ (b : Bool). cond b (Some l) None) f
 
-      put_owned : (l : Loan) → owns_loan d l ≡ true → own d (apply_one r (PutLoan (record l { recalled = true }))) ≡ apply_one (own d r) (PutLoan (record l { recalled = true }))
+      put_owned : (l : Loan) → owns_loan d l ≡ true
+          → own d (apply_one r (PutLoan (record l { recalled = true })))
+          ≡ apply_one (own d r) (PutLoan (record l { recalled = true }))
       put_owned l f = own_apply_one d r (PutLoan (record l { recalled = true })) w.order tt ∙ ap (λ (b : Bool). record (own d r) { loans = cond b (put_row callsign_cmp loan_key (own d r).loans (record l { recalled = true })) (drop_row callsign_cmp loan_key (own d r).loans l.callsign) }) f
 
-      marked_by : (c : Callsign) (l : Loan) → c ≡ l.callsign → row_at callsign_cmp loan_key r.loans c ≡ Some l → owns_loan d l ≡ true → (b : Bool) → l.recalled ≡ b → own d (apply_one r (PutLoan (record l { recalled = true }))) ≡ share_by d (own d r) (cond (true && not b) (Some (Recalled c)) None)
+      marked_by : (c : Callsign) (l : Loan) → c ≡ l.callsign
+          → row_at callsign_cmp loan_key r.loans c ≡ Some l → owns_loan d l ≡ true → (b : Bool)
+          → l.recalled ≡ b → own d (apply_one r (PutLoan (record l { recalled = true })))
+          ≡ share_by d (own d r) (cond (true && not b) (Some (Recalled c)) None)
       marked_by c l key g f false e = put_owned l f ∙ sym (ap (marked (own d r)) (in_share c l g f))
       marked_by c l key g f true e =
           put_owned l f ∙ ap (λ (x : Bool). apply_one (own d r) (PutLoan (record l { recalled = x }))) (sym e)
@@ -183,27 +202,34 @@ module _ (d h : ℕ) (r : Room) (w : IsWellFormed r) (apart : h == d ≡ false) 
     there : row_at callsign_cmp vehicle_key r.vehicles c ≡ Some vehicle
     agrees : OfferAgrees r.plan (Some vehicle) (Some o)
 
-  offered_vehicle : (c : Callsign) (o : Offer) → row_at callsign_cmp offer_key r.offers c ≡ Some o → IsOffered c o
+  offered_vehicle : (c : Callsign) (o : Offer) → row_at callsign_cmp offer_key r.offers c ≡ Some o
+      → IsOffered c o
   offered_vehicle c o g = (elim (row_at callsign_cmp vehicle_key r.vehicles c) as (λ (x : Option Vehicle). row_at callsign_cmp vehicle_key r.vehicles c ≡ x → OfferAgrees r.plan x (Some o) → IsOffered c o) [
     | None ↦ λ e f. absurd f
     | Some v ↦ λ e f. record { vehicle = v; there = e; agrees = f }
   ]) refl (subst (λ x. OfferAgrees r.plan (row_at callsign_cmp vehicle_key r.vehicles c) x) g (w.offers c))
 
   -- a vehicle that is settled
-  settled_share : (k : Callsign) (v : Vehicle) → row_at callsign_cmp vehicle_key r.vehicles k ≡ Some v → (e : ℕ) →
+  settled_share : (k : Callsign) (v : Vehicle)
+      → row_at callsign_cmp vehicle_key r.vehicles k ≡ Some v → (e : ℕ) →
       own d (apply_one r (Settle k e)) ≡ record (own d r) { vehicles = cond (e == d) (put_row callsign_cmp vehicle_key (own d r).vehicles (record v { holder = e; status = Available })) (drop_row callsign_cmp vehicle_key (own d r).vehicles v.callsign) }
   settled_share k v g e =
       ap (λ (x : Option Vehicle). record (own d r) { vehicles = filter (owns_vehicle d) (settled x e r.vehicles) }) g
       ∙ ap (λ (vs : List Vehicle). record (own d r) { vehicles = vs }) (filter_put callsign_cmp vehicle_key callsigns_total (owns_vehicle d) r.vehicles (record v { holder = e; status = Available }) w.order.vehicles)
 
   -- a vehicle that another division holds is not in the share
-  other_vehicle : (k : Callsign) (v : Vehicle) → row_at callsign_cmp vehicle_key r.vehicles k ≡ Some v → v.holder == d ≡ false → row_at callsign_cmp vehicle_key (own d r).vehicles k ≡ None
+  other_vehicle : (k : Callsign) (v : Vehicle)
+      → row_at callsign_cmp vehicle_key r.vehicles k ≡ Some v → v.holder == d ≡ false
+      → row_at callsign_cmp vehicle_key (own d r).vehicles k ≡ None
   other_vehicle k v g f = none_own callsign_cmp vehicle_key callsigns_total (owns_vehicle d) r.vehicles k w.order.vehicles (λ y e. let same : v ≡ y = found_same d h r w apart _ v y g e in ap (owns_vehicle d) (sym same) ∙ f)
 
-  own_vehicle : (k : Callsign) (v : Vehicle) → row_at callsign_cmp vehicle_key r.vehicles k ≡ Some v → v.holder == d ≡ true → row_at callsign_cmp vehicle_key (own d r).vehicles k ≡ Some v
+  own_vehicle : (k : Callsign) (v : Vehicle)
+      → row_at callsign_cmp vehicle_key r.vehicles k ≡ Some v → v.holder == d ≡ true
+      → row_at callsign_cmp vehicle_key (own d r).vehicles k ≡ Some v
   own_vehicle k v g f = row_filter callsign_cmp vehicle_key callsigns_total (owns_vehicle d) r.vehicles k w.order.vehicles ∙ ap (keep (owns_vehicle d)) g ∙ ap (λ (b : Bool). cond b (Some v) None) f
 
-  declined_isolated : (c : Callsign) (o : Option Offer) → offered_to h c r ≡ o → Isolated (ask.Decline c) (declined o)
+  declined_isolated : (c : Callsign) (o : Option Offer) → offered_to h c r ≡ o
+      → Isolated (ask.Decline c) (declined o)
   unfolding offered_to offer_at vehicle_at
   declined_isolated c None e = refl
   declined_isolated c (Some o) e =
@@ -233,13 +259,16 @@ module _ (d h : ℕ) (r : Room) (w : IsWellFormed r) (apart : h == d ≡ false) 
   unfolding decline
   decline_isolated c = declined_isolated c (offered_to h c r) refl
 
-  no_loan : (k : Callsign) (v : Vehicle) (o : Offer) → row_at callsign_cmp vehicle_key r.vehicles k ≡ Some v → OfferAgrees r.plan (Some v) (Some o) → row_at callsign_cmp loan_key (own d r).loans k ≡ None
+  no_loan : (k : Callsign) (v : Vehicle) (o : Offer)
+      → row_at callsign_cmp vehicle_key r.vehicles k ≡ Some v
+      → OfferAgrees r.plan (Some v) (Some o) → row_at callsign_cmp loan_key (own d r).loans k ≡ None
   no_loan k v o g f = none_own callsign_cmp loan_key callsigns_total (owns_loan d) r.loans k w.order.loans (λ l e. absurd (clash l (subst (λ x. LoanAgrees x (Some l)) g (subst (λ x. LoanAgrees (row_at callsign_cmp vehicle_key r.vehicles k) x) e (w.loans k)))))
     where
       clash : (l : Loan) → LoanAgrees (Some v) (Some l) → ⊥
       clash l a = a.2 (sym f.1 ∙ f.2)
 
-  accepted_isolated : (c : Callsign) (o : Option Offer) (at : ℕ) → offered_to h c r ≡ o → Isolated (ask.Accept c) (accepted o at)
+  accepted_isolated : (c : Callsign) (o : Option Offer) (at : ℕ) → offered_to h c r ≡ o
+      → Isolated (ask.Accept c) (accepted o at)
   unfolding offered_to offer_at loan_at
   accepted_isolated c None at e = refl
   accepted_isolated c (Some o) at e =
@@ -291,7 +320,10 @@ module _ (d h : ℕ) (r : Room) (w : IsWellFormed r) (apart : h == d ≡ false) 
     | Some l ↦ λ e f. record { loan = l; found = e; borrower = f.1 ∙ is.holder }
   ]) refl (subst (λ x. LoanAgrees x (row_at callsign_cmp loan_key r.loans v.callsign)) is.there (w.loans v.callsign))
 
-  returned_isolated : (c : Callsign) (v : Vehicle) → IsHeld h c r v → (l : Loan) → row_at callsign_cmp loan_key r.loans v.callsign ≡ Some l → l.borrower ≡ h → Isolated (ask.GiveBack c) (done (PutVehicle (record v { holder = l.lender; post = None }) ∷ DropLoan v.callsign ∷ []))
+  returned_isolated : (c : Callsign) (v : Vehicle) → IsHeld h c r v → (l : Loan)
+      → row_at callsign_cmp loan_key r.loans v.callsign ≡ Some l → l.borrower ≡ h
+      → Isolated (ask.GiveBack c) (done
+      (PutVehicle (record v { holder = l.lender; post = None }) ∷ DropLoan v.callsign ∷ []))
   unfolding loan_at vehicle_at
   returned_isolated c v is l g borrower =
       let x = record v { holder = l.lender; post = None } in
@@ -311,7 +343,9 @@ module _ (d h : ℕ) (r : Room) (w : IsWellFormed r) (apart : h == d ≡ false) 
       ∙ sym (ap (λ (z : Option Loan). share_by d (own d r) (cond (is_loan_ended d (row_at callsign_cmp loan_key r.loans c) z) (Some (Arrive x)) None)) (ap (λ k. row_at callsign_cmp loan_key (drop_row callsign_cmp loan_key r.loans v.callsign) k) is.key ∙ row_drop_same callsign_cmp loan_key callsigns_total r.loans v.callsign w.order.loans))
       ∙ sym (ap (λ (z : Option Vehicle). share_by d (own d r) (cond (is_loan_ended d (row_at callsign_cmp loan_key r.loans c) (row_at callsign_cmp loan_key after.loans c)) (option_map Arrive z) None)) (ap (λ k. row_at callsign_cmp vehicle_key (put_row callsign_cmp vehicle_key r.vehicles x) k) is.key ∙ put_found callsign_cmp vehicle_key callsigns_total r.vehicles x))
 
-  borrowed_is : (c : Callsign) (v : Vehicle) → IsHeld h c r v → (l : Loan) → row_at callsign_cmp loan_key r.loans v.callsign ≡ Some l → l.borrower ≡ h → borrowed h c r ≡ Some l
+  borrowed_is : (c : Callsign) (v : Vehicle) → IsHeld h c r v → (l : Loan)
+      → row_at callsign_cmp loan_key r.loans v.callsign ≡ Some l → l.borrower ≡ h
+      → borrowed h c r ≡ Some l
   unfolding borrowed
   borrowed_is c v is l g borrower = ap (keep (λ l. l.borrower == h)) (subst (λ k. row_at callsign_cmp loan_key r.loans k ≡ Some l) (sym is.key) g) ∙ ap (λ (b : Bool). cond b (Some l) None) (eq-eqb l.borrower h borrower)
 

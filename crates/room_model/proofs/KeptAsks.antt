@@ -32,11 +32,14 @@ use Rattle.room_types.specs.Slices.{IsActive}
 use Rattle.room_model.specs.WellFormed.{IsPost, IsWellFormed, ReportAgrees}
 
 -- a report that is cleared
-cleared_report : (o : Option Vehicle) (n : ℕ) (x y : Report) → ReportAgrees o n (Some x) → ReportAgrees o n (Some y)
+cleared_report : (o : Option Vehicle) (n : ℕ) (x y : Report) → ReportAgrees o n (Some x)
+    → ReportAgrees o n (Some y)
 cleared_report None n x y h = h
 cleared_report (Some v) n x y h = h
 
-pub cleared_agrees : (s : Room) (p : VehicleRows) (x : Report) → p.report x.number ≡ Some x → Agrees s p → Agrees s (record p { report = put_at x.number (record x { cleared = true }) p.report })
+pub cleared_agrees : (s : Room) (p : VehicleRows) (x : Report) → p.report x.number ≡ Some x
+    → Agrees s p → Agrees s (record p
+    { report = put_at x.number (record x { cleared = true }) p.report })
 cleared_agrees s p x there h =
     let y : Report = record x { cleared = true } in
     record {
@@ -55,7 +58,8 @@ cleared_agrees s p x there h =
       report_division = replaced (λ n o. IfSome o (λ z. has_division s.plan z.division ≡ true)) x.number y p.report (subst (λ o. IfSome o (λ z. has_division s.plan z.division ≡ true)) there (h.report_division x.number)) (λ n other. h.report_division n);
     }
   where
-    still_last : (o : Option Vehicle) → IsLast p.report o → IsLast (put_at x.number (record x { cleared = true }) p.report) o
+    still_last : (o : Option Vehicle) → IsLast p.report o
+        → IsLast (put_at x.number (record x { cleared = true }) p.report) o
     still_last None g = tt
     still_last (Some v) g = elim g [
       | inl z ↦ inl z
@@ -63,7 +67,8 @@ cleared_agrees s p x there h =
     ]
 
 -- a vehicle's turns have their orders
-pub has_order : (r : Room) (c : Callsign) (n : ℕ) (x : Turn) → row_at numbered_cmp turn_key r.turns (c, n) ≡ Some x → x.order ≡ n
+pub has_order : (r : Room) (c : Callsign) (n : ℕ) (x : Turn)
+    → row_at numbered_cmp turn_key r.turns (c, n) ≡ Some x → x.order ≡ n
 has_order r c n x e = sym (ap (λ (k : Callsign × ℕ). k.1) (row_key numbered_cmp turn_key numbered_total exact_numbered r.turns (c, n) x e))
 
 abbrev pub stood_down_turn : ℕ → Turn → Turn
@@ -73,18 +78,24 @@ module _ (d : ℕ) (r : Room) (w : IsWellFormed r) where
   abbrev pub Kept : Verdict → Type 0
   Kept x = IsWellFormed (apply r (changes_of x))
 
-  pub refuse_kept : (b : Bool) (e : Refusal) (x : Verdict) → (b ≡ false → Kept x) → Kept (refuse_if b e x)
+  pub refuse_kept : (b : Bool) (e : Refusal) (x : Verdict) → (b ≡ false → Kept x)
+      → Kept (refuse_if b e x)
   unfolding refuse_if
   refuse_kept true e x f = w
   refuse_kept false e x f = f refl
 
-  pub held_kept : (c : Callsign) (f : Vehicle → Verdict) → ((v : Vehicle) → IsHeld d c r v → Agrees (bare r) (record (rows_of v.callsign r) { vehicle = Some v }) → Kept (f v)) → Kept (where_held (held d c r) (lent d c r) f)
+  pub held_kept : (c : Callsign) (f : Vehicle → Verdict)
+      → ((v : Vehicle) → IsHeld d c r v
+      → Agrees (bare r) (record (rows_of v.callsign r) { vehicle = Some v }) → Kept (f v))
+      → Kept (where_held (held d c r) (lent d c r) f)
   held_kept c f g = (elim (held d c r) as (λ (o : Option Vehicle). held d c r ≡ o → Kept (where_held o (lent d c r) f)) [
     | None ↦ λ e. w
     | Some v ↦ λ e. let is = held_is d c r v e in g v is (known (bare r) (rows_of v.callsign r) v is.there (agreed r w v.callsign))
   ]) refl
 
-  pub active_kept : (n : ℕ) (f : Incident → Verdict) → ((i : Incident) → incident_of d n r ≡ Some i → is_active i.state ≡ true → Kept (f i)) → Kept (where_active (incident_of d n r) f)
+  pub active_kept : (n : ℕ) (f : Incident → Verdict)
+      → ((i : Incident) → incident_of d n r ≡ Some i → is_active i.state ≡ true → Kept (f i))
+      → Kept (where_active (incident_of d n r) f)
   active_kept n f g = (elim (incident_of d n r) as (λ (o : Option Incident). incident_of d n r ≡ o → Kept (where_active o f)) [
     | None ↦ λ e. w
     | Some i ↦ λ e. refuse_kept _ _ _ (λ active. g i e (is_true _ active))
@@ -103,10 +114,15 @@ module _ (d : ℕ) (r : Room) (w : IsWellFormed r) where
   off_kept c = held_kept c off_duty (λ v is h. refuse_kept _ _ _ (λ idle. refuse_kept _ _ _ (λ free.
       kept_by v.callsign r (PutVehicle (record v { status = OffDuty; post = None }) ∷ []) w (refl, tt) (idle_agrees (bare r) (rows_of v.callsign r) v h (record v { status = OffDuty; post = None }) idle refl (sym (free_is_idle v.status (is_true _ free)).1) refl refl refl refl tt))))
 
-  posted_kept : (c : Callsign) (v : Vehicle) → IsHeld d c r v → Agrees (bare r) (record (rows_of v.callsign r) { vehicle = Some v }) → (p : Option ℕ) → is_free v.status ≡ true → IsPost (bare r) (record v { post = p }) p → Kept (posted v p)
+  posted_kept : (c : Callsign) (v : Vehicle) → IsHeld d c r v
+      → Agrees (bare r) (record (rows_of v.callsign r) { vehicle = Some v }) → (p : Option ℕ)
+      → is_free v.status ≡ true → IsPost (bare r) (record v { post = p }) p → Kept (posted v p)
   posted_kept c v is h p free post = let idle = (free_is_idle v.status free).0 in kept_by v.callsign r (PutVehicle (record v { post = p }) ∷ []) w (refl, tt) (idle_agrees (bare r) (rows_of v.callsign r) v h (record v { post = p }) idle idle refl refl refl refl refl post)
 
-  at_point : (c : Callsign) (v : Vehicle) → IsHeld d c r v → Agrees (bare r) (record (rows_of v.callsign r) { vehicle = Some v }) → is_free v.status ≡ true → (at : ℕ) (p : Option ℕ) → Kept (standby_at p (λ n. is_some (point_of d n r)) at v)
+  at_point : (c : Callsign) (v : Vehicle) → IsHeld d c r v
+      → Agrees (bare r) (record (rows_of v.callsign r) { vehicle = Some v })
+      → is_free v.status ≡ true → (at : ℕ) (p : Option ℕ)
+      → Kept (standby_at p (λ n. is_some (point_of d n r)) at v)
   unfolding point_of
   at_point c v is h free at None = posted_kept c v is h None free tt
   at_point c v is h free at (Some n) = refuse_kept _ _ _ (λ later. refuse_kept _ _ _ (λ there. posted_kept c v is h (Some n) free (free, subst (λ k. is_some (row_at pair_cmp point_key r.points (k, n)) ≡ true) (sym is.holder) (is_true _ there))))
@@ -116,8 +132,16 @@ module _ (d : ℕ) (r : Room) (w : IsWellFormed r) where
   standby_kept c p at = held_kept c (stands_by p (λ n. is_some (point_of d n r)) at) (λ v is h. refuse_kept _ _ _ (λ free. at_point c v is h (is_true _ free) at p))
 
   -- ---- orders
-  ordered_kept : (n : ℕ) (c : Callsign) (at : ℕ) (i : Incident) → incident_of d n r ≡ Some i → is_active i.state ≡ true → (v : Vehicle) → IsHeld d c r v → is_free v.status ≡ true
-      → IsWellFormed (apply r (PutIncident (record i { first_order = first_of i.first_order at }) ∷ PutVehicle (record v { status = Mobilised; post = None; last_order = v.last_order + 1 }) ∷ PutTurn (turn_row d i.number at v) ∷ PutAssignment (assignment_row d i v) ∷ []))
+  ordered_kept : (n : ℕ) (c : Callsign) (at : ℕ) (i : Incident) → incident_of d n r ≡ Some i
+      → is_active i.state ≡ true → (v : Vehicle) → IsHeld d c r v → is_free v.status ≡ true
+      → IsWellFormed (apply r (PutIncident (record i { first_order = first_of i.first_order at })
+      ∷ PutVehicle (record v {
+        status = Mobilised;
+        post = None;
+        last_order =
+            v.last_order + 1;
+      }) ∷ PutTurn (turn_row d i.number at v)
+      ∷ PutAssignment (assignment_row d i v) ∷ []))
   unfolding incident_of
   ordered_kept n c at i e active v is free =
       let x : Incident = record i { first_order = first_of i.first_order at } in
@@ -135,7 +159,17 @@ module _ (d : ℕ) (r : Room) (w : IsWellFormed r) where
   mobilise_kept n c at = active_kept n (mobilise_held d (held d c r) (lent d c r) at (λ k. served d n k r)) (λ i e active. held_kept c (mobilised d i at (λ k. served d n k r)) (λ v is h. refuse_kept _ _ _ (λ free. refuse_kept _ _ _ (λ later. refuse_kept _ _ _ (λ needed. refuse_kept _ _ _ (λ left. ordered_kept n c at i e active v is (is_true _ free)))))))
 
   -- what stands of a vehicle that is stood down
-  stood_by_turn : (c : Callsign) (v : Vehicle) (at : ℕ) → IsHeld d c r v → (o : Option Turn) → open_turn d c r ≡ o → Agrees (bare r) (record (rows_of v.callsign r) { vehicle = Some (record v { status = Returning }); assignment = None; turn = with_turn (stood_down_turn at) o (rows_of v.callsign r).turn }) → Kept (done (turn_stood_down at o ++ DropAssignment v.callsign ∷ PutVehicle (record v { status = Returning }) ∷ []))
+  stood_by_turn : (c : Callsign) (v : Vehicle) (at : ℕ) → IsHeld d c r v → (o : Option Turn)
+      → open_turn d c r ≡ o → Agrees (bare r)
+      (record (rows_of v.callsign r) {
+        vehicle = Some
+            (record v { status = Returning });
+        assignment = None;
+        turn = with_turn
+            (stood_down_turn at) o (rows_of v.callsign r).turn;
+      })
+      → Kept (done (turn_stood_down at o ++ DropAssignment v.callsign
+      ∷ PutVehicle (record v { status = Returning }) ∷ []))
   stood_by_turn c v at is None e all = kept_by v.callsign r (DropAssignment v.callsign ∷ PutVehicle (record v { status = Returning }) ∷ []) w (refl, (refl, tt)) all
   stood_by_turn c v at is (Some t) e all = kept_by v.callsign r (PutTurn (stood_down_turn at t) ∷ DropAssignment v.callsign ∷ PutVehicle (record v { status = Returning }) ∷ []) w ((open_there d c r w.order t e).2 ∙ is.key, (refl, (refl, tt))) all
 

@@ -30,18 +30,23 @@ use Rattle.room_model.specs.Room.{IsInOrder, Room}
 use Rattle.room_model.specs.WellFormed.{CallAgrees, IsGiven, IsOfIncident, IsWellFormed, NumberAgrees, OpenedAgrees}
 
 -- a row that is there stays, where one with a new key is put
-pub row_stays : {R K : Type 0} (cmp : K → K → Ordering) (key : R → K) (total : IsTotalOrder cmp) (exact : CmpEqualImpliesEq cmp) (xs : List R) (x y : R) → row_at cmp key xs (key x) ≡ None → (k : K) → row_at cmp key xs k ≡ Some y → row_at cmp key (put_row cmp key xs x) k ≡ Some y
+pub row_stays : {R K : Type 0} (cmp : K → K → Ordering) (key : R → K) (total : IsTotalOrder cmp)
+    (exact : CmpEqualImpliesEq cmp) (xs : List R) (x y : R) → row_at cmp key xs (key x) ≡ None
+    → (k : K) → row_at cmp key xs k ≡ Some y → row_at cmp key (put_row cmp key xs x) k ≡ Some y
 row_stays cmp key total exact xs x y absent = put_rows cmp key total exact (λ k o. row_at cmp key xs k ≡ Some y → o ≡ Some y) xs x (λ e. cc) (λ k apart e. e)
 
 -- what opened an incident opened it in a room that has its calls
-pub opened_with : (r s : Room) (o : Option Incident) → ((k : ℕ × ℕ) (c : Call) → row_at pair_cmp call_key r.calls k ≡ Some c → row_at pair_cmp call_key s.calls k ≡ Some c) → OpenedAgrees r o → OpenedAgrees s o
+pub opened_with : (r s : Room) (o : Option Incident)
+    → ((k : ℕ × ℕ) (c : Call) → row_at pair_cmp call_key r.calls k ≡ Some c
+    → row_at pair_cmp call_key s.calls k ≡ Some c) → OpenedAgrees r o → OpenedAgrees s o
 opened_with r s None f h = tt
 opened_with r s (Some i) f h = λ m. let o = h m in record { position = o.position; serial = o.serial; first_call = o.first_call; there = f (o.position, o.serial) o.first_call o.there; same = o.same }
 
 pub min_either : (a b : ℕ) → (min a b ≡ a) ⊎ (min a b ≡ b)
 min_either a b = grind arith
 
-least_among : {X : Type 0} (lt : X → X → Bool) (o : Option X) (xs : List X) (x : X) → least_from lt o xs ≡ Some x → (o ≡ Some x) ⊎ Among x xs
+least_among : {X : Type 0} (lt : X → X → Bool) (o : Option X) (xs : List X) (x : X)
+    → least_from lt o xs ≡ Some x → (o ≡ Some x) ⊎ Among x xs
 least_among lt o [] x e = inl e
 least_among lt None (y ∷ ys) x e = elim (least_among lt (Some y) ys x e) [
   | inl f ↦ let same : x ≡ y = cc in inr (inl same)
@@ -59,7 +64,9 @@ least_among {X} lt (Some z) (y ∷ ys) x e = (elim (lt y z) as (λ (b : Bool). l
 ]) e
 
 -- an incident that a call is linked to is an active one of the division
-link_there : (d : ℕ) (p : Place) (at : ℕ) (r : Room) → IsInOrder r → (i : Incident) → link_target d p at r ≡ Some i → (row_at pair_cmp incident_key r.incidents (i.division, i.number) ≡ Some i) × (i.division ≡ d) × (is_active i.state ≡ true)
+link_there : (d : ℕ) (p : Place) (at : ℕ) (r : Room) → IsInOrder r → (i : Incident)
+    → link_target d p at r ≡ Some i → (row_at pair_cmp incident_key r.incidents
+    (i.division, i.number) ≡ Some i) × (i.division ≡ d) × (is_active i.state ≡ true)
 unfolding link_target
 link_there d p at r order i e =
     elim (least_among (is_nearer p) None (filter (is_candidate d p at) r.incidents) i e) [
@@ -67,9 +74,11 @@ link_there d p at r order i e =
       | inr a ↦ let f = among_filter (is_candidate d p at) r.incidents i a in (row_among pair_cmp incident_key pairs_total r.incidents i order.incidents f.0, eqb-true i.division d (left_true (i.division == d) _ f.1), left_true (is_active i.state) _ (right_true (i.division == d) _ f.1))
     ]
 
-module _ (d : ℕ) (r : Room) (w : IsWellFormed r) (new : NewCall) (absent : row_at pair_cmp call_key r.calls (new.position, new.serial) ≡ None) where
+module _ (d : ℕ) (r : Room) (w : IsWellFormed r) (new : NewCall)
+    (absent : row_at pair_cmp call_key r.calls (new.position, new.serial) ≡ None) where
   -- a call that is linked
-  module _ (i : Incident) (there : row_at pair_cmp incident_key r.incidents (i.division, i.number) ≡ Some i) (mine : i.division ≡ d) (active : is_active i.state ≡ true) where
+  module _ (i : Incident) (there : row_at pair_cmp incident_key r.incidents (i.division, i.number)
+      ≡ Some i) (mine : i.division ≡ d) (active : is_active i.state ≡ true) where
     abbrev linked : Room
     linked = record r { incidents = put_row pair_cmp incident_key r.incidents (with_call new i); calls = put_row pair_cmp call_key r.calls (call_row d i.number true new) }
 

@@ -45,7 +45,8 @@ propose_kept : (d n at : ℕ) (r : Room) (w : IsWellFormed r) → Kept d r w (pr
 unfolding propose
 propose_kept d n at r w = active_kept d r w n (λ i. show (answer.Proposals (all_proposed d i at r))) (λ i e active. w)
 
-desk_kept : (d : ℕ) (a : Ask) (at : ℕ) (r : Room) (w : IsWellFormed r) → has_division r.plan d ≡ true → Kept d r w (desk_asks d a at r)
+desk_kept : (d : ℕ) (a : Ask) (at : ℕ) (r : Room) (w : IsWellFormed r)
+    → has_division r.plan d ≡ true → Kept d r w (desk_asks d a at r)
 unfolding show_incidents show_vehicles show_queue show_points show_loans show_offers show_times
 desk_kept d (ask.Call f) at r w h = w
 desk_kept d ask.Incidents at r w h = w
@@ -75,25 +76,30 @@ desk_kept d (ask.Times from to) at r w h = w
 desk_kept d ask.Order at r w h = w
 desk_kept d (ask.Report p) at r w h = w
 
-position_kept : (p : ℕ) (a : Ask) (at : ℕ) (r : Room) (w : IsWellFormed r) → Kept 0 r w (position_asks p a at r)
+position_kept : (p : ℕ) (a : Ask) (at : ℕ) (r : Room) (w : IsWellFormed r)
+    → Kept 0 r w (position_asks p a at r)
 position_kept p (ask.Call f) at r w = take_call_kept r w (new_call p f at)
 position_kept p a at r w = w
 
-show_order_kept : (v : Option Vehicle) (a : Option Assignment) (r : Room) (w : IsWellFormed r) → Kept 0 r w (order_of v a)
+show_order_kept : (v : Option Vehicle) (a : Option Assignment) (r : Room) (w : IsWellFormed r)
+    → Kept 0 r w (order_of v a)
 show_order_kept None a r w = w
 show_order_kept (Some v) a r w = w
 
-crew_kept : (c : Callsign) (a : Ask) (at : ℕ) (r : Room) (w : IsWellFormed r) → IsNumbered a → Kept 0 r w (crew_asks c a at r)
+crew_kept : (c : Callsign) (a : Ask) (at : ℕ) (r : Room) (w : IsWellFormed r) → IsNumbered a
+    → Kept 0 r w (crew_asks c a at r)
 crew_kept c ask.Order at r w h = show_order_kept (vehicle_at c r) (assignment_at c r) r w
 crew_kept c (ask.Report p) at r w h = take_report_kept c r w p at h
 crew_kept c a at r w h = w
 
-who_kept : (who : Who) (a : Ask) (at : ℕ) (r : Room) (w : IsWellFormed r) → is_for who a r ≡ true → IsNumbered a → Kept 0 r w (who_asks who a at r)
+who_kept : (who : Who) (a : Ask) (at : ℕ) (r : Room) (w : IsWellFormed r) → is_for who a r ≡ true
+    → IsNumbered a → Kept 0 r w (who_asks who a at r)
 who_kept (Desk d) a at r w h n = desk_kept d a at r w (right_true (is_desks a) (has_division r.plan d) h)
 who_kept (Position p) a at r w h n = position_kept p a at r w
 who_kept (Crew c) a at r w h n = crew_kept c a at r w n
 
-pub event_kept : (e : Event) (r : Room) → IsWellFormed r → IsAddressed e r → IsNumbered e.ask → IsWellFormed (room_after e r)
+pub event_kept : (e : Event) (r : Room) → IsWellFormed r → IsAddressed e r → IsNumbered e.ask
+    → IsWellFormed (room_after e r)
 event_kept e r w h n = who_kept e.who e.ask e.at r w h n
 
 -- ---- an event takes no address away
@@ -120,14 +126,17 @@ plan_stays r (x ∷ xs) = plan_stays (apply_one r x) xs ∙ plan_one r x
 abbrev IsThere : Callsign → List Vehicle → Type 0
 IsThere c vs = is_some (row_at callsign_cmp vehicle_key vs c) ≡ true
 
-pub put_there : (c : Callsign) (vs : List Vehicle) (v : Vehicle) → IsThere c vs → IsThere c (put_row callsign_cmp vehicle_key vs v)
+pub put_there : (c : Callsign) (vs : List Vehicle) (v : Vehicle) → IsThere c vs
+    → IsThere c (put_row callsign_cmp vehicle_key vs v)
 put_there c vs v h = vehicles_put (λ k o. is_some (row_at callsign_cmp vehicle_key vs k) ≡ true → is_some o ≡ true) vs v (λ f. refl) (λ k apart f. f) c h
 
-settled_there : (c : Callsign) (o : Option Vehicle) (d : ℕ) (vs : List Vehicle) → IsThere c vs → IsThere c (settled o d vs)
+settled_there : (c : Callsign) (o : Option Vehicle) (d : ℕ) (vs : List Vehicle) → IsThere c vs
+    → IsThere c (settled o d vs)
 settled_there c None d vs h = h
 settled_there c (Some v) d vs h = put_there c vs (settle d v) h
 
-there_one : (c : Callsign) (r : Room) (x : Change) → IsThere c r.vehicles → IsThere c (apply_one r x).vehicles
+there_one : (c : Callsign) (r : Room) (x : Change) → IsThere c r.vehicles
+    → IsThere c (apply_one r x).vehicles
 there_one c r (PutVehicle x) h = put_there c r.vehicles x h
 there_one c r (Settle k d) h = settled_there c (row_at callsign_cmp vehicle_key r.vehicles k) d r.vehicles h
 there_one c r (PutDivision x) h = h
@@ -143,24 +152,29 @@ there_one c r (DropAssignment k) h = h
 there_one c r (DropLoan k) h = h
 there_one c r (DropOffer k) h = h
 
-there_still : (c : Callsign) (r : Room) (xs : List Change) → IsThere c r.vehicles → IsThere c (apply r xs).vehicles
+there_still : (c : Callsign) (r : Room) (xs : List Change) → IsThere c r.vehicles
+    → IsThere c (apply r xs).vehicles
 there_still c r [] h = h
 there_still c r (x ∷ xs) h = there_still c (apply_one r x) xs (there_one c r x h)
 
-still_for : (who : Who) (a : Ask) (r : Room) (xs : List Change) → is_for who a r ≡ true → is_for who a (apply r xs) ≡ true
+still_for : (who : Who) (a : Ask) (r : Room) (xs : List Change) → is_for who a r ≡ true
+    → is_for who a (apply r xs) ≡ true
 unfolding vehicle_at
 still_for (Desk d) a r xs h = both_true (is_desks a) _ (left_true (is_desks a) _ h) (ap (λ p. has_division p d) (plan_stays r xs) ∙ right_true (is_desks a) _ h)
 still_for (Position p) a r xs h = h
 still_for (Crew c) a r xs h = both_true (is_crews a) _ (left_true (is_crews a) _ h) (there_still c r xs (right_true (is_crews a) _ h))
 
-pub addressed_still : (es : List Event) (r : Room) (xs : List Change) → AreAddressed es r → AreAddressed es (apply r xs)
+pub addressed_still : (es : List Event) (r : Room) (xs : List Change) → AreAddressed es r
+    → AreAddressed es (apply r xs)
 addressed_still [] r xs h = tt
 addressed_still (e ∷ es) r xs h = (still_for e.who e.ask r xs h.0, h.1, addressed_still es r xs h.2)
 
-pub addressed_run : (es : List Event) (r : Room) (e : Event) → IsAddressed e r → IsAddressed e (room_run es r)
+pub addressed_run : (es : List Event) (r : Room) (e : Event) → IsAddressed e r
+    → IsAddressed e (room_run es r)
 addressed_run [] r e h = h
 addressed_run (other ∷ es) r e h = addressed_run es (room_after other r) e (still_for e.who e.ask r (changes_of (decided other r)) h)
 
-pub run_kept : (es : List Event) (r : Room) → IsWellFormed r → AreAddressed es r → IsWellFormed (room_run es r)
+pub run_kept : (es : List Event) (r : Room) → IsWellFormed r → AreAddressed es r
+    → IsWellFormed (room_run es r)
 run_kept [] r w h = w
 run_kept (e ∷ es) r w h = run_kept es (room_after e r) (event_kept e r w h.0 h.1) (addressed_still es r (changes_of (decided e r)) h.2)

@@ -34,7 +34,8 @@ use Rattle.room_model.specs.Room.{Room}
 use Rattle.room_model.specs.WellFormed.{IsWellFormed}
 
 -- where none of a list passes, no element does
-none_any : {X : Type 0} (p : X → Bool) (xs : List X) (x : X) → list_any p xs ≡ false → Among x xs → p x ≡ true → ⊥
+none_any : {X : Type 0} (p : X → Bool) (xs : List X) (x : X) → list_any p xs ≡ false → Among x xs
+    → p x ≡ true → ⊥
 none_any p [] x e a t = absurd a
 none_any {X} p (y ∷ ys) x e a t = (elim (p y) as (λ (b : Bool). p y ≡ b → b || list_any p ys ≡ false → ⊥) [
   | true ↦ λ g f. cc
@@ -45,7 +46,9 @@ none_any {X} p (y ∷ ys) x e a t = (elim (p y) as (λ (b : Bool). p y ≡ b →
 ]) refl e
 
 -- an incident that nobody attends has no open turn
-pub unattended : (d n : ℕ) (r : Room) → is_attended d n r ≡ false → (c : Callsign) (m : ℕ) (t : Turn) → row_at numbered_cmp turn_key r.turns (c, m) ≡ Some t → t.ended ≡ None → t.division ≡ d → t.incident ≡ n → ⊥
+pub unattended : (d n : ℕ) (r : Room) → is_attended d n r ≡ false
+    → (c : Callsign) (m : ℕ) (t : Turn) → row_at numbered_cmp turn_key r.turns (c, m) ≡ Some t
+    → t.ended ≡ None → t.division ≡ d → t.incident ≡ n → ⊥
 unfolding is_attended
 unattended d n r e c m t there unended division incident = none_any (λ t. t.division == d && (t.incident == n && is_none t.ended)) r.turns t e (row_there numbered_cmp turn_key r.turns (c, m) t there)
     (both_true (t.division == d) _ (eq-eqb t.division d division) (both_true (t.incident == n) _ (eq-eqb t.incident n incident) (ap is_none unended)))
@@ -58,7 +61,9 @@ active_not_merged (Merged n) e = cc
 
 module _ (d : ℕ) (r : Room) (w : IsWellFormed r) where
   -- an incident that was found is at its key
-  pub incident_there : (n : ℕ) (i : Incident) → incident_of d n r ≡ Some i → (row_at pair_cmp incident_key r.incidents (i.division, i.number) ≡ Some i) × (d ≡ i.division) × (n ≡ i.number)
+  pub incident_there : (n : ℕ) (i : Incident) → incident_of d n r ≡ Some i
+      → (row_at pair_cmp incident_key r.incidents (i.division, i.number) ≡ Some i)
+      × (d ≡ i.division) × (n ≡ i.number)
   unfolding incident_of
   incident_there n i e = let key = found_key r d n i e in (subst (λ (k : ℕ × ℕ). row_at pair_cmp incident_key r.incidents k ≡ Some i) (λ j. (key.0 j, key.1 j)) e, key.0, key.1)
 
@@ -74,7 +79,8 @@ module _ (d : ℕ) (r : Room) (w : IsWellFormed r) where
       renewed_kept r w i (record i { state = Closed }) f.0 (record { division = refl; number = refl; opened = refl; merged = sym (active_not_merged i.state active) })
       (λ c m t is. absurd (unattended d n r quiet c m t is.there is.unended (ap (λ (k : ℕ × ℕ). k.0) is.incident ∙ sym f.1) (ap (λ (k : ℕ × ℕ). k.1) is.incident ∙ sym f.2)))))
 
-  cleared_kept : (c : Callsign) (n : ℕ) (o : Option Report) → report_of d c n r ≡ o → Kept d r w (clear_found o)
+  cleared_kept : (c : Callsign) (n : ℕ) (o : Option Report) → report_of d c n r ≡ o
+      → Kept d r w (clear_found o)
   unfolding report_of
   cleared_kept c n None e = w
   cleared_kept c n (Some x) e = refuse_kept d r w _ _ _ (λ exceptional.
@@ -88,7 +94,8 @@ module _ (d : ℕ) (r : Room) (w : IsWellFormed r) where
   clear_kept c n = cleared_kept c n (report_of d c n r) refl
 
   -- a point of a division of the plan
-  pub set_point_kept : (n : ℕ) (place : Place) (cover : ℕ) → has_division r.plan d ≡ true → Kept d r w (set_point d n place cover)
+  pub set_point_kept : (n : ℕ) (place : Place) (cover : ℕ) → has_division r.plan d ≡ true
+      → Kept d r w (set_point d n place cover)
   set_point_kept n place cover planned =
       let x : Point = record { division = d; number = n; place = place; cover = cover } in
       let s = record r { points = put_row pair_cmp point_key r.points x } in

@@ -30,11 +30,13 @@ pub not_equal : (a b : ℕ) → a == b ≡ false → a ≢ b
 not_equal a b e same = let alike : a == b ≡ true = eq-eqb a b same in cc
 
 -- a mark on a loan changes nothing that is agreed of it
-loan_marked : (o : Option Vehicle) (l : Loan) → LoanAgrees o (Some l) → LoanAgrees o (Some (record l { recalled = true }))
+loan_marked : (o : Option Vehicle) (l : Loan) → LoanAgrees o (Some l)
+    → LoanAgrees o (Some (record l { recalled = true }))
 loan_marked None l h = h
 loan_marked (Some v) l h = h
 
-marked_agrees : (s : Room) (p : VehicleRows) (l : Loan) → p.loan ≡ Some l → Agrees s p → Agrees s (record p { loan = Some (record l { recalled = true }) })
+marked_agrees : (s : Room) (p : VehicleRows) (l : Loan) → p.loan ≡ Some l → Agrees s p
+    → Agrees s (record p { loan = Some (record l { recalled = true }) })
 marked_agrees s p l there h = record {
   loan = loan_marked p.vehicle l (subst (LoanAgrees p.vehicle) there h.loan);
   offer = h.offer;
@@ -52,7 +54,8 @@ marked_agrees s p l there h = record {
 }
 
 -- a vehicle's lender is its home, whether or not the loan is known
-pub lender_home : (v : Vehicle) (o l : Option Loan) → LoanAgrees (Some v) o → (l ≡ None) ⊎ (l ≡ o) → lender_of v l ≡ v.home
+pub lender_home : (v : Vehicle) (o l : Option Loan) → LoanAgrees (Some v) o → (l ≡ None) ⊎ (l ≡ o)
+    → lender_of v l ≡ v.home
 lender_home v o None h e = refl
 lender_home v None (Some l) h e = elim e [ inl f ↦ cc | inr f ↦ cc ]
 lender_home v (Some k) (Some l) h e = elim e [
@@ -85,7 +88,8 @@ module _ (d : ℕ) (r : Room) (w : IsWellFormed r) where
     pub agrees : Agrees (bare r) (record (rows_of o.callsign r) { vehicle = Some vehicle })
     pub offer : OfferAgrees r.plan (Some vehicle) (Some o)
 
-  is_offer : (c : Callsign) (o : Offer) → row_at callsign_cmp offer_key r.offers c ≡ Some o → IsOffer c o
+  is_offer : (c : Callsign) (o : Offer) → row_at callsign_cmp offer_key r.offers c ≡ Some o
+      → IsOffer c o
   is_offer c o e =
       let key : c ≡ o.callsign = row_key callsign_cmp offer_key callsigns_total exact_callsigns r.offers c o e in
       let found : row_at callsign_cmp offer_key r.offers o.callsign ≡ Some o = subst (λ k. row_at callsign_cmp offer_key r.offers k ≡ Some o) key e in
@@ -94,7 +98,9 @@ module _ (d : ℕ) (r : Room) (w : IsWellFormed r) where
         | Some v ↦ λ f g. record { vehicle = v; key = key; there = f; agrees = known (bare r) (rows_of o.callsign r) v f (agreed r w o.callsign); offer = g }
       ]) refl (subst (λ x. OfferAgrees r.plan (row_at callsign_cmp vehicle_key r.vehicles o.callsign) x) found (w.offers o.callsign))
 
-  withdrawn_kept : (c : Callsign) (v : Vehicle) → IsHeld d c r v → Agrees (bare r) (record (rows_of v.callsign r) { vehicle = Some v }) → (o : Option Offer) → offered_by d c r ≡ o → Kept d r w (withdrawn o v)
+  withdrawn_kept : (c : Callsign) (v : Vehicle) → IsHeld d c r v
+      → Agrees (bare r) (record (rows_of v.callsign r) { vehicle = Some v }) → (o : Option Offer)
+      → offered_by d c r ≡ o → Kept d r w (withdrawn o v)
   unfolding offered_by
   withdrawn_kept c v is h None e = w
   withdrawn_kept c v is h (Some o) e =
@@ -123,7 +129,8 @@ module _ (d : ℕ) (r : Room) (w : IsWellFormed r) where
   unfolding decline
   decline_kept c = declined_kept c (offered_to d c r) refl
 
-  accepted_kept : (c : Callsign) (o : Option Offer) (at : ℕ) → offered_to d c r ≡ o → Kept d r w (accepted o at)
+  accepted_kept : (c : Callsign) (o : Option Offer) (at : ℕ) → offered_to d c r ≡ o
+      → Kept d r w (accepted o at)
   unfolding offered_to
   accepted_kept c None at e = w
   accepted_kept c (Some o) at e =
@@ -138,7 +145,8 @@ module _ (d : ℕ) (r : Room) (w : IsWellFormed r) where
   unfolding accept
   accept_kept c at = accepted_kept c (offered_to d c r) at refl
 
-  recalled_kept : (c : Callsign) (l : Option Loan) (v : Option Vehicle) → lent d c r ≡ l → Kept d r w (recall_lent l v)
+  recalled_kept : (c : Callsign) (l : Option Loan) (v : Option Vehicle) → lent d c r ≡ l
+      → Kept d r w (recall_lent l v)
   unfolding lent
   recalled_kept c None None e = w
   recalled_kept c None (Some v) e = w
@@ -153,7 +161,9 @@ module _ (d : ℕ) (r : Room) (w : IsWellFormed r) where
   recall_kept c = recalled_kept c (lent d c r) (held d c r) refl
 
   -- the loan of a vehicle that the division borrows, if there is one, is from its home
-  pub lender_is_home : (c : Callsign) (v : Vehicle) → IsHeld d c r v → Agrees (bare r) (record (rows_of v.callsign r) { vehicle = Some v }) → lender_of v (borrowed d c r) ≡ v.home
+  pub lender_is_home : (c : Callsign) (v : Vehicle) → IsHeld d c r v
+      → Agrees (bare r) (record (rows_of v.callsign r) { vehicle = Some v })
+      → lender_of v (borrowed d c r) ≡ v.home
   unfolding borrowed
   lender_is_home c v is h = subst (λ (k : Callsign). lender_of v (keep (λ l. l.borrower == d) (row_at callsign_cmp loan_key r.loans k)) ≡ v.home) (sym is.key) (lender_home v (row_at callsign_cmp loan_key r.loans v.callsign) _ h.loan (keep_either (λ l. l.borrower == d) (row_at callsign_cmp loan_key r.loans v.callsign)))
 
@@ -164,6 +174,7 @@ module _ (d : ℕ) (r : Room) (w : IsWellFormed r) where
       (returned_agrees (bare r) (rows_of v.callsign r) v h (record v { holder = lender_of v (borrowed d c r); post = None }) (λ same. not_equal v.home d away (sym same ∙ is.holder)) idle idle refl refl (lender_is_home c v is h) refl refl refl))))
 
 -- the loan that a division borrows by is none, or the one that is there
-pub borrowed_either : (d : ℕ) (c : Callsign) (r : Room) (v : Vehicle) → c ≡ v.callsign → (borrowed d c r ≡ None) ⊎ (borrowed d c r ≡ row_at callsign_cmp loan_key r.loans v.callsign)
+pub borrowed_either : (d : ℕ) (c : Callsign) (r : Room) (v : Vehicle) → c ≡ v.callsign
+    → (borrowed d c r ≡ None) ⊎ (borrowed d c r ≡ row_at callsign_cmp loan_key r.loans v.callsign)
 unfolding borrowed
 borrowed_either d c r v e = subst (λ (k : Callsign). (keep (λ l. l.borrower == d) (row_at callsign_cmp loan_key r.loans c) ≡ None) ⊎ (keep (λ l. l.borrower == d) (row_at callsign_cmp loan_key r.loans c) ≡ row_at callsign_cmp loan_key r.loans k)) e (keep_either (λ l. l.borrower == d) (row_at callsign_cmp loan_key r.loans c))

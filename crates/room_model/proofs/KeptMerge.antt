@@ -31,7 +31,8 @@ abbrev pub put_calls : ℕ → List Call → List Call → List Call
 put_calls m [] xs = xs
 put_calls m (c ∷ cs) xs = put_calls m cs (put_row pair_cmp call_key xs (record c { incident = m }))
 
-put_all : (m : ℕ) (cs : List Call) (r : Room) → apply r (map (moved_call m) cs) ≡ record r { calls = put_calls m cs r.calls }
+put_all : (m : ℕ) (cs : List Call) (r : Room)
+    → apply r (map (moved_call m) cs) ≡ record r { calls = put_calls m cs r.calls }
 put_all m [] r = refl
 put_all m (c ∷ cs) r = put_all m cs (apply_one r (moved_call m c))
 
@@ -40,7 +41,9 @@ abbrev moved_row : ℕ → Option Call → Option Call → Option Call
 moved_row m None o = o
 moved_row m (Some c) o = Some (record c { incident = m })
 
-moved_at : (m : ℕ) (cs xs : List Call) (k : ℕ × ℕ) → IsKeyed pair_cmp call_key cs → row_at pair_cmp call_key (put_calls m cs xs) k ≡ moved_row m (row_at pair_cmp call_key cs k) (row_at pair_cmp call_key xs k)
+moved_at : (m : ℕ) (cs xs : List Call) (k : ℕ × ℕ) → IsKeyed pair_cmp call_key cs
+    → row_at pair_cmp call_key (put_calls m cs xs) k
+    ≡ moved_row m (row_at pair_cmp call_key cs k) (row_at pair_cmp call_key xs k)
 moved_at m [] xs k keyed = refl
 moved_at m (c ∷ cs) xs k keyed =
     moved_at m cs (put_row pair_cmp call_key xs (record c { incident = m })) k keyed.1
@@ -64,7 +67,9 @@ module _ (d : ℕ) (r : Room) (w : IsWellFormed r) (n m : Incident)
   abbrev merged : Room
   merged = record r { incidents = put_row pair_cmp incident_key (put_row pair_cmp incident_key r.incidents (joined n m)) emptied; calls = put_calls m.number (calls_of d n.number r) r.calls }
 
-  call_after : (k : ℕ × ℕ) → row_at pair_cmp call_key merged.calls k ≡ moved_row m.number (keep moves (row_at pair_cmp call_key r.calls k)) (row_at pair_cmp call_key r.calls k)
+  call_after : (k : ℕ × ℕ) → row_at pair_cmp call_key merged.calls k
+      ≡ moved_row m.number (keep moves (row_at pair_cmp call_key r.calls k))
+      (row_at pair_cmp call_key r.calls k)
   unfolding calls_of
   call_after k =
       moved_at m.number (filter moves r.calls) r.calls k (keyed_filter pair_cmp call_key pairs_total moves r.calls w.order.calls)
@@ -83,7 +88,8 @@ module _ (d : ℕ) (r : Room) (w : IsWellFormed r) (n m : Incident)
       incidents_put (λ k o. k ≡ (d, m.number) → o ≡ Some (joined n m)) (put_row pair_cmp incident_key r.incidents (joined n m)) emptied (λ same. absurd (other (ap (λ (p : ℕ × ℕ). p.1) same)))
       (λ k apart same. ap (row_at pair_cmp incident_key (put_row pair_cmp incident_key r.incidents (joined n m))) same ∙ put_here pair_cmp incident_key pairs_total r.incidents (joined n m) (d, m.number) (λ i. (m_mine i, m.number))) (d, m.number) refl
 
-  moved_agrees : (c : Call) → moves c ≡ true → CallAgrees r (Some c) → CallAgrees merged (Some (record c { incident = m.number }))
+  moved_agrees : (c : Call) → moves c ≡ true → CallAgrees r (Some c)
+      → CallAgrees merged (Some (record c { incident = m.number }))
   moved_agrees c e h =
       let was : IsOfIncident c (Some n) = subst (IsOfIncident c) (ap (row_at pair_cmp incident_key r.incidents) (moves_from c e) ∙ n_there) h in
       let at = was.1 in
@@ -94,7 +100,8 @@ module _ (d : ℕ) (r : Room) (w : IsWellFormed r) (n m : Incident)
       incidents_put (λ k o. k ≡ (c.division, c.incident) → IsOfIncident c o) (put_row pair_cmp incident_key r.incidents (joined n m)) emptied (λ same. absurd (stays_with c e (sym same)))
       (λ k apart same. incidents_put (λ k o. IsOfIncident c (row_at pair_cmp incident_key r.incidents k) → IsOfIncident c o) r.incidents (joined n m) (no_later c _ m (joined n m) m_there (λ f. f) (omega arith)) (λ j q g. g) k (subst (λ j. IsOfIncident c (row_at pair_cmp incident_key r.incidents j)) (sym same) h)) (c.division, c.incident) refl
 
-  call_agrees : (o : Option Call) → CallAgrees r o → CallAgrees merged (moved_row m.number (keep moves o) o)
+  call_agrees : (o : Option Call) → CallAgrees r o
+      → CallAgrees merged (moved_row m.number (keep moves o) o)
   call_agrees None h = tt
   call_agrees (Some c) h = (elim (moves c) as (λ (b : Bool). moves c ≡ b → CallAgrees merged (moved_row m.number (cond b (Some c) None) (Some c))) [
     | true ↦ λ e. moved_agrees c e h
@@ -102,10 +109,13 @@ module _ (d : ℕ) (r : Room) (w : IsWellFormed r) (n m : Incident)
   ]) refl
 
   -- a call after the merge
-  call_moved : (k : ℕ × ℕ) (c : Call) → row_at pair_cmp call_key r.calls k ≡ Some c → moves c ≡ true → row_at pair_cmp call_key merged.calls k ≡ Some (record c { incident = m.number })
+  call_moved : (k : ℕ × ℕ) (c : Call) → row_at pair_cmp call_key r.calls k ≡ Some c
+      → moves c ≡ true → row_at pair_cmp call_key merged.calls k
+      ≡ Some (record c { incident = m.number })
   call_moved k c there e = call_after k ∙ ap (λ o. moved_row m.number (keep moves o) o) there ∙ ap (λ (b : Bool). moved_row m.number (cond b (Some c) None) (Some c)) e
 
-  call_stayed : (k : ℕ × ℕ) (c : Call) → row_at pair_cmp call_key r.calls k ≡ Some c → moves c ≡ false → row_at pair_cmp call_key merged.calls k ≡ Some c
+  call_stayed : (k : ℕ × ℕ) (c : Call) → row_at pair_cmp call_key r.calls k ≡ Some c
+      → moves c ≡ false → row_at pair_cmp call_key merged.calls k ≡ Some c
   call_stayed k c there e = call_after k ∙ ap (λ o. moved_row m.number (keep moves o) o) there ∙ ap (λ (b : Bool). moved_row m.number (cond b (Some c) None) (Some c)) e
 
   not_moved : (c : Call) → ((c.division, c.incident) ≡ incident_key n → ⊥) → moves c ≡ false
@@ -119,22 +129,46 @@ module _ (d : ℕ) (r : Room) (w : IsWellFormed r) (n m : Incident)
     | inl e ↦
         let o = subst (OpenedAgrees r) n_there (w.opened n.division n.number) (active_not_merged n.state n_active) in
         let c = o.first_call in
-        record { position = o.position; serial = o.serial; first_call = record c { incident = m.number }; there = call_moved (o.position, o.serial) c o.there (both_true (c.division == d) _ (eq-eqb c.division d (o.same.0 ∙ n_mine)) (eq-eqb c.incident n.number o.same.1)); same = (o.same.0 ∙ (n_mine ∙ sym m_mine), refl, o.same.2 ∙ sym e) }
+        record {
+          position = o.position;
+          serial = o.serial;
+          first_call = record c { incident = m.number };
+          there = call_moved (o.position, o.serial) c o.there
+              (both_true (c.division == d) _ (eq-eqb c.division d (o.same.0 ∙ n_mine))
+              (eq-eqb c.incident n.number o.same.1));
+          same = (o.same.0 ∙ (n_mine ∙ sym m_mine), refl, o.same.2 ∙ sym e);
+        }
     | inr e ↦
         let o = subst (OpenedAgrees r) m_there (w.opened m.division m.number) (active_not_merged m.state m_active) in
         let c = o.first_call in
-        record { position = o.position; serial = o.serial; first_call = c; there = call_stayed (o.position, o.serial) c o.there (not_moved c (λ same. other (sym (ap (λ (p : ℕ × ℕ). p.1) same) ∙ o.same.1))); same = (o.same.0, o.same.1, o.same.2 ∙ sym e) }
+        record {
+          position = o.position;
+          serial = o.serial;
+          first_call = c;
+          there = call_stayed (o.position, o.serial) c o.there
+              (not_moved c (λ same. other (sym (ap (λ (p : ℕ × ℕ). p.1) same) ∙ o.same.1)));
+          same = (o.same.0, o.same.1, o.same.2 ∙ sym e);
+        }
   ]
 
   -- another incident was opened by a call that stays
-  other_opened : (k : ℕ × ℕ) (o : Option Incident) → row_at pair_cmp incident_key r.incidents k ≡ o → is_eq (pair_cmp k (n.division, n.number)) ≡ false → OpenedAgrees r o → OpenedAgrees (bare merged) o
+  other_opened : (k : ℕ × ℕ) (o : Option Incident) → row_at pair_cmp incident_key r.incidents k ≡ o
+      → is_eq (pair_cmp k (n.division, n.number)) ≡ false → OpenedAgrees r o
+      → OpenedAgrees (bare merged) o
   other_opened k None e apart h = tt
   other_opened k (Some i) e apart h = λ f.
       let o = h f in
       let c = o.first_call in
       let key : k ≡ (i.division, i.number) = row_key pair_cmp incident_key pairs_total exact_pair r.incidents k i e in
       let here : (c.division, c.incident) ≡ incident_key i = λ j. (o.same.0 j, o.same.1 j) in
-      record { position = o.position; serial = o.serial; first_call = c; there = call_stayed (o.position, o.serial) c o.there (not_moved c (λ same. tied (sym (key ∙ (sym here ∙ same))) apart)); same = o.same }
+      record {
+        position = o.position;
+        serial = o.serial;
+        first_call = c;
+        there = call_stayed (o.position, o.serial) c o.there
+            (not_moved c (λ same. tied (sym (key ∙ (sym here ∙ same))) apart));
+        same = o.same;
+      }
     where
       tied : incident_key n ≡ k → is_eq (pair_cmp k (n.division, n.number)) ≡ false → ⊥
       tied same f = let yes_ : is_eq (pair_cmp k (n.division, n.number)) ≡ true = ap (λ j. is_eq (pair_cmp k j)) same ∙ ap is_eq (tied_itself pairs_total k) in cc
@@ -156,7 +190,9 @@ module _ (d : ℕ) (r : Room) (w : IsWellFormed r) (n m : Incident)
       })
 
   -- the changes come to that
-  changes_kept : IsWellFormed (apply r (PutIncident (joined n m) ∷ PutIncident emptied ∷ map (moved_call m.number) (calls_of d n.number r)))
+  changes_kept : IsWellFormed (apply r
+      (PutIncident (joined n m) ∷ PutIncident emptied
+      ∷ map (moved_call m.number) (calls_of d n.number r)))
   changes_kept =
       let same = put_all m.number (calls_of d n.number r) (with_incident (with_incident r (joined n m)) emptied) in
       subst IsWellFormed (sym same) (merged_kept (subst IsInOrder same (in_order_apply r (PutIncident (joined n m) ∷ PutIncident emptied ∷ map (moved_call m.number) (calls_of d n.number r)) w.order)))
@@ -165,7 +201,8 @@ pub merge_kept : (d : ℕ) (r : Room) (w : IsWellFormed r) (a b : ℕ) → Kept 
 unfolding merge
 merge_kept d r w a b = of (incident_of d a r) (incident_of d b r) refl refl
   where
-    of : (x y : Option Incident) → incident_of d a r ≡ x → incident_of d b r ≡ y → Kept d r w (merge_of x y (is_attended d a r) (calls_of d a r))
+    of : (x y : Option Incident) → incident_of d a r ≡ x → incident_of d b r ≡ y
+        → Kept d r w (merge_of x y (is_attended d a r) (calls_of d a r))
     of None y e f = w
     of (Some n) None e f = w
     of (Some n) (Some m) e f =

@@ -86,8 +86,10 @@ home OffDuty a e = absurd cc
 home Offered a e = record { busy = λ (e : true ≡ false). cc; idle = λ e. refl; offered = refl; free = λ (f : false ≡ true). cc }
 home s a e = comes_free s Available refl refl
 
--- a button that acts ends a vehicle's order just where it ends its turn, and neither offers it nor makes a free one busy
-table : (s : Status) (b : Button) (a : Bool) → Acts s b a → IsNext s (status_after s b) (ends_turn b)
+-- a button that acts ends a vehicle's order just where it ends its turn, and neither offers it nor
+-- makes a free one busy
+table : (s : Status) (b : Button) (a : Bool) → Acts s b a
+    → IsNext s (status_after s b) (ends_turn b)
 table s button.Position a e = stays s
 table s button.Mobile a e = stays s
 table s button.Scene a e = scene s a e
@@ -106,12 +108,14 @@ turn_of button.Hospital at t = record { order = refl; division = refl; incident 
 turn_of button.Return at t = record { order = refl; division = refl; incident = refl }
 turn_of button.Home at t = record { order = refl; division = refl; incident = refl }
 
-turn_ends : (b : Button) (at : ℕ) (t : Turn) → ends_turn b ≡ true → is_some (turn_after b at t).ended ≡ true
+turn_ends : (b : Button) (at : ℕ) (t : Turn) → ends_turn b ≡ true
+    → is_some (turn_after b at t).ended ≡ true
 turn_ends button.Return at t e = refl
 turn_ends button.Home at t e = refl
 turn_ends b at t e = cc
 
-turn_goes : (b : Button) (at : ℕ) (t : Turn) → ends_turn b ≡ false → (turn_after b at t).ended ≡ t.ended
+turn_goes : (b : Button) (at : ℕ) (t : Turn) → ends_turn b ≡ false
+    → (turn_after b at t).ended ≡ t.ended
 turn_goes button.Return at t e = cc
 turn_goes button.Home at t e = cc
 turn_goes button.Position at t e = refl
@@ -125,23 +129,38 @@ home_ends button.Home q e = (refl, e)
 home_ends b q e = cc
 
 -- a report that acts is judged by the table
-by_table : (v : Vehicle) (t : Option Turn) (p : Press) → acts (outcome_of v t p) ≡ true → Acts v.status p.button (is_acknowledged t)
+by_table : (v : Vehicle) (t : Option Turn) (p : Press) → acts (outcome_of v t p) ≡ true
+    → Acts v.status p.button (is_acknowledged t)
 by_table v t p e = past (nat_lt p.number v.last_report) (names_order p.button && not (p.order == v.last_order)) e
   where
-    past : (a b : Bool) → acts (cond a Late (cond b Stale (press v.status p.button (is_acknowledged t)))) ≡ true → Acts v.status p.button (is_acknowledged t)
+    past : (a b : Bool) → acts (cond a Late
+        (cond b Stale (press v.status p.button (is_acknowledged t)))) ≡ true
+        → Acts v.status p.button (is_acknowledged t)
     past true b f = cc
     past false true f = cc
     past false false f = f
 
 -- a vehicle that has to go back is away
-due_away : (v : Vehicle) (at : ℕ) (l o : Option Loan) → (l ≡ None) ⊎ (l ≡ o) → is_due at l ≡ true → LoanAgrees (Some v) o → v.holder ≢ v.home
+due_away : (v : Vehicle) (at : ℕ) (l o : Option Loan) → (l ≡ None) ⊎ (l ≡ o) → is_due at l ≡ true
+    → LoanAgrees (Some v) o → v.holder ≢ v.home
 due_away v at None o k e h = cc
 due_away v at (Some l) None k e h = elim k [ inl f ↦ cc | inr f ↦ cc ]
 due_away v at (Some l) (Some o) k e h = h.2
 
 -- ---- the rows after a report that acts
-rows_acted : (p : VehicleRows) (c : Callsign) (x : Report) (u : Vehicle) (b : Button) (at : ℕ) (t : Option Turn) (ends back : Bool)
-    → all_after p (PutReport x ∷ turn_changes b at t ++ (drop_changes c ends ++ (back_changes c back ++ PutVehicle u ∷ []))) ≡ record p { vehicle = Some u; loan = cond back None p.loan; assignment = cond ends None p.assignment; turn = with_turn (turn_after b at) t p.turn; report = put_at x.number x p.report }
+rows_acted : (p : VehicleRows) (c : Callsign) (x : Report) (u : Vehicle) (b : Button) (at : ℕ)
+    (t : Option Turn) (ends back : Bool)
+    → all_after p (PutReport x ∷ turn_changes b at t
+    ++ (drop_changes c ends ++ (back_changes c back ++ PutVehicle u ∷ [])))
+    ≡ record p {
+      vehicle = Some u;
+      loan = cond back None p.loan;
+      assignment =
+          cond ends None p.assignment;
+      turn = with_turn
+          (turn_after b at) t p.turn;
+      report = put_at x.number x p.report;
+    }
 rows_acted p c x u b at None true true = refl
 rows_acted p c x u b at None true false = refl
 rows_acted p c x u b at None false true = refl
@@ -151,7 +170,8 @@ rows_acted p c x u b at (Some t) true false = refl
 rows_acted p c x u b at (Some t) false true = refl
 rows_acted p c x u b at (Some t) false false = refl
 
-turn_concerns : (k : Callsign) (b : Button) (at : ℕ) (o : Option Turn) → ((t : Turn) → o ≡ Some t → t.callsign ≡ k) → AllConcern k (turn_changes b at o)
+turn_concerns : (k : Callsign) (b : Button) (at : ℕ) (o : Option Turn)
+    → ((t : Turn) → o ≡ Some t → t.callsign ≡ k) → AllConcern k (turn_changes b at o)
 turn_concerns k b at None f = tt
 turn_concerns k b at (Some t) f = (same b ∙ f t refl, tt)
   where
@@ -172,9 +192,12 @@ back_concerns : (k : Callsign) (b : Bool) → AllConcern k (back_changes k b)
 back_concerns k true = (refl, tt)
 back_concerns k false = tt
 
-module _ (d : ℕ) (c : Callsign) (r : Room) (w : IsWellFormed r) (v : Vehicle) (is : IsHeld d c r v) (h : Agrees (bare r) (record (rows_of v.callsign r) { vehicle = Some v })) (press : Press) (at : ℕ) (least : 1 ≤ press.number) (o : Outcome) where
+module _ (d : ℕ) (c : Callsign) (r : Room) (w : IsWellFormed r) (v : Vehicle) (is : IsHeld d c r v)
+    (h : Agrees (bare r) (record (rows_of v.callsign r) { vehicle = Some v })) (press : Press)
+    (at : ℕ) (least : 1 ≤ press.number) (o : Outcome) where
   -- a report that does not act
-  ignored_kept : IsWellFormed (apply r (PutReport (report_row v press at o v.status) ∷ PutVehicle (with_report v press) ∷ []))
+  ignored_kept : IsWellFormed (apply r
+      (PutReport (report_row v press at o v.status) ∷ PutVehicle (with_report v press) ∷ []))
   ignored_kept =
       let p = rows_of v.callsign r in
       let u = with_report v press in
@@ -195,7 +218,8 @@ module _ (d : ℕ) (c : Callsign) (r : Room) (w : IsWellFormed r) (v : Vehicle) 
         report_division = divisions_of_reports (bare r) p v u h x least refl refl;
       })
 
-  module _ (next : IsNext v.status (status_after v.status press.button) (ends_turn press.button)) where
+  module _ (next : IsNext v.status (status_after v.status press.button)
+      (ends_turn press.button)) where
     abbrev pressed : Vehicle
     pressed = vehicle_after v (borrowed d c r) press false
 
@@ -209,7 +233,16 @@ module _ (d : ℕ) (c : Callsign) (r : Room) (w : IsWellFormed r) (v : Vehicle) 
     open_now = open_held d c r w.order v is (open_turn d c r) refl
 
     -- the rows of a vehicle that stays with its holder
-    pressed_rows : (a : Option Assignment) → AssignmentAgrees (Some pressed) a → ((n : ℕ) → TurnAgrees (Some pressed) n (turns_after n)) → ((n : ℕ) → SameIncident a (turns_after n)) → Agrees (bare r) (record (rows_of v.callsign r) { vehicle = Some pressed; assignment = a; turn = turns_after; report = put_at press.number reported (rows_of v.callsign r).report })
+    pressed_rows : (a : Option Assignment) → AssignmentAgrees (Some pressed) a
+        → ((n : ℕ) → TurnAgrees (Some pressed) n (turns_after n))
+        → ((n : ℕ) → SameIncident a (turns_after n))
+        → Agrees (bare r) (record (rows_of v.callsign r) {
+          vehicle = Some pressed;
+          assignment = a;
+          turn = turns_after;
+          report =
+              put_at press.number reported (rows_of v.callsign r).report;
+        })
     pressed_rows a assignment turn same = let p = rows_of v.callsign r in record {
       loan = h.loan;
       offer = like_offer r.plan v pressed p.offer next.offered refl refl h.offer;
@@ -227,7 +260,15 @@ module _ (d : ℕ) (c : Callsign) (r : Room) (w : IsWellFormed r) (v : Vehicle) 
     }
 
     -- its turn ends or goes on
-    acted_agrees : (ends : Bool) → ends_turn press.button ≡ ends → Agrees (bare r) (record (rows_of v.callsign r) { vehicle = Some pressed; assignment = cond ends None (rows_of v.callsign r).assignment; turn = turns_after; report = put_at press.number reported (rows_of v.callsign r).report })
+    acted_agrees : (ends : Bool) → ends_turn press.button ≡ ends
+        → Agrees (bare r) (record (rows_of v.callsign r) {
+          vehicle = Some pressed;
+          assignment = cond ends None
+              (rows_of v.callsign r).assignment;
+          turn = turns_after;
+          report =
+              put_at press.number reported (rows_of v.callsign r).report;
+        })
     acted_agrees true e = pressed_rows None (next.idle e) (ended_turns (bare r) (rows_of v.callsign r) v h (turn_after press.button at) (turn_of press.button at) pressed (open_turn d c r) open_now (λ t. turn_ends press.button at t e) (next.idle e) refl) (λ n. tt)
     acted_agrees false e =
         let p = rows_of v.callsign r in
@@ -236,13 +277,15 @@ module _ (d : ℕ) (c : Callsign) (r : Room) (w : IsWellFormed r) (v : Vehicle) 
         (incidents_stay (bare r) p v h (turn_after press.button at) (turn_of press.button at) (open_turn d c r) open_now)
 
     -- a vehicle that goes back does so afterwards
-    back_agrees : (back : Bool) → (back ≡ true → (ends_turn press.button ≡ true) × (is_due at (borrowed d c r) ≡ true)) → Agrees (bare r) (record (rows_of v.callsign r) {
-      vehicle = Some (vehicle_after v (borrowed d c r) press back);
-      loan = cond back None (rows_of v.callsign r).loan;
-      assignment = cond (ends_turn press.button) None (rows_of v.callsign r).assignment;
-      turn = turns_after;
-      report = put_at press.number reported (rows_of v.callsign r).report;
-    })
+    back_agrees : (back : Bool) → (back ≡ true
+        → (ends_turn press.button ≡ true) × (is_due at (borrowed d c r) ≡ true))
+        → Agrees (bare r) (record (rows_of v.callsign r) {
+          vehicle = Some (vehicle_after v (borrowed d c r) press back);
+          loan = cond back None (rows_of v.callsign r).loan;
+          assignment = cond (ends_turn press.button) None (rows_of v.callsign r).assignment;
+          turn = turns_after;
+          report = put_at press.number reported (rows_of v.callsign r).report;
+        })
     back_agrees false f = acted_agrees (ends_turn press.button) refl
     back_agrees true f =
         let p = rows_of v.callsign r in
@@ -250,7 +293,9 @@ module _ (d : ℕ) (c : Callsign) (r : Room) (w : IsWellFormed r) (v : Vehicle) 
         let p1 : VehicleRows = record p { assignment = cond (ends_turn press.button) None p.assignment; turn = turns_after; report = put_at press.number reported p.report } in
         returned_agrees (bare r) p1 pressed (acted_agrees (ends_turn press.button) refl) (vehicle_after v (borrowed d c r) press true) (due_away v at (borrowed d c r) _ (borrowed_either d c r v is.key) (f refl).1 h.loan) (next.idle ends) (next.idle ends) refl refl (lender_is_home d r w c v is h) refl refl refl
 
-    acted_kept : IsWellFormed (apply r (report_acts v (open_turn d c r) (borrowed d c r) press at o (is_home press.button && is_due at (borrowed d c r))))
+    acted_kept : IsWellFormed (apply r
+        (report_acts v (open_turn d c r) (borrowed d c r) press at o
+        (is_home press.button && is_due at (borrowed d c r))))
     acted_kept =
         let b = press.button in
         let back = is_home b && is_due at (borrowed d c r) in
@@ -260,8 +305,11 @@ module _ (d : ℕ) (c : Callsign) (r : Room) (w : IsWellFormed r) (v : Vehicle) 
         (refl, all_concern v.callsign _ _ (turn_concerns v.callsign b at (open_turn d c r) (λ t e. (open_there d c r w.order t e).2 ∙ is.key)) (all_concern v.callsign _ _ (drop_concerns v.callsign (ends_turn b)) (all_concern v.callsign _ _ (back_concerns v.callsign back) (refl, tt))))
         (subst (Agrees (bare r)) (sym (rows_acted (rows_of v.callsign r) v.callsign x u b at (open_turn d c r) (ends_turn b) back)) (back_agrees back (λ e. home_ends b _ e)))
 
-module _ (c : Callsign) (r : Room) (w : IsWellFormed r) (p : Press) (at : ℕ) (least : 1 ≤ p.number) where
-  made_kept : (d : ℕ) (v : Vehicle) → IsHeld d c r v → (o : Outcome) → o ≡ outcome_of v (open_turn d c r) p → Kept d r w (report_made v (open_turn d c r) (borrowed d c r) p at o)
+module _ (c : Callsign) (r : Room) (w : IsWellFormed r) (p : Press) (at : ℕ)
+    (least : 1 ≤ p.number) where
+  made_kept : (d : ℕ) (v : Vehicle) → IsHeld d c r v → (o : Outcome)
+      → o ≡ outcome_of v (open_turn d c r) p
+      → Kept d r w (report_made v (open_turn d c r) (borrowed d c r) p at o)
   made_kept d v is o e =
       let h = known (bare r) (rows_of v.callsign r) v is.there (agreed r w v.callsign) in
       (elim (acts o) as (λ (b : Bool). acts o ≡ b → Kept d r w (cond b (tell (answer.Reported p.number o (status_after v.status p.button)) (report_acts v (open_turn d c r) (borrowed d c r) p at o (is_home p.button && is_due at (borrowed d c r)))) (tell (answer.Reported p.number o v.status) (PutReport (report_row v p at o v.status) ∷ PutVehicle (with_report v p) ∷ [])))) [
@@ -279,10 +327,12 @@ module _ (c : Callsign) (r : Room) (w : IsWellFormed r) (p : Press) (at : ℕ) (
   pub take_report_kept : IsWellFormed (apply r (changes_of (take_report c p at r)))
   take_report_kept = kept_or_new (kept_report c p.number r)
     where
-      somewhere : (x : Option Vehicle) → IsWellFormed (apply r (changes_of (report_somewhere x c p at r)))
+      somewhere : (x : Option Vehicle) → IsWellFormed
+          (apply r (changes_of (report_somewhere x c p at r)))
       somewhere None = w
       somewhere (Some v) = report_in_kept v.holder
 
-      kept_or_new : (x : Option Report) → IsWellFormed (apply r (changes_of (report_kept x c p at r)))
+      kept_or_new : (x : Option Report)
+          → IsWellFormed (apply r (changes_of (report_kept x c p at r)))
       kept_or_new None = somewhere (vehicle_at c r)
       kept_or_new (Some x) = refuse_kept 0 r w _ _ _ (λ e. w)

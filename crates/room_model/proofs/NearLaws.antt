@@ -18,7 +18,8 @@ next_is_more n (suc k) m s below small = (elim (leb ((m + 2 ^ k) * (m + 2 ^ k)) 
   | true ↦ λ e found. next_is_more n k (m + 2 ^ k) s (omega (arith, below)) found
   | false ↦ λ e found. elim (cases_lt (s + 1) (m + 2 ^ k)) [
     | inl lower ↦ next_is_more n k m s lower found
-    | inr reached ↦ let square : (m + 2 ^ k) * (m + 2 ^ k) ≤ (s + 1) * (s + 1) = mul-le-mul reached reached in omega (arith, square, leb-false _ _ e)
+    | inr reached ↦ let square : (m + 2 ^ k) * (m + 2 ^ k)
+        ≤ (s + 1) * (s + 1) = mul-le-mul reached reached in omega (arith, square, leb-false _ _ e)
   ]
 ]) refl small
 

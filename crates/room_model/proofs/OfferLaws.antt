@@ -52,24 +52,29 @@ use Rattle.room_types.specs.declared.asks.Ask.TheVariants as ask
 
 module _ (r : Room) where
   -- ---- proposals
-  breaks_alike : (d at : ℕ) (p : Option ℕ) → breaks_post d at (without_offers r) p ≡ breaks_post d at r p
+  breaks_alike : (d at : ℕ) (p : Option ℕ)
+      → breaks_post d at (without_offers r) p ≡ breaks_post d at r p
   unfolding holders point_of
   breaks_alike d at None = refl
   breaks_alike d at (Some n) = refl
 
-  candidates_alike : (d : ℕ) (i : Incident) (k : Kind) (at : ℕ) → candidates d i k at (without_offers r) ≡ candidates d i k at r
+  candidates_alike : (d : ℕ) (i : Incident) (k : Kind) (at : ℕ)
+      → candidates d i k at (without_offers r) ≡ candidates d i k at r
   unfolding candidates
   candidates_alike d i k at = ap (λ (f : Vehicle → Proposal). map f (eligible d k at r)) (λ j v. record (proposal_of d i at r v) { breaks = is_eligible d at v && breaks_alike d at v.post j })
 
-  proposed_alike : (d : ℕ) (i : Incident) (at : ℕ) (k : Kind) → proposed d i at (without_offers r) k ≡ proposed d i at r k
+  proposed_alike : (d : ℕ) (i : Incident) (at : ℕ) (k : Kind)
+      → proposed d i at (without_offers r) k ≡ proposed d i at r k
   unfolding served
   proposed_alike d i at k = ap (λ ps. chosen is_before (lacking d i r k) None ps) (candidates_alike d i k at)
 
-  all_alike : (d : ℕ) (i : Incident) (at : ℕ) → all_proposed d i at (without_offers r) ≡ all_proposed d i at r
+  all_alike : (d : ℕ) (i : Incident) (at : ℕ)
+      → all_proposed d i at (without_offers r) ≡ all_proposed d i at r
   all_alike d i at = λ j. proposed_alike d i at Ambulance j ++ (proposed_alike d i at Car j ++ proposed_alike d i at Support j)
 
   -- ---- a desk's asks
-  desk_alike : (d : ℕ) (a : Ask) (at : ℕ) → speaks_of_offers a ≡ false → desk_asks d a at (without_offers r) ≡ desk_asks d a at r
+  desk_alike : (d : ℕ) (a : Ask) (at : ℕ) → speaks_of_offers a ≡ false
+      → desk_asks d a at (without_offers r) ≡ desk_asks d a at r
   unfolding show_incidents propose mobilise change_needs merge close show_vehicles stand_down standby duty off recall give_back clear show_points show_loans show_times active_incidents all_held assignment_of borrowed calls_of held holders incident_of incidents_opened is_attended lent loans_of open_turn point_of points_of report_of served
   desk_alike d (ask.Propose n) at h = λ j. where_active (incident_of d n r) (λ i. show (answer.Proposals (all_alike d i at j)))
   desk_alike d (ask.Lend c to until) at h = cc
@@ -81,50 +86,60 @@ module _ (r : Room) where
   desk_alike d a at h = refl
 
   -- ---- a call taker's and a crew's
-  somewhere_alike : (o : Option ℕ) (new : NewCall) → call_somewhere o new (without_offers r) ≡ call_somewhere o new r
+  somewhere_alike : (o : Option ℕ) (new : NewCall)
+      → call_somewhere o new (without_offers r) ≡ call_somewhere o new r
   unfolding call_in last_number link_target
   somewhere_alike None new = refl
   somewhere_alike (Some d) new = refl
 
-  call_alike : (o : Option Call) (new : NewCall) → call_kept o new (without_offers r) ≡ call_kept o new r
+  call_alike : (o : Option Call) (new : NewCall)
+      → call_kept o new (without_offers r) ≡ call_kept o new r
   call_alike None new = somewhere_alike _ new
   call_alike (Some k) new = refl
 
-  position_alike : (p : ℕ) (a : Ask) (at : ℕ) → position_asks p a at (without_offers r) ≡ position_asks p a at r
+  position_alike : (p : ℕ) (a : Ask) (at : ℕ)
+      → position_asks p a at (without_offers r) ≡ position_asks p a at r
   unfolding kept_call
   position_alike p (ask.Call f) at = call_alike (kept_call p f.serial r) (new_call p f at)
   position_alike p a at = refl
 
-  reported_alike : (o : Option Vehicle) (c : Callsign) (p : Press) (at : ℕ) → report_somewhere o c p at (without_offers r) ≡ report_somewhere o c p at r
+  reported_alike : (o : Option Vehicle) (c : Callsign) (p : Press) (at : ℕ)
+      → report_somewhere o c p at (without_offers r) ≡ report_somewhere o c p at r
   unfolding report_in held open_turn borrowed
   reported_alike None c p at = refl
   reported_alike (Some v) c p at = refl
 
-  kept_alike : (o : Option Report) (c : Callsign) (p : Press) (at : ℕ) → report_kept o c p at (without_offers r) ≡ report_kept o c p at r
+  kept_alike : (o : Option Report) (c : Callsign) (p : Press) (at : ℕ)
+      → report_kept o c p at (without_offers r) ≡ report_kept o c p at r
   unfolding vehicle_at
   kept_alike None c p at = reported_alike (vehicle_at c r) c p at
   kept_alike (Some k) c p at = refl
 
-  crew_alike : (c : Callsign) (a : Ask) (at : ℕ) → crew_asks c a at (without_offers r) ≡ crew_asks c a at r
+  crew_alike : (c : Callsign) (a : Ask) (at : ℕ)
+      → crew_asks c a at (without_offers r) ≡ crew_asks c a at r
   unfolding kept_report vehicle_at assignment_at
   crew_alike c ask.Order at = refl
   crew_alike c (ask.Report p) at = kept_alike (kept_report c p.number r) c p at
   crew_alike c a at = refl
 
-  who_alike : (w : Who) (a : Ask) (at : ℕ) → speaks_of_offers a ≡ false → who_asks w a at (without_offers r) ≡ who_asks w a at r
+  who_alike : (w : Who) (a : Ask) (at : ℕ) → speaks_of_offers a ≡ false
+      → who_asks w a at (without_offers r) ≡ who_asks w a at r
   who_alike (Desk d) a at h = desk_alike d a at h
   who_alike (Position p) a at h = position_alike p a at
   who_alike (Crew c) a at h = crew_alike c a at
 
-pub decided_alike : (e : Event) (r : Room) → speaks_of_offers e.ask ≡ false → decided e (without_offers r) ≡ decided e r
+pub decided_alike : (e : Event) (r : Room) → speaks_of_offers e.ask ≡ false
+    → decided e (without_offers r) ≡ decided e r
 decided_alike e r h = who_alike r e.who e.ask e.at h
 
 -- ---- afterwards
-apply_one_without : (r : Room) (x : Change) → MakesNone x → apply_one (without_offers r) x ≡ without_offers (apply_one r x)
+apply_one_without : (r : Room) (x : Change) → MakesNone x
+    → apply_one (without_offers r) x ≡ without_offers (apply_one r x)
 apply_one_without r (PutOffer x) h = absurd h
 apply_one_without r x h = refl
 
-apply_without : (r : Room) (xs : List Change) → AllMakeNone xs → apply (without_offers r) xs ≡ without_offers (apply r xs)
+apply_without : (r : Room) (xs : List Change) → AllMakeNone xs
+    → apply (without_offers r) xs ≡ without_offers (apply r xs)
 apply_without r [] h = refl
 apply_without r (x ∷ xs) h = ap (λ s. apply s xs) (apply_one_without r x h.0) ∙ apply_without (apply_one r x) xs h.1
 
@@ -132,17 +147,20 @@ no_lend : (a : Ask) → speaks_of_offers a ≡ false → is_lend a ≡ false
 no_lend (ask.Lend c to until) h = cc
 no_lend a h = refl
 
-pub after_alike : (e : Event) (r : Room) → speaks_of_offers e.ask ≡ false → room_after e (without_offers r) ≡ without_offers (room_after e r)
+pub after_alike : (e : Event) (r : Room) → speaks_of_offers e.ask ≡ false
+    → room_after e (without_offers r) ≡ without_offers (room_after e r)
 after_alike e r h =
     ap (λ v. apply (without_offers r) (changes_of v)) (decided_alike e r h)
     ∙ apply_without r (changes_of (decided e r)) (none_made e.who e.ask e.at r (no_lend e.ask h))
 
 -- ---- what is handed on
-own_alike : (done : Bool) (e : Event) (a : Ask) (r : Room) → speaks_of_offers a ≡ false → cross_own done e a (without_offers r) ≡ cross_own done e a r
+own_alike : (done : Bool) (e : Event) (a : Ask) (r : Room) → speaks_of_offers a ≡ false
+    → cross_own done e a (without_offers r) ≡ cross_own done e a r
 own_alike done e (ask.Accept c) r h = cc
 own_alike done e a r h = refl
 
-other_alike : (d h : ℕ) (a : Ask) (r after : Room) → speaks_of_offers a ≡ false → cross_other d h a (without_offers r) (without_offers after) ≡ cross_other d h a r after
+other_alike : (d h : ℕ) (a : Ask) (r after : Room) → speaks_of_offers a ≡ false
+    → cross_other d h a (without_offers r) (without_offers after) ≡ cross_other d h a r after
 unfolding lent loan_at vehicle_at
 other_alike d h (ask.Lend c to until) r after f = cc
 other_alike d h (ask.Withdraw c) r after f = cc
@@ -150,56 +168,67 @@ other_alike d h (ask.Decline c) r after f = cc
 other_alike d h (ask.Accept c) r after f = cc
 other_alike d h a r after f = refl
 
-report_alike : (d : ℕ) (e : Event) (c : Callsign) (o : Option Report) (r after : Room) → cross_report d e c o (without_offers r) (without_offers after) ≡ cross_report d e c o r after
+report_alike : (d : ℕ) (e : Event) (c : Callsign) (o : Option Report) (r after : Room)
+    → cross_report d e c o (without_offers r) (without_offers after) ≡ cross_report d e c o r after
 unfolding vehicle_at loan_at
 report_alike d e c None r after = refl
 report_alike d e c (Some k) r after = refl
 
-call_crosses_alike : (d : ℕ) (e : Event) (f : CallForm) (o : Option Call) (r : Room) → cross_call d e f o (without_offers r) ≡ cross_call d e f o r
+call_crosses_alike : (d : ℕ) (e : Event) (f : CallForm) (o : Option Call) (r : Room)
+    → cross_call d e f o (without_offers r) ≡ cross_call d e f o r
 call_crosses_alike d e f None r = refl
 call_crosses_alike d e f (Some k) r = refl
 
-desk_crosses_alike : (d h : ℕ) (e : Event) (r : Room) → speaks_of_offers e.ask ≡ false → cross_desk d h e (without_offers r) ≡ cross_desk d h e r
+desk_crosses_alike : (d h : ℕ) (e : Event) (r : Room) → speaks_of_offers e.ask ≡ false
+    → cross_desk d h e (without_offers r) ≡ cross_desk d h e r
 desk_crosses_alike d h e r f =
     ap (λ (v : Verdict). cond (h == d) (Some (cross_own (is_ok v) e e.ask (without_offers r))) (cond (is_ok v) (cross_other d h e.ask (without_offers r) (room_after e (without_offers r))) None)) (decided_alike e r f)
     ∙ ap (λ (x : Crossing). cond (h == d) (Some x) (cond (is_ok (decided e r)) (cross_other d h e.ask (without_offers r) (room_after e (without_offers r))) None)) (own_alike (is_ok (decided e r)) e e.ask r f)
     ∙ ap (λ (after : Room). cond (h == d) (Some (cross_own (is_ok (decided e r)) e e.ask r)) (cond (is_ok (decided e r)) (cross_other d h e.ask (without_offers r) after) None)) (after_alike e r f)
     ∙ ap (λ (x : Option Crossing). cond (h == d) (Some (cross_own (is_ok (decided e r)) e e.ask r)) (cond (is_ok (decided e r)) x None)) (other_alike d h e.ask r (room_after e r) f)
 
-position_crosses_alike : (d p : ℕ) (e : Event) (a : Ask) (r : Room) → cross_position d p e a (without_offers r) ≡ cross_position d p e a r
+position_crosses_alike : (d p : ℕ) (e : Event) (a : Ask) (r : Room)
+    → cross_position d p e a (without_offers r) ≡ cross_position d p e a r
 unfolding kept_call
 position_crosses_alike d p e (ask.Call f) r = call_crosses_alike d e f (kept_call p f.serial r) r
 position_crosses_alike d p e a r = refl
 
-crew_crosses_alike : (d : ℕ) (c : Callsign) (e : Event) (a : Ask) (r : Room) → room_after e (without_offers r) ≡ without_offers (room_after e r) → cross_crew d c e a (without_offers r) ≡ cross_crew d c e a r
+crew_crosses_alike : (d : ℕ) (c : Callsign) (e : Event) (a : Ask) (r : Room)
+    → room_after e (without_offers r) ≡ without_offers (room_after e r)
+    → cross_crew d c e a (without_offers r) ≡ cross_crew d c e a r
 unfolding kept_report
 crew_crosses_alike d c e (ask.Report p) r f =
     ap (λ (after : Room). cross_report d e c (kept_report c p.number r) (without_offers r) after) f
     ∙ report_alike d e c (kept_report c p.number r) r (room_after e r)
 crew_crosses_alike d c e a r f = refl
 
-who_crosses_alike : (d : ℕ) (e : Event) (w : Who) (r : Room) → speaks_of_offers e.ask ≡ false → cross_who d e w (without_offers r) ≡ cross_who d e w r
+who_crosses_alike : (d : ℕ) (e : Event) (w : Who) (r : Room) → speaks_of_offers e.ask ≡ false
+    → cross_who d e w (without_offers r) ≡ cross_who d e w r
 who_crosses_alike d e (Desk h) r f = desk_crosses_alike d h e r f
 who_crosses_alike d e (Position p) r f = position_crosses_alike d p e e.ask r
 who_crosses_alike d e (Crew c) r f = crew_crosses_alike d c e e.ask r (after_alike e r f)
 
-pub cross_alike : (d : ℕ) (e : Event) (r : Room) → speaks_of_offers e.ask ≡ false → cross d (without_offers r) e ≡ cross d r e
+pub cross_alike : (d : ℕ) (e : Event) (r : Room) → speaks_of_offers e.ask ≡ false
+    → cross d (without_offers r) e ≡ cross d r e
 cross_alike d e r f = who_crosses_alike d e e.who r f
 
 -- ---- the queue
-turn_alike : (d at : ℕ) (r : Room) (v : Vehicle) (t : Option Turn) → slow_turn d at (without_offers r) v t ≡ slow_turn d at r v t
+turn_alike : (d at : ℕ) (r : Room) (v : Vehicle) (t : Option Turn)
+    → slow_turn d at (without_offers r) v t ≡ slow_turn d at r v t
 unfolding incident_of
 turn_alike d at r v None = refl
 turn_alike d at r v (Some t) = refl
 
-slow_alike : (d at : ℕ) (r : Room) → filter_map (slow d at (without_offers r)) r.vehicles ≡ filter_map (slow d at r) r.vehicles
+slow_alike : (d at : ℕ) (r : Room)
+    → filter_map (slow d at (without_offers r)) r.vehicles ≡ filter_map (slow d at r) r.vehicles
 unfolding open_turn
 slow_alike d at r = ap (λ (f : Vehicle → Option Entry). filter_map f r.vehicles) (λ j v. cond (v.holder == d && is_mobilised v.status) (turn_alike d at r v (open_turn d v.callsign r) j) None)
 
 more : (xs ys zs ws : List Entry) → ys ≡ zs ++ ws → xs ++ ys ≡ (xs ++ zs) ++ ws
 more xs ys zs ws h = ap (λ t. xs ++ t) h ∙ sym (append_assoc xs zs ws)
 
-pub entries_alike : (d at : ℕ) (r : Room) → entries d at r ≡ entries d at (without_offers r) ++ filter_map (unanswered d at) r.offers
+pub entries_alike : (d at : ℕ) (r : Room)
+    → entries d at r ≡ entries d at (without_offers r) ++ filter_map (unanswered d at) r.offers
 unfolding entries served open_turn holders
 entries_alike d at r =
     let os : List Entry = filter_map (unanswered d at) r.offers in
@@ -213,23 +242,30 @@ entries_alike d at r =
     (more (filter_map (uncovered d at r) r.points) os [] os refl))))))
 
 -- ---- where nothing is offered
-pub no_accept : (d at : ℕ) (c : Callsign) (r : Room) → IsUnoffered r → decided (by_desk d (ask.Accept c) at) r ≡ Err NoSuchOffer
+pub no_accept : (d at : ℕ) (c : Callsign) (r : Room) → IsUnoffered r
+    → decided (by_desk d (ask.Accept c) at) r ≡ Err NoSuchOffer
 unfolding accept offered_to
 no_accept d at c r h = ap (λ (os : List Offer). accepted (keep (λ o. o.borrower == d) (row_at callsign_cmp offer_key os c)) at) h
 
-pub no_decline : (d at : ℕ) (c : Callsign) (r : Room) → IsUnoffered r → decided (by_desk d (ask.Decline c) at) r ≡ Err NoSuchOffer
+pub no_decline : (d at : ℕ) (c : Callsign) (r : Room) → IsUnoffered r
+    → decided (by_desk d (ask.Decline c) at) r ≡ Err NoSuchOffer
 unfolding decline offered_to
 no_decline d at c r h = ap (λ (os : List Offer). declined (keep (λ o. o.borrower == d) (row_at callsign_cmp offer_key os c))) h
 
-pub no_withdrawal : (d at : ℕ) (c : Callsign) (r : Room) → IsUnoffered r → decided (by_desk d (ask.Withdraw c) at) r ≡ where_held (held d c r) (lent d c r) (λ v. Err NoSuchOffer)
+pub no_withdrawal : (d at : ℕ) (c : Callsign) (r : Room) → IsUnoffered r
+    → decided (by_desk d (ask.Withdraw c) at) r
+    ≡ where_held (held d c r) (lent d c r) (λ v. Err NoSuchOffer)
 unfolding withdraw offered_by
 no_withdrawal d at c r h = ap (λ (os : List Offer). where_held (held d c r) (lent d c r) (withdrawn (keep (λ o. o.lender == d) (row_at callsign_cmp offer_key os c)))) h
 
-pub none_shown : (d at : ℕ) (r : Room) → IsUnoffered r → decided (by_desk d ask.Offers at) r ≡ show (answer.Offers [])
+pub none_shown : (d at : ℕ) (r : Room) → IsUnoffered r
+    → decided (by_desk d ask.Offers at) r ≡ show (answer.Offers [])
 unfolding show_offers offers_of
 none_shown d at r h = ap (λ (os : List Offer). show (answer.Offers (filter (owns_offer d) os))) h
 
-reserved_agrees : (r : Room) (c : Callsign) (o : Option Vehicle) → row_at callsign_cmp vehicle_key r.vehicles c ≡ o → NoneIsReserved r → OfferAgrees r.plan o None
+reserved_agrees : (r : Room) (c : Callsign) (o : Option Vehicle)
+    → row_at callsign_cmp vehicle_key r.vehicles c ≡ o → NoneIsReserved r
+    → OfferAgrees r.plan o None
 reserved_agrees r c None e h = tt
 reserved_agrees r c (Some v) e h = h v (row_there callsign_cmp vehicle_key r.vehicles c v e)
 

@@ -62,11 +62,13 @@ unfolding refuse_if
 refused_none true e x f = tt
 refused_none false e x f = f
 
-held_none : (v : Option Vehicle) (l : Option Loan) (f : Vehicle → Verdict) → ((v : Vehicle) → NoneMade (f v)) → NoneMade (where_held v l f)
+held_none : (v : Option Vehicle) (l : Option Loan) (f : Vehicle → Verdict)
+    → ((v : Vehicle) → NoneMade (f v)) → NoneMade (where_held v l f)
 held_none None l f g = tt
 held_none (Some v) l f g = g v
 
-active_none : (o : Option Incident) (f : Incident → Verdict) → ((i : Incident) → NoneMade (f i)) → NoneMade (where_active o f)
+active_none : (o : Option Incident) (f : Incident → Verdict) → ((i : Incident) → NoneMade (f i))
+    → NoneMade (where_active o f)
 active_none None f g = tt
 active_none (Some i) f g = refused_none _ _ _ (g i)
 
@@ -92,7 +94,8 @@ turn_none : (at : ℕ) (o : Option Turn) → AllMakeNone (turn_stood_down at o)
 turn_none at None = tt
 turn_none at (Some t) = (tt, tt)
 
-standby_none : (p : Option ℕ) (has : ℕ → Bool) (at : ℕ) (v : Vehicle) → NoneMade (standby_at p has at v)
+standby_none : (p : Option ℕ) (has : ℕ → Bool) (at : ℕ) (v : Vehicle)
+    → NoneMade (standby_at p has at v)
 standby_none None has at v = (tt, tt)
 standby_none (Some n) has at v = refused_none _ _ _ (refused_none _ _ _ (tt, tt))
 
@@ -117,7 +120,8 @@ cleared_none : (o : Option Report) → NoneMade (clear_found o)
 cleared_none None = tt
 cleared_none (Some x) = refused_none _ _ _ (tt, tt)
 
-desk_none : (d : ℕ) (a : Ask) (at : ℕ) (r : Room) → is_lend a ≡ false → NoneMade (desk_asks d a at r)
+desk_none : (d : ℕ) (a : Ask) (at : ℕ) (r : Room) → is_lend a ≡ false
+    → NoneMade (desk_asks d a at r)
 unfolding show_incidents show_vehicles show_queue show_points show_loans show_offers show_times propose mobilise change_needs merge close stand_down standby duty off withdraw decline accept recall give_back clear
 desk_none d (ask.Propose n) at r h = active_none (incident_of d n r) (λ i. show (answer.Proposals (all_proposed d i at r))) (λ i. tt)
 desk_none d (ask.Mobilise n c) at r h = active_none (incident_of d n r) (mobilise_held d (held d c r) (lent d c r) at (λ k. served d n k r)) (λ i. held_none (held d c r) (lent d c r) (mobilised d i at (λ k. served d n k r)) (λ v. refused_none _ _ _ (refused_none _ _ _ (refused_none _ _ _ (refused_none _ _ _ (tt, (tt, (tt, (tt, tt)))))))))
@@ -143,7 +147,8 @@ new_none : (d : ℕ) (new : NewCall) (v : Option Division) → NoneMade (call_ne
 new_none d new None = tt
 new_none d new (Some v) = refused_none _ _ _ (tt, (tt, (tt, tt)))
 
-taken_none : (d : ℕ) (new : NewCall) (i : Option Incident) (v : Option Division) → NoneMade (call_taken d new i v)
+taken_none : (d : ℕ) (new : NewCall) (i : Option Incident) (v : Option Division)
+    → NoneMade (call_taken d new i v)
 taken_none d new (Some i) v = (tt, (tt, tt))
 taken_none d new None v = new_none d new v
 
@@ -173,21 +178,25 @@ back_none : (c : Callsign) (b : Bool) → AllMakeNone (back_changes c b)
 back_none c true = (tt, tt)
 back_none c false = tt
 
-made_none : (v : Vehicle) (t : Option Turn) (l : Option Loan) (p : Press) (at : ℕ) (o : Outcome) → NoneMade (report_made v t l p at o)
+made_none : (v : Vehicle) (t : Option Turn) (l : Option Loan) (p : Press) (at : ℕ) (o : Outcome)
+    → NoneMade (report_made v t l p at o)
 made_none v t l p at o = either_none (acts o) _ (tell (answer.Reported p.number o v.status) (PutReport (report_row v p at o v.status) ∷ PutVehicle (with_report v p) ∷ []))
     (tt, append_none (turn_changes p.button at t) _ (turns_none p.button at t) (append_none (drop_changes v.callsign (ends_turn p.button)) _ (drop_none v.callsign (ends_turn p.button)) (append_none (back_changes v.callsign (is_home p.button && is_due at l)) _ (back_none v.callsign (is_home p.button && is_due at l)) (tt, tt))))
     (tt, (tt, tt))
 
-report_none : (v : Option Vehicle) (t : Option Turn) (l : Option Loan) (p : Press) (at : ℕ) → NoneMade (report_held v t l p at)
+report_none : (v : Option Vehicle) (t : Option Turn) (l : Option Loan) (p : Press) (at : ℕ)
+    → NoneMade (report_held v t l p at)
 report_none None t l p at = tt
 report_none (Some v) t l p at = made_none v t l p at _
 
-reported_none : (o : Option Vehicle) (c : Callsign) (p : Press) (at : ℕ) (r : Room) → NoneMade (report_somewhere o c p at r)
+reported_none : (o : Option Vehicle) (c : Callsign) (p : Press) (at : ℕ) (r : Room)
+    → NoneMade (report_somewhere o c p at r)
 unfolding report_in
 reported_none None c p at r = tt
 reported_none (Some v) c p at r = report_none _ _ _ p at
 
-kept_none : (o : Option Report) (c : Callsign) (p : Press) (at : ℕ) (r : Room) → NoneMade (report_kept o c p at r)
+kept_none : (o : Option Report) (c : Callsign) (p : Press) (at : ℕ) (r : Room)
+    → NoneMade (report_kept o c p at r)
 kept_none None c p at r = reported_none _ c p at r
 kept_none (Some k) c p at r = refused_none _ _ _ tt
 
@@ -201,7 +210,8 @@ crew_none c (ask.Report p) at r = kept_none _ c p at r
 crew_none c a at r = tt
 
 -- ---- whoever asks
-pub none_made : (who : Who) (a : Ask) (at : ℕ) (r : Room) → is_lend a ≡ false → AllMakeNone (changes_of (who_asks who a at r))
+pub none_made : (who : Who) (a : Ask) (at : ℕ) (r : Room) → is_lend a ≡ false
+    → AllMakeNone (changes_of (who_asks who a at r))
 none_made (Desk d) a at r h = desk_none d a at r h
 none_made (Position p) a at r h = position_none p a at r
 none_made (Crew c) a at r h = crew_none c a at r
@@ -211,10 +221,12 @@ unoffered_one r (PutOffer x) h n = absurd h
 unoffered_one r (DropOffer c) h n = ap (λ (os : List Offer). drop_row callsign_cmp offer_key os c) n
 unoffered_one r x h n = n
 
-unoffered_after : (r : Room) (xs : List Change) → AllMakeNone xs → IsUnoffered r → IsUnoffered (apply r xs)
+unoffered_after : (r : Room) (xs : List Change) → AllMakeNone xs → IsUnoffered r
+    → IsUnoffered (apply r xs)
 unoffered_after r [] h n = n
 unoffered_after r (x ∷ xs) h n = unoffered_after (apply_one r x) xs h.1 (unoffered_one r x h.0 n)
 
-pub unoffered_run : (es : List Event) (r : Room) → IsUnoffered r → NobodyLends es → IsUnoffered (room_run es r)
+pub unoffered_run : (es : List Event) (r : Room) → IsUnoffered r → NobodyLends es
+    → IsUnoffered (room_run es r)
 unoffered_run [] r n h = n
 unoffered_run (e ∷ es) r n h = unoffered_run es (room_after e r) (unoffered_after r (changes_of (decided e r)) (none_made e.who e.ask e.at r h.0) n) h.1

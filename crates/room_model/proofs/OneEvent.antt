@@ -38,22 +38,27 @@ use Rattle.room_types.specs.declared.asks.Ask.TheVariants as ask
 use Rattle.room_types.specs.declared.refusals.Refusal.TheVariants as refusal
 
 -- another desk's request
-pub other_desk : (d h : ℕ) (r : Room) (a : Ask) (at : ℕ) → IsWellFormed r → h == d ≡ false → own d (room_after (record { who = Desk h; ask = a; at = at }) r) ≡ share_by d (own d r) (cross d r (record { who = Desk h; ask = a; at = at }))
+pub other_desk : (d h : ℕ) (r : Room) (a : Ask) (at : ℕ) → IsWellFormed r → h == d ≡ false
+    → own d (room_after (record { who = Desk h; ask = a; at = at }) r)
+    ≡ share_by d (own d r) (cross d r (record { who = Desk h; ask = a; at = at }))
 other_desk d h r a at w apart =
     desk_isolated d h r w apart a at
     ∙ sym (ap (λ (b : Bool). share_by d (own d r) (cond b (Some (cross_own (is_ok (desk_asks h a at r)) (record { who = Desk h; ask = a; at = at }) a r)) (cond (is_ok (desk_asks h a at r)) (cross_other d h a r (apply r (changes_of (desk_asks h a at r)))) None))) apart)
 
 -- ---- changes that a share can follow
-plain_refuse : (b : Bool) (e : Refusal) (x : Verdict) → ArePlain (changes_of x) → ArePlain (changes_of (refuse_if b e x))
+plain_refuse : (b : Bool) (e : Refusal) (x : Verdict) → ArePlain (changes_of x)
+    → ArePlain (changes_of (refuse_if b e x))
 unfolding refuse_if
 plain_refuse true e x f = tt
 plain_refuse false e x f = f
 
-plain_held : (o : Option Vehicle) (l : Option Loan) (f : Vehicle → Verdict) → ((v : Vehicle) → ArePlain (changes_of (f v))) → ArePlain (changes_of (where_held o l f))
+plain_held : (o : Option Vehicle) (l : Option Loan) (f : Vehicle → Verdict)
+    → ((v : Vehicle) → ArePlain (changes_of (f v))) → ArePlain (changes_of (where_held o l f))
 plain_held None l f g = tt
 plain_held (Some v) l f g = g v
 
-plain_active : (o : Option Incident) (f : Incident → Verdict) → ((i : Incident) → ArePlain (changes_of (f i))) → ArePlain (changes_of (where_active o f))
+plain_active : (o : Option Incident) (f : Incident → Verdict)
+    → ((i : Incident) → ArePlain (changes_of (f i))) → ArePlain (changes_of (where_active o f))
 plain_active None f g = tt
 plain_active (Some i) f g = plain_refuse (not (is_active i.state)) refusal.IncidentNotOpen (f i) (g i)
 
@@ -69,7 +74,8 @@ plain_turn : (at : ℕ) (o : Option Turn) → ArePlain (turn_stood_down at o)
 plain_turn at None = tt
 plain_turn at (Some t) = (tt, tt)
 
-plain_merge : (n m : Option Incident) (b : Bool) (cs : List Call) → ArePlain (changes_of (merge_of n m b cs))
+plain_merge : (n m : Option Incident) (b : Bool) (cs : List Call)
+    → ArePlain (changes_of (merge_of n m b cs))
 plain_merge None m b cs = tt
 plain_merge (Some n) None b cs = tt
 plain_merge (Some n) (Some m) b cs = plain_refuse _ _ _ (plain_refuse _ _ _ (plain_refuse _ _ _ (plain_refuse _ _ _ (tt, (tt, plain_calls m.number cs)))))
@@ -87,7 +93,8 @@ plain_clear : (o : Option Report) → ArePlain (changes_of (clear_found o))
 plain_clear None = tt
 plain_clear (Some x) = plain_refuse _ _ _ (tt, tt)
 
-plain_standby : (p : Option ℕ) (has : ℕ → Bool) (at : ℕ) (v : Vehicle) → ArePlain (changes_of (standby_at p has at v))
+plain_standby : (p : Option ℕ) (has : ℕ → Bool) (at : ℕ) (v : Vehicle)
+    → ArePlain (changes_of (standby_at p has at v))
 plain_standby None has at v = (tt, tt)
 plain_standby (Some n) has at v = plain_refuse _ _ _ (plain_refuse _ _ _ (tt, tt))
 
@@ -97,7 +104,8 @@ settles (ask.Decline c) = true
 settles (ask.Accept c) = true
 settles a = false
 
-pub desk_plain : (d : ℕ) (a : Ask) (at : ℕ) (r : Room) → settles a ≡ false → ArePlain (changes_of (desk_asks d a at r))
+pub desk_plain : (d : ℕ) (a : Ask) (at : ℕ) (r : Room) → settles a ≡ false
+    → ArePlain (changes_of (desk_asks d a at r))
 unfolding show_incidents show_vehicles show_queue show_points show_loans show_offers show_times propose mobilise change_needs merge close stand_down standby duty off lend withdraw recall give_back clear
 desk_plain d (ask.Decline c) at r l = cc
 desk_plain d (ask.Accept c) at r l = cc
@@ -119,7 +127,9 @@ desk_plain d (ask.SetPoint n place cover) at r l = (tt, tt)
 desk_plain d a at r l = tt
 
 -- the desk's own request, where it settles no vehicle: the share's step is the room's
-pub own_desk : (d : ℕ) (r : Room) (a : Ask) (at : ℕ) → IsInOrder r → settles a ≡ false → own d (room_after (record { who = Desk d; ask = a; at = at }) r) ≡ own d (room_after (record { who = Desk d; ask = a; at = at }) (own d r))
+pub own_desk : (d : ℕ) (r : Room) (a : Ask) (at : ℕ) → IsInOrder r → settles a ≡ false
+    → own d (room_after (record { who = Desk d; ask = a; at = at }) r)
+    ≡ own d (room_after (record { who = Desk d; ask = a; at = at }) (own d r))
 own_desk d r a at w l =
     own_apply_own d r (changes_of (desk_asks d a at r)) w (desk_plain d a at r l)
     ∙ sym (ap (λ x. own d (apply (own d r) (changes_of x))) (desk_own d r w a at))

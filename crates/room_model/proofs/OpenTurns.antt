@@ -17,14 +17,16 @@ use Rattle.room_model.proofs.TurnChanges.{IsOpenTurn}
 use Rattle.room_model.specs.Queries.{open_turn}
 use Rattle.room_model.specs.Room.{IsInOrder, Room}
 
-pub row_there : {R K : Type 0} (cmp : K → K → Ordering) (key : R → K) (xs : List R) (k : K) (x : R) → row_at cmp key xs k ≡ Some x → Among x xs
+pub row_there : {R K : Type 0} (cmp : K → K → Ordering) (key : R → K) (xs : List R) (k : K) (x : R)
+    → row_at cmp key xs k ≡ Some x → Among x xs
 row_there cmp key [] k x e = cc
 row_there {R} cmp key (y ∷ ys) k x e = (elim (is_eq (cmp k (key y))) as (λ (b : Bool). cond b (Some y) (row_at cmp key ys k) ≡ Some x → Among x (y ∷ ys)) [
   | true ↦ λ f. let same : x ≡ y = cc in inl same
   | false ↦ λ f. inr (row_there cmp key ys k x f)
 ]) e
 
-none_first : {X : Type 0} (p : X → Bool) (xs : List X) (x : X) → first (filter p xs) ≡ None → Among x xs → p x ≡ true → ⊥
+none_first : {X : Type 0} (p : X → Bool) (xs : List X) (x : X) → first (filter p xs) ≡ None
+    → Among x xs → p x ≡ true → ⊥
 none_first p [] x e a t = absurd a
 none_first {X} p (y ∷ ys) x e a t = (elim (p y) as (λ (b : Bool). p y ≡ b → first (cond b (y ∷ filter p ys) (filter p ys)) ≡ None → ⊥) [
   | true ↦ λ g f. cc
@@ -39,7 +41,9 @@ abbrev pub is_open_of : ℕ → Callsign → Turn → Bool
 is_open_of d c t = t.division == d && (same_callsign t.callsign c && is_none t.ended)
 
 module _ (d : ℕ) (c : Callsign) (r : Room) (order : IsInOrder r) where
-  pub open_there : (t : Turn) → open_turn d c r ≡ Some t → (row_at numbered_cmp turn_key r.turns (c, t.order) ≡ Some t) × (t.ended ≡ None) × (t.callsign ≡ c)
+  pub open_there : (t : Turn) → open_turn d c r ≡ Some t
+      → (row_at numbered_cmp turn_key r.turns (c, t.order) ≡ Some t) × (t.ended ≡ None)
+      × (t.callsign ≡ c)
   unfolding open_turn
   open_there t e =
       let f = among_filter (is_open_of d c) r.turns t (first_among (filter (is_open_of d c) r.turns) t e) in
@@ -47,7 +51,8 @@ module _ (d : ℕ) (c : Callsign) (r : Room) (order : IsInOrder r) where
       let same : t.callsign ≡ c = exact_callsigns t.callsign c (is_equal _ (left_true _ (is_none t.ended) g)) in
       (subst (λ (k : Callsign). row_at numbered_cmp turn_key r.turns (k, t.order) ≡ Some t) same (row_among numbered_cmp turn_key numbered_total r.turns t order.turns f.0), none_of t.ended (right_true (same_callsign t.callsign c) _ g), same)
 
-  pub open_is : (o : Option Turn) → open_turn d c r ≡ o → IsOpenTurn d (λ n. row_at numbered_cmp turn_key r.turns (c, n)) o
+  pub open_is : (o : Option Turn) → open_turn d c r ≡ o
+      → IsOpenTurn d (λ n. row_at numbered_cmp turn_key r.turns (c, n)) o
   unfolding open_turn
   open_is None e = λ n x there unended mine.
       let same : c ≡ x.callsign = ap (λ (k : Callsign × ℕ). k.0) (row_key numbered_cmp turn_key numbered_total exact_numbered r.turns (c, n) x there) in
@@ -56,5 +61,6 @@ module _ (d : ℕ) (c : Callsign) (r : Room) (order : IsInOrder r) where
   open_is (Some t) e = let f = open_there t e in (f.0, f.1)
 
   -- of a vehicle that the division holds
-  pub open_held : (v : Vehicle) → IsHeld d c r v → (o : Option Turn) → open_turn d c r ≡ o → IsOpenTurn v.holder (λ n. row_at numbered_cmp turn_key r.turns (v.callsign, n)) o
+  pub open_held : (v : Vehicle) → IsHeld d c r v → (o : Option Turn) → open_turn d c r ≡ o
+      → IsOpenTurn v.holder (λ n. row_at numbered_cmp turn_key r.turns (v.callsign, n)) o
   open_held v is o e = subst (λ (k : Callsign). IsOpenTurn v.holder (λ n. row_at numbered_cmp turn_key r.turns (k, n)) o) is.key (subst (λ h. IsOpenTurn h (λ n. row_at numbered_cmp turn_key r.turns (c, n)) o) (sym is.holder) (open_is o e))

@@ -30,11 +30,13 @@ use Rattle.room_model.specs.WellFormed.{AssignmentAgrees, IsWellFormed, TurnAgre
 pub apart_from : (a b d : ℕ) → a ≡ b → b == d ≡ false → a == d ≡ false
 apart_from a b d e f = ap (λ x. x == d) e ∙ f
 
-keep_none : {X : Type 0} (p : X → Bool) (o : Option X) → ((x : X) → o ≡ Some x → p x ≡ false) → keep p o ≡ None
+keep_none : {X : Type 0} (p : X → Bool) (o : Option X) → ((x : X) → o ≡ Some x → p x ≡ false)
+    → keep p o ≡ None
 keep_none p None f = refl
 keep_none p (Some x) f = rw (f x refl)
 
-pub keep_some : {X : Type 0} (p : X → Bool) (o : Option X) (x : X) → keep p o ≡ Some x → (o ≡ Some x) × (p x ≡ true)
+pub keep_some : {X : Type 0} (p : X → Bool) (o : Option X) (x : X) → keep p o ≡ Some x
+    → (o ≡ Some x) × (p x ≡ true)
 keep_some p None x g = cc
 keep_some {X} p (Some y) x g = (elim (p y) as (λ (b : Bool). p y ≡ b → cond b (Some y) None ≡ Some x → (Some y ≡ Some x) × (p x ≡ true)) [
   | true ↦ λ e f. let same : y ≡ x = cc in (f, subst (λ z. p z ≡ true) same e)
@@ -42,12 +44,15 @@ keep_some {X} p (Some y) x g = (elim (p y) as (λ (b : Bool). p y ≡ b → cond
 ]) refl g
 
 -- none in a share, where what is found in the room is another's
-pub none_own : {X K : Type 0} (cmp : K → K → Ordering) (key : X → K) (total : IsTotalOrder cmp) (p : X → Bool) (xs : List X) (k : K) → IsKeyed cmp key xs → ((x : X) → row_at cmp key xs k ≡ Some x → p x ≡ false) → row_at cmp key (filter p xs) k ≡ None
+pub none_own : {X K : Type 0} (cmp : K → K → Ordering) (key : X → K) (total : IsTotalOrder cmp)
+    (p : X → Bool) (xs : List X) (k : K) → IsKeyed cmp key xs
+    → ((x : X) → row_at cmp key xs k ≡ Some x → p x ≡ false) → row_at cmp key (filter p xs) k ≡ None
 none_own cmp key total p xs k g f = row_filter cmp key total p xs k g ∙ keep_none p _ f
 
 module _ {X K : Type 0} (cmp : K → K → Ordering) (key : X → K) (total : IsTotalOrder cmp) where
   -- a row that is there is put at no cost
-  pub put_same : (xs : List X) (x : X) → IsKeyed cmp key xs → row_at cmp key xs (key x) ≡ Some x → put_row cmp key xs x ≡ xs
+  pub put_same : (xs : List X) (x : X) → IsKeyed cmp key xs → row_at cmp key xs (key x) ≡ Some x
+      → put_row cmp key xs x ≡ xs
   put_same [] x h e = cc
   put_same (y ∷ ys) x h e = (elim (cmp (key x) (key y)) as (λ (o : Ordering). cmp (key x) (key y) ≡ o → cond (is_eq o) (Some y) (row_at cmp key ys (key x)) ≡ Some x → put_row cmp key (y ∷ ys) x ≡ y ∷ ys) [
     | Less ↦ λ f g. let none = row_below cmp key total (y ∷ ys) (key x) (below_from_less cmp key total (key x) y ys f h) in cc
@@ -66,7 +71,12 @@ unfolding held
 held_is h c r v g =
     let parts = keep_some (λ v. v.holder == h) (row_at callsign_cmp vehicle_key r.vehicles c) v g in
     let same : c ≡ v.callsign = row_key callsign_cmp vehicle_key callsigns_total exact_callsigns r.vehicles c v parts.0 in
-    record { there = subst (λ (k : Callsign). row_at callsign_cmp vehicle_key r.vehicles k ≡ Some v) same parts.0; holder = eqb-true v.holder h parts.1; key = same }
+    record {
+      there = subst (λ (k : Callsign). row_at callsign_cmp vehicle_key r.vehicles k ≡ Some v) same
+          parts.0;
+      holder = eqb-true v.holder h parts.1;
+      key = same;
+    }
 
 module _ (d h : ℕ) (r : Room) (w : IsWellFormed r) (apart : h == d ≡ false) where
   not_own : (n : ℕ) → n ≡ h → n == d ≡ false
@@ -76,7 +86,8 @@ module _ (d h : ℕ) (r : Room) (w : IsWellFormed r) (apart : h == d ≡ false) 
   pub found_same : {X : Type 0} (o : Option X) (x y : X) → o ≡ Some x → o ≡ Some y → x ≡ y
   found_same o x y e f = let both : Some x ≡ Some y = sym e ∙ f in cc
 
-  pub vehicle_foreign : (c : Callsign) (v : Vehicle) → IsHeld h c r v → (x : Vehicle) → x.callsign ≡ v.callsign → x.holder ≡ h → IsForeign d (own d r) (PutVehicle x)
+  pub vehicle_foreign : (c : Callsign) (v : Vehicle) → IsHeld h c r v → (x : Vehicle)
+      → x.callsign ≡ v.callsign → x.holder ≡ h → IsForeign d (own d r) (PutVehicle x)
   vehicle_foreign c v g x same holder = (
     not_own x.holder holder,
     ap (λ (k : Callsign). row_at callsign_cmp vehicle_key (own d r).vehicles k) same
@@ -95,13 +106,16 @@ module _ (d h : ℕ) (r : Room) (w : IsWellFormed r) (apart : h == d ≡ false) 
     none_own pair_cmp point_key pairs_total (owns_point d) r.points (point_key p) w.order.points (λ y f. not_own y.division (sym (ap (λ (p : ℕ × ℕ). p.0) (row_key pair_cmp point_key pairs_total exact_pair r.points (point_key p) y f)) ∙ e)),
   )
 
-  pub call_foreign : (c : Call) → Among c r.calls → c.division ≡ h → (m : ℕ) → IsForeign d (own d r) (PutCall (record c { incident = m }))
+  pub call_foreign : (c : Call) → Among c r.calls → c.division ≡ h → (m : ℕ)
+      → IsForeign d (own d r) (PutCall (record c { incident = m }))
   call_foreign c g e m = (
     not_own c.division e,
     none_own pair_cmp call_key pairs_total (owns_call d) r.calls (call_key c) w.order.calls (λ y f. not_own y.division (ap (λ (z : Call). z.division) (sym (found_same _ c y (row_among pair_cmp call_key pairs_total r.calls c w.order.calls g) f)) ∙ e)),
   )
 
-  pub turn_foreign : (t : Turn) → Among t r.turns → t.division ≡ h → (x : Turn) → x.callsign ≡ t.callsign → x.order ≡ t.order → x.division ≡ h → IsForeign d (own d r) (PutTurn x)
+  pub turn_foreign : (t : Turn) → Among t r.turns → t.division ≡ h → (x : Turn)
+      → x.callsign ≡ t.callsign → x.order ≡ t.order → x.division ≡ h
+      → IsForeign d (own d r) (PutTurn x)
   turn_foreign t g e x same order division = (
     not_own x.division division,
     ap (λ (k : Callsign). row_at numbered_cmp turn_key (own d r).turns (k, x.order)) same
@@ -109,7 +123,9 @@ module _ (d h : ℕ) (r : Room) (w : IsWellFormed r) (apart : h == d ≡ false) 
         ∙ none_own numbered_cmp turn_key numbered_total (owns_turn d) r.turns (turn_key t) w.order.turns (λ y f. not_own y.division (ap (λ (z : Turn). z.division) (sym (found_same _ t y (row_among numbered_cmp turn_key numbered_total r.turns t w.order.turns g) f)) ∙ e)),
   )
 
-  pub report_foreign : (c : Callsign) (n : ℕ) (x : Report) → report_of h c n r ≡ Some x → (y : Report) → y.callsign ≡ x.callsign → y.number ≡ x.number → y.division ≡ x.division → IsForeign d (own d r) (PutReport y)
+  pub report_foreign : (c : Callsign) (n : ℕ) (x : Report) → report_of h c n r ≡ Some x
+      → (y : Report) → y.callsign ≡ x.callsign → y.number ≡ x.number → y.division ≡ x.division
+      → IsForeign d (own d r) (PutReport y)
   unfolding report_of
   report_foreign c n x g y callsign number division =
       let parts = keep_some (λ x. x.division == h) (row_at numbered_cmp report_key r.reports (c, n)) x g in
@@ -123,14 +139,16 @@ module _ (d h : ℕ) (r : Room) (w : IsWellFormed r) (apart : h == d ≡ false) 
       )
 
   -- the assignment of a vehicle that h holds
-  pub other_assignment : (c : Callsign) (v : Vehicle) → IsHeld h c r v → row_at callsign_cmp assignment_key (own d r).assignments v.callsign ≡ None
+  pub other_assignment : (c : Callsign) (v : Vehicle) → IsHeld h c r v
+      → row_at callsign_cmp assignment_key (own d r).assignments v.callsign ≡ None
   other_assignment c v g = none_own callsign_cmp assignment_key callsigns_total (owns_assignment d) r.assignments v.callsign w.order.assignments (λ a e. not_own a.division (agreed a (subst (λ o. AssignmentAgrees o (Some a)) g.there (subst (λ o. AssignmentAgrees (row_at callsign_cmp vehicle_key r.vehicles v.callsign) o) e (w.assignments v.callsign)))))
     where
       agreed : (a : Assignment) → AssignmentAgrees (Some v) (Some a) → a.division ≡ h
       agreed a f = f.1 ∙ g.holder
 
   -- the next order is not given yet
-  pub no_turn : (c : Callsign) (v : Vehicle) → IsHeld h c r v → row_at numbered_cmp turn_key (own d r).turns (v.callsign, v.last_order + 1) ≡ None
+  pub no_turn : (c : Callsign) (v : Vehicle) → IsHeld h c r v
+      → row_at numbered_cmp turn_key (own d r).turns (v.callsign, v.last_order + 1) ≡ None
   no_turn c v g = none_own numbered_cmp turn_key numbered_total (owns_turn d) r.turns (v.callsign, v.last_order + 1) w.order.turns (λ t e. absurd (too_late t (subst (λ o. TurnAgrees o (v.last_order + 1) (Some t)) g.there (subst (λ o. TurnAgrees (row_at callsign_cmp vehicle_key r.vehicles v.callsign) (v.last_order + 1) o) e (w.turns v.callsign (v.last_order + 1))))))
     where
       too_late : (t : Turn) → TurnAgrees (Some v) (v.last_order + 1) (Some t) → ⊥

@@ -68,7 +68,8 @@ module _ (d : ℕ) (r : Room) (in_order : IsInOrder r) where
   unfolding active_incidents
   active_own = filter_filter _ (owns_incident d) r.incidents (λ x h. left_true _ _ h)
 
-  pub opened_own : (from to : ℤ) → incidents_opened d from to (own d r) ≡ incidents_opened d from to r
+  pub opened_own : (from to : ℤ) → incidents_opened d from to (own d r)
+      ≡ incidents_opened d from to r
   unfolding incidents_opened
   opened_own from to = filter_filter _ (owns_incident d) r.incidents (λ x h. left_true _ _ h)
 
@@ -96,12 +97,14 @@ module _ (d : ℕ) (r : Room) (in_order : IsInOrder r) where
   off_share : {X : Type 0} (a b : Bool) (o : Option X) → a ≡ false → cond (a && b) o None ≡ None
   off_share a b o h = rw h refl
 
-  unserved_own : (at : ℕ) → filter_map (unserved d at (own d r)) (filter (owns_incident d) r.incidents) ≡ filter_map (unserved d at r) r.incidents
+  unserved_own : (at : ℕ) → filter_map (unserved d at (own d r))
+      (filter (owns_incident d) r.incidents) ≡ filter_map (unserved d at r) r.incidents
   unserved_own at =
       ap (λ (f : Incident → Option Entry). filter_map f (filter (owns_incident d) r.incidents)) (λ j i. cond (i.division == d && (is_active i.state && ((served_own i.number Ambulance j == 0 && (served_own i.number Car j == 0 && served_own i.number Support j == 0)) && nat_lt 180 (age at i.opened)))) (Some (record { rank = 1; since = i.opened; number = i.number; callsign = None })) None)
       ∙ filter_map_filter (unserved d at r) (owns_incident d) r.incidents (λ i h. off_share (i.division == d) _ _ h)
 
-  unread_own : (at : ℕ) → filter_map (unread d at (own d r)) (filter (owns_vehicle d) r.vehicles) ≡ filter_map (unread d at r) r.vehicles
+  unread_own : (at : ℕ) → filter_map (unread d at (own d r)) (filter (owns_vehicle d) r.vehicles)
+      ≡ filter_map (unread d at r) r.vehicles
   unread_own at =
       ap (λ (f : Vehicle → Option Entry). filter_map f (filter (owns_vehicle d) r.vehicles)) (λ j v. cond (v.holder == d && is_mobilised v.status) (unread_turn at v (turn_own v.callsign j)) None)
       ∙ filter_map_filter (unread d at r) (owns_vehicle d) r.vehicles (λ v h. off_share (v.holder == d) _ _ h)
@@ -115,26 +118,32 @@ module _ (d : ℕ) (r : Room) (in_order : IsInOrder r) where
       slow_turn_same None = refl
       slow_turn_same (Some t) = ap (slow_incident at v) (incident_own t.incident)
 
-  slow_own : (at : ℕ) → filter_map (slow d at (own d r)) (filter (owns_vehicle d) r.vehicles) ≡ filter_map (slow d at r) r.vehicles
+  slow_own : (at : ℕ) → filter_map (slow d at (own d r)) (filter (owns_vehicle d) r.vehicles)
+      ≡ filter_map (slow d at r) r.vehicles
   slow_own at =
       filter_map_among (slow d at (own d r)) (slow d at r) (filter (owns_vehicle d) r.vehicles) (λ v m. slow_same at v)
       ∙ filter_map_filter (slow d at r) (owns_vehicle d) r.vehicles (λ v h. off_share (v.holder == d) _ _ h)
 
-  exception_own : filter_map (exception d) (filter (owns_report d) r.reports) ≡ filter_map (exception d) r.reports
+  exception_own : filter_map (exception d) (filter (owns_report d) r.reports)
+      ≡ filter_map (exception d) r.reports
   exception_own = filter_map_filter (exception d) (owns_report d) r.reports (λ x h. off_share (x.division == d) _ _ h)
 
-  overdue_own : (at : ℕ) → filter_map (overdue d at) (filter (owns_loan d) r.loans) ≡ filter_map (overdue d at) r.loans
+  overdue_own : (at : ℕ) → filter_map (overdue d at) (filter (owns_loan d) r.loans)
+      ≡ filter_map (overdue d at) r.loans
   overdue_own at = filter_map_filter (overdue d at) (owns_loan d) r.loans (λ l h. off_share (owns_loan d l) _ _ h)
 
-  shift_own : (at : ℕ) → filter_map (shift_over d at) (filter (owns_vehicle d) r.vehicles) ≡ filter_map (shift_over d at) r.vehicles
+  shift_own : (at : ℕ) → filter_map (shift_over d at) (filter (owns_vehicle d) r.vehicles)
+      ≡ filter_map (shift_over d at) r.vehicles
   shift_own at = filter_map_filter (shift_over d at) (owns_vehicle d) r.vehicles (λ v h. off_share (v.holder == d) _ _ h)
 
-  uncovered_own : (at : ℕ) → filter_map (uncovered d at (own d r)) (filter (owns_point d) r.points) ≡ filter_map (uncovered d at r) r.points
+  uncovered_own : (at : ℕ) → filter_map (uncovered d at (own d r)) (filter (owns_point d) r.points)
+      ≡ filter_map (uncovered d at r) r.points
   uncovered_own at =
       ap (λ (f : Point → Option Entry). filter_map f (filter (owns_point d) r.points)) (λ j p. cond (p.division == d && nat_lt (length (sees_own.same_holders p.number at j)) p.cover) (Some (record { rank = 7; since = 0; number = p.number; callsign = None })) None)
       ∙ filter_map_filter (uncovered d at r) (owns_point d) r.points (λ p h. off_share (p.division == d) _ _ h)
 
-  unanswered_own : (at : ℕ) → filter_map (unanswered d at) (filter (owns_offer d) r.offers) ≡ filter_map (unanswered d at) r.offers
+  unanswered_own : (at : ℕ) → filter_map (unanswered d at) (filter (owns_offer d) r.offers)
+      ≡ filter_map (unanswered d at) r.offers
   unanswered_own at = filter_map_filter (unanswered d at) (owns_offer d) r.offers (λ o h. off_share (owns_offer d o) _ _ h)
 
   pub entries_own : (at : ℕ) → entries d at (own d r) ≡ entries d at r
@@ -177,7 +186,8 @@ module _ (d : ℕ) (r : Room) (in_order : IsInOrder r) where
   unfolding call_in
   call_own new = ap (λ t. call_taken d new t (last_number d (own d r))) (target_own new.place new.at) ∙ ap (call_taken d new (link_target d new.place new.at r)) last_number_own
 
-  pub report_in_own : (c : Callsign) (p : Press) (at : ℕ) → report_in d c p at (own d r) ≡ report_in d c p at r
+  pub report_in_own : (c : Callsign) (p : Press) (at : ℕ)
+      → report_in d c p at (own d r) ≡ report_in d c p at r
   unfolding report_in
   report_in_own c p at =
       ap (λ v. report_held v (open_turn d c (own d r)) (borrowed d c (own d r)) p at) (sees_own.same_held c)

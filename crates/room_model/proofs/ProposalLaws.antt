@@ -47,7 +47,8 @@ steps x y z e f = ap is_lt (proposals_total.trans x y z (less _ e) (less _ f))
 no_circle : (x y : Proposal) → is_before x y ≡ true → is_before y x ≡ true → ⊥
 no_circle x y e f = let g = turned x y e in cc
 
-pub one_proposed : (d : ℕ) (i : Incident) (at : ℕ) (r : Room) (k : Kind) (ps qs : List Proposal) → AreProposed d i at r k ps → AreProposed d i at r k qs → ps ≡ qs
+pub one_proposed : (d : ℕ) (i : Incident) (at : ℕ) (r : Room) (k : Kind) (ps qs : List Proposal)
+    → AreProposed d i at r k ps → AreProposed d i at r k qs → ps ≡ qs
 one_proposed d i at r k ps qs h g = one_first is_before no_circle steps (lacking d i r k) None (candidates d i k at r) ps qs h g
 
 -- ---- what is chosen among the images of a list
@@ -55,18 +56,22 @@ module _ {X Y : Type 0} (f : Y → X) (lt : X → X → Bool) where
   abbrev before : Y → Y → Bool
   before a b = lt (f a) (f b)
 
-  filter_images : (p : X → Bool) (ys : List Y) → filter p (map f ys) ≡ map f (filter (λ y. p (f y)) ys)
+  filter_images : (p : X → Bool) (ys : List Y)
+      → filter p (map f ys) ≡ map f (filter (λ y. p (f y)) ys)
   filter_images p [] = refl
   filter_images p (y ∷ ys) = (elim (p (f y)) as (λ (b : Bool). cond b (f y ∷ filter p (map f ys)) (filter p (map f ys)) ≡ map f (cond b (y ∷ filter (λ z. p (f z)) ys) (filter (λ z. p (f z)) ys))) [
     | true ↦ ap (λ zs. f y ∷ zs) (filter_images p ys)
     | false ↦ filter_images p ys
   ])
 
-  after_image : (last : Option Y) (ys : List Y) → filter (comes_after lt (option_map f last)) (map f ys) ≡ map f (filter (comes_after before last) ys)
+  after_image : (last : Option Y) (ys : List Y)
+      → filter (comes_after lt (option_map f last)) (map f ys)
+      ≡ map f (filter (comes_after before last) ys)
   after_image None ys = filter_images (comes_after lt None) ys
   after_image (Some z) ys = filter_images (comes_after lt (Some (f z))) ys
 
-  least_image : (o : Option Y) (ys : List Y) → least_from lt (option_map f o) (map f ys) ≡ option_map f (least_from before o ys)
+  least_image : (o : Option Y) (ys : List Y)
+      → least_from lt (option_map f o) (map f ys) ≡ option_map f (least_from before o ys)
   least_image o [] = refl
   least_image None (y ∷ ys) = least_image (Some y) ys
   least_image (Some z) (y ∷ ys) = (elim (lt (f y) (f z)) as (λ (b : Bool). least_from lt (cond b (Some (f y)) (Some (f z))) (map f ys) ≡ option_map f (least_from before (cond b (Some y) (Some z)) ys)) [
@@ -74,7 +79,8 @@ module _ {X Y : Type 0} (f : Y → X) (lt : X → X → Bool) where
     | false ↦ least_image (Some z) ys
   ])
 
-  chosen_images : (n : ℕ) (last : Option Y) (ys : List Y) → chosen lt n (option_map f last) (map f ys) ≡ map f (chosen before n last ys)
+  chosen_images : (n : ℕ) (last : Option Y) (ys : List Y)
+      → chosen lt n (option_map f last) (map f ys) ≡ map f (chosen before n last ys)
   chosen_images zero last ys = refl
   chosen_images (suc n) last ys =
       ap (λ o. extend o (λ x. chosen lt n (Some x) (map f ys))) (ap (least lt) (after_image last ys) ∙ least_image None (filter (comes_after before last) ys))
@@ -95,7 +101,8 @@ module _ {X Y : Type 0} (f : Y → X) (lt : X → X → Bool) where
   among_images x [] h = absurd h
   among_images x (z ∷ ys) h = elim h [ inl e ↦ (z, inl refl, e) | inr k ↦ let g = among_images x ys k in (g.0, inr g.1, g.2) ]
 
-  rising_images : (last : Option Y) (ps : List Y) → IsRising before last ps → IsRising lt (option_map f last) (map f ps)
+  rising_images : (last : Option Y) (ps : List Y) → IsRising before last ps
+      → IsRising lt (option_map f last) (map f ps)
   rising_images last [] h = tt
   rising_images None (p ∷ ps) h = (refl, rising_images (Some p) ps h.1)
   rising_images (Some z) (p ∷ ps) h = (h.0, rising_images (Some p) ps h.1)
@@ -104,7 +111,8 @@ module _ {X Y : Type 0} (f : Y → X) (lt : X → X → Bool) where
   before_images [] y h = tt
   before_images (p ∷ ps) y h = (h.0, before_images ps y h.1)
 
-  first_images : (n : ℕ) (ys ps : List Y) → AreFirst before n None ys ps → AreFirst lt n None (map f ys) (map f ps)
+  first_images : (n : ℕ) (ys ps : List Y) → AreFirst before n None ys ps
+      → AreFirst lt n None (map f ys) (map f ps)
   first_images n ys ps h = record {
     count = same_count ps ∙ h.count ∙ ap (λ m. min n m) (sym (ap length (after_image None ys) ∙ same_count (filter (comes_after before None) ys)));
     members = λ x a. let g = among_images x ps a in (subst (λ z. Among z (map f ys)) (sym g.2) (image_among g.0 ys (h.members g.0 g.1).0), refl);
@@ -157,11 +165,13 @@ module _ (d : ℕ) (i : Incident) (at : ℕ) (r : Room) (k : Kind) where
   abbrev mark : Vehicle → Mark
   mark v = (breaks_cover d at r v, (distance v.place i.place, v.callsign))
 
-  as_marks : (vs : List Vehicle) → ((v : Vehicle) → Among v vs → v.kind ≡ k) → map (proposal_of d i at r) vs ≡ map (of_kind k) (map mark vs)
+  as_marks : (vs : List Vehicle) → ((v : Vehicle) → Among v vs → v.kind ≡ k)
+      → map (proposal_of d i at r) vs ≡ map (of_kind k) (map mark vs)
   as_marks [] g = refl
   as_marks (v ∷ vs) g = ap (λ (x : Kind). record (proposal_of d i at r v) { kind = x } ∷ map (proposal_of d i at r) vs) (g v (inl refl)) ∙ ap (λ ps. of_kind k (mark v) ∷ ps) (as_marks vs (λ u a. g u (inr a)))
 
-  not_below : (v : Vehicle) (vs : List Vehicle) → IsBelowAll callsign_cmp vehicle_key v.callsign vs → Among (mark v) (map mark vs) → ⊥
+  not_below : (v : Vehicle) (vs : List Vehicle) → IsBelowAll callsign_cmp vehicle_key v.callsign vs
+      → Among (mark v) (map mark vs) → ⊥
   not_below v [] h a = a
   not_below v (u ∷ vs) h a = elim a [
     | inl e ↦
@@ -173,7 +183,8 @@ module _ (d : ℕ) (i : Incident) (at : ℕ) (r : Room) (k : Kind) where
     | inr b ↦ not_below v vs h.1 b
   ]
 
-  distinct_marks : (vs : List Vehicle) → IsKeyed callsign_cmp vehicle_key vs → AreDistinct (map mark vs)
+  distinct_marks : (vs : List Vehicle) → IsKeyed callsign_cmp vehicle_key vs
+      → AreDistinct (map mark vs)
   distinct_marks [] h = tt
   distinct_marks (v ∷ vs) h = (not_below v vs h.0, distinct_marks vs h.1)
 

@@ -39,17 +39,20 @@ Refuses (Ok x) = Unit {0}
 Refuses (Err why) = is_of_the_room why ≡ true
 
 -- ---- by the form of a decision
-by_test : (b : Bool) (why : Refusal) (x : Verdict) → is_of_the_room why ≡ true → Refuses x → Refuses (refuse_if b why x)
+by_test : (b : Bool) (why : Refusal) (x : Verdict) → is_of_the_room why ≡ true → Refuses x
+    → Refuses (refuse_if b why x)
 unfolding refuse_if
 by_test true why x h f = h
 by_test false why x h f = f
 
-by_held : (v : Option Vehicle) (l : Option Loan) (f : Vehicle → Verdict) → ((v : Vehicle) → Refuses (f v)) → Refuses (where_held v l f)
+by_held : (v : Option Vehicle) (l : Option Loan) (f : Vehicle → Verdict)
+    → ((v : Vehicle) → Refuses (f v)) → Refuses (where_held v l f)
 by_held (Some v) l f g = g v
 by_held None (Some l) f g = refl
 by_held None None f g = refl
 
-by_active : (i : Option Incident) (f : Incident → Verdict) → ((i : Incident) → Refuses (f i)) → Refuses (where_active i f)
+by_active : (i : Option Incident) (f : Incident → Verdict) → ((i : Incident) → Refuses (f i))
+    → Refuses (where_active i f)
 by_active None f g = refl
 by_active (Some i) f g = by_test _ _ _ refl (g i)
 
@@ -87,7 +90,8 @@ by_exception (Some x) = by_test _ _ _ refl tt
 ruleset by_form = (by_test, by_held, by_active, by_point, by_withdrawn)
 
 module _ (r : Room) where
-  desk_refuses : (d : ℕ) (a : Ask) (at : ℕ) → is_of_role (Desk d) a ≡ true → Refuses (desk_asks d a at r)
+  desk_refuses : (d : ℕ) (a : Ask) (at : ℕ) → is_of_role (Desk d) a ≡ true
+      → Refuses (desk_asks d a at r)
   unfolding show_incidents show_vehicles show_queue show_points show_loans show_offers show_times propose mobilise change_needs merge close stand_down standby duty off lend withdraw decline accept recall give_back clear
   desk_refuses d ask.Incidents at h = tt
   desk_refuses d (ask.Propose n) at h = search by_form depth 9
@@ -122,7 +126,8 @@ module _ (r : Room) where
   by_number d new None = refl
   by_number d new (Some v) = by_test _ _ _ refl tt
 
-  by_link : (d : ℕ) (new : NewCall) (i : Option Incident) (v : Option Division) → Refuses (call_taken d new i v)
+  by_link : (d : ℕ) (new : NewCall) (i : Option Incident) (v : Option Division)
+      → Refuses (call_taken d new i v)
   by_link d new (Some i) v = tt
   by_link d new None v = by_number d new v
 
@@ -135,21 +140,25 @@ module _ (r : Room) where
   by_serial None new = by_place _ new
   by_serial (Some k) new = by_test _ _ _ refl tt
 
-  position_refuses : (p : ℕ) (a : Ask) (at : ℕ) → is_of_role (Position p) a ≡ true → Refuses (position_asks p a at r)
+  position_refuses : (p : ℕ) (a : Ask) (at : ℕ) → is_of_role (Position p) a ≡ true
+      → Refuses (position_asks p a at r)
   position_refuses p (ask.Call f) at h = by_serial _ (new_call p f at)
   position_refuses p a at h = cc
 
   -- ---- reports
-  by_vehicle : (v : Option Vehicle) (t : Option Turn) (l : Option Loan) (p : Press) (at : ℕ) → Refuses (report_held v t l p at)
+  by_vehicle : (v : Option Vehicle) (t : Option Turn) (l : Option Loan) (p : Press) (at : ℕ)
+      → Refuses (report_held v t l p at)
   by_vehicle None t l p at = refl
   by_vehicle (Some v) t l p at = by_report Refuses v t l p at (λ o. tt) (λ o. tt) _
 
-  by_holder : (v : Option Vehicle) (c : Callsign) (p : Press) (at : ℕ) → Refuses (report_somewhere v c p at r)
+  by_holder : (v : Option Vehicle) (c : Callsign) (p : Press) (at : ℕ)
+      → Refuses (report_somewhere v c p at r)
   unfolding report_in
   by_holder None c p at = refl
   by_holder (Some v) c p at = by_vehicle _ _ _ p at
 
-  by_report_number : (o : Option Report) (c : Callsign) (p : Press) (at : ℕ) → Refuses (report_kept o c p at r)
+  by_report_number : (o : Option Report) (c : Callsign) (p : Press) (at : ℕ)
+      → Refuses (report_kept o c p at r)
   by_report_number None c p at = by_holder _ c p at
   by_report_number (Some k) c p at = by_test _ _ _ refl tt
 
@@ -157,33 +166,39 @@ module _ (r : Room) where
   by_order None a = refl
   by_order (Some v) a = tt
 
-  crew_refuses : (c : Callsign) (a : Ask) (at : ℕ) → is_of_role (Crew c) a ≡ true → Refuses (crew_asks c a at r)
+  crew_refuses : (c : Callsign) (a : Ask) (at : ℕ) → is_of_role (Crew c) a ≡ true
+      → Refuses (crew_asks c a at r)
   crew_refuses c ask.Order at h = by_order _ _
   crew_refuses c (ask.Report p) at h = by_report_number _ c p at
   crew_refuses c a at h = cc
 
-  who_refuses : (who : Who) (a : Ask) (at : ℕ) → is_of_role who a ≡ true → Refuses (who_asks who a at r)
+  who_refuses : (who : Who) (a : Ask) (at : ℕ) → is_of_role who a ≡ true
+      → Refuses (who_asks who a at r)
   who_refuses (Desk d) a at h = desk_refuses d a at h
   who_refuses (Position p) a at h = position_refuses p a at h
   who_refuses (Crew c) a at h = crew_refuses c a at h
 
   -- what is another role's
-  desk_wrong : (d : ℕ) (a : Ask) (at : ℕ) → is_of_role (Desk d) a ≡ false → desk_asks d a at r ≡ Err refusal.WrongRole
+  desk_wrong : (d : ℕ) (a : Ask) (at : ℕ) → is_of_role (Desk d) a ≡ false
+      → desk_asks d a at r ≡ Err refusal.WrongRole
   desk_wrong d (ask.Call f) at h = refl
   desk_wrong d ask.Order at h = refl
   desk_wrong d (ask.Report p) at h = refl
   desk_wrong d a at h = cc
 
-  position_wrong : (p : ℕ) (a : Ask) (at : ℕ) → is_of_role (Position p) a ≡ false → position_asks p a at r ≡ Err refusal.WrongRole
+  position_wrong : (p : ℕ) (a : Ask) (at : ℕ) → is_of_role (Position p) a ≡ false
+      → position_asks p a at r ≡ Err refusal.WrongRole
   position_wrong p (ask.Call f) at h = cc
   position_wrong p a at h = refl
 
-  crew_wrong : (c : Callsign) (a : Ask) (at : ℕ) → is_of_role (Crew c) a ≡ false → crew_asks c a at r ≡ Err refusal.WrongRole
+  crew_wrong : (c : Callsign) (a : Ask) (at : ℕ) → is_of_role (Crew c) a ≡ false
+      → crew_asks c a at r ≡ Err refusal.WrongRole
   crew_wrong c ask.Order at h = cc
   crew_wrong c (ask.Report p) at h = cc
   crew_wrong c a at h = refl
 
-  pub wrong_role : (who : Who) (a : Ask) (at : ℕ) → is_of_role who a ≡ false → who_asks who a at r ≡ Err refusal.WrongRole
+  pub wrong_role : (who : Who) (a : Ask) (at : ℕ) → is_of_role who a ≡ false
+      → who_asks who a at r ≡ Err refusal.WrongRole
   wrong_role (Desk d) a at h = desk_wrong d a at h
   wrong_role (Position p) a at h = position_wrong p a at h
   wrong_role (Crew c) a at h = crew_wrong c a at h
@@ -192,5 +207,6 @@ told_so : (x : Verdict) → Refuses x → IfErr (answer_of x) (λ why. is_of_the
 told_so (Ok x) h = tt
 told_so (Err why) h = h
 
-pub refusals_of_room : (e : Event) (r : Room) → is_of_role e.who e.ask ≡ true → IfErr (answer_to e r) (λ why. is_of_the_room why ≡ true)
+pub refusals_of_room : (e : Event) (r : Room) → is_of_role e.who e.ask ≡ true
+    → IfErr (answer_to e r) (λ why. is_of_the_room why ≡ true)
 refusals_of_room e r h = told_so _ (who_refuses r e.who e.ask e.at h)

@@ -55,7 +55,8 @@ use Rattle.room_types.specs.declared.asks.Ask.TheVariants as ask
 use Rattle.room_types.specs.declared.refusals.Refusal.TheVariants as refusal
 
 -- ---- rows that stay at their keys, but for one field
-module _ {R K F : Type 0} (cmp : K → K → Ordering) (key : R → K) (total : IsTotalOrder cmp) (exact : CmpEqualImpliesEq cmp) (with_field : R → F → R) where
+module _ {R K F : Type 0} (cmp : K → K → Ordering) (key : R → K) (total : IsTotalOrder cmp)
+    (exact : CmpEqualImpliesEq cmp) (with_field : R → F → R) where
   -- the row, but for the field, is at its key
   abbrev IsThere : R → List R → Type 0
   IsThere k xs = (f : F) × (row_at cmp key xs (key k) ≡ Some (with_field k f))
@@ -64,13 +65,15 @@ module _ {R K F : Type 0} (cmp : K → K → Ordering) (key : R → K) (total : 
   abbrev IsHarmless : R → R → Type 0
   IsHarmless k x = (is_eq (cmp (key k) (key x)) ≡ false) ⊎ ((f : F) × (x ≡ with_field k f))
 
-  by_key : (k x : R) → (is_eq (cmp (key k) (key x)) ≡ true → (f : F) × (x ≡ with_field k f)) → IsHarmless k x
+  by_key : (k x : R) → (is_eq (cmp (key k) (key x)) ≡ true → (f : F) × (x ≡ with_field k f))
+      → IsHarmless k x
   by_key k x g = (elim (is_eq (cmp (key k) (key x))) as (λ (b : Bool). is_eq (cmp (key k) (key x)) ≡ b → IsHarmless k x) [
     | true ↦ λ e. inr (g e)
     | false ↦ λ e. inl e
   ]) refl
 
-  put_keeps : (k x : R) (xs : List R) → IsHarmless k x → IsThere k xs → IsThere k (put_row cmp key xs x)
+  put_keeps : (k x : R) (xs : List R) → IsHarmless k x → IsThere k xs
+      → IsThere k (put_row cmp key xs x)
   put_keeps k x xs harmless there = (elim (is_eq (cmp (key k) (key x))) as (λ (b : Bool). is_eq (cmp (key k) (key x)) ≡ b → IsThere k (put_row cmp key xs x)) [
     | true ↦ λ e. elim harmless [
       | inl f ↦ let clash : true ≡ false = sym e ∙ f in cc
@@ -80,14 +83,17 @@ module _ {R K F : Type 0} (cmp : K → K → Ordering) (key : R → K) (total : 
   ]) refl
 
   -- a new row is harmless
-  fresh_harmless : (k x : R) (xs : List R) → row_at cmp key xs (key x) ≡ None → IsThere k xs → IsHarmless k x
+  fresh_harmless : (k x : R) (xs : List R) → row_at cmp key xs (key x) ≡ None → IsThere k xs
+      → IsHarmless k x
   fresh_harmless k x xs none there = by_key k x (λ e.
       let same : key k ≡ key x = exact (key k) (key x) (is_equal _ e) in
       let both : None ≡ Some (with_field k there.0) = sym none ∙ ap (row_at cmp key xs) (sym same) ∙ there.1 in
       absurd (let none_some : ⊥ = cc in none_some))
 
   -- and so is one that is there, with another value of the field
-  found_harmless : (k x y : R) (f : F) (xs : List R) → y ≡ with_field x f → key y ≡ key x → row_at cmp key xs (key x) ≡ Some x → IsThere k xs → ((g : F) → with_field (with_field k g) f ≡ with_field k f) → IsHarmless k y
+  found_harmless : (k x y : R) (f : F) (xs : List R) → y ≡ with_field x f → key y ≡ key x
+      → row_at cmp key xs (key x) ≡ Some x → IsThere k xs
+      → ((g : F) → with_field (with_field k g) f ≡ with_field k f) → IsHarmless k y
   found_harmless k x y f xs changed same_key found there twice = by_key k y (λ e.
       let same : key k ≡ key x = exact (key k) (key y) (is_equal _ e) ∙ same_key in
       let both : Some x ≡ Some (with_field k there.0) = sym found ∙ ap (row_at cmp key xs) (sym same) ∙ there.1 in
@@ -104,16 +110,22 @@ module _ {R K F : Type 0} (cmp : K → K → Ordering) (key : R → K) (total : 
     Spares k None = Unit {0}
     Spares k (Some x) = IsHarmless k x
 
-    module _ (only : (r : Room) (x : Change) → rows (apply_one r x) ≡ with_put (put_of x) (rows r)) (k : R) where
-      one_keeps : (o : Option R) (xs : List R) → Spares k o → IsThere k xs → IsThere k (with_put o xs)
+    module _ (only : (r : Room) (x : Change) → rows (apply_one r x) ≡ with_put (put_of x) (rows r))
+        (k : R) where
+      one_keeps : (o : Option R) (xs : List R) → Spares k o → IsThere k xs
+          → IsThere k (with_put o xs)
       one_keeps None xs h there = there
       one_keeps (Some x) xs h there = put_keeps k x xs h there
 
-      apply_keeps : (r : Room) (cs : List Change) → AllOf (λ x. Spares k (put_of x)) cs → IsThere k (rows r) → IsThere k (rows (apply r cs))
+      apply_keeps : (r : Room) (cs : List Change) → AllOf (λ x. Spares k (put_of x)) cs
+          → IsThere k (rows r) → IsThere k (rows (apply r cs))
       apply_keeps r [] h there = there
       apply_keeps r (x ∷ cs) h there = apply_keeps (apply_one r x) cs h.1 (subst (IsThere k) (sym (only r x)) (one_keeps (put_of x) (rows r) h.0 there))
 
-      run_keeps : AllowsSettling (λ x. Spares k (put_of x)) → ((r : Room) → IsInOrder r → IsThere k (rows r) → Allows r (λ x. Spares k (put_of x))) → (es : List Event) (r : Room) → IsInOrder r → IsThere k (rows r) → IsThere k (rows (room_run es r))
+      run_keeps : AllowsSettling (λ x. Spares k (put_of x))
+          → ((r : Room) → IsInOrder r → IsThere k (rows r) → Allows r (λ x. Spares k (put_of x)))
+          → (es : List Event) (r : Room) → IsInOrder r → IsThere k (rows r)
+          → IsThere k (rows (room_run es r))
       run_keeps settling allowed [] r order there = there
       run_keeps settling allowed (e ∷ es) r order there = run_keeps settling allowed es (room_after e r) (in_order_apply r (changes_of (decided e r)) order) (apply_keeps r (changes_of (decided e r)) (event_all r (λ x. Spares k (put_of x)) (allowed r order there) settling e) there)
 
@@ -132,7 +144,9 @@ report_put x = None
 abbrev ReportThere : Report → Room → Type 0
 ReportThere k r = IsThere numbered_cmp report_key numbered_total exact_numbered with_cleared k r.reports
 
-reports_only : (r : Room) (x : Change) → (apply_one r x).reports ≡ with_put numbered_cmp report_key numbered_total exact_numbered with_cleared (λ r. r.reports) report_put (report_put x) r.reports
+reports_only : (r : Room) (x : Change)
+    → (apply_one r x).reports ≡ with_put numbered_cmp report_key numbered_total exact_numbered
+    with_cleared (λ r. r.reports) report_put (report_put x) r.reports
 reports_only r (PutReport x) = refl
 reports_only r x = refl
 
@@ -164,7 +178,9 @@ call_put x = None
 abbrev CallThere : Call → Room → Type 0
 CallThere k r = IsThere pair_cmp call_key pairs_total exact_pair with_incident k r.calls
 
-calls_only : (r : Room) (x : Change) → (apply_one r x).calls ≡ with_put pair_cmp call_key pairs_total exact_pair with_incident (λ r. r.calls) call_put (call_put x) r.calls
+calls_only : (r : Room) (x : Change)
+    → (apply_one r x).calls ≡ with_put pair_cmp call_key pairs_total exact_pair with_incident
+    (λ r. r.calls) call_put (call_put x) r.calls
 calls_only r (PutCall x) = refl
 calls_only r x = refl
 
@@ -213,7 +229,9 @@ module _ (c : Callsign) (p : Press) (at : ℕ) (r : Room) (order : IsInOrder r) 
   abbrev IfReported : Verdict → Type 0
   IfReported x = is_ok x ≡ true → WasReported c p r x
 
-  new_row : (v : Vehicle) → c ≡ v.callsign → (o : Outcome) (s : Status) (cs : List Change) → (apply r cs).reports ≡ put_row numbered_cmp report_key r.reports (report_row v p at o s) → WasReported c p r (tell (answer.Reported p.number o s) cs)
+  new_row : (v : Vehicle) → c ≡ v.callsign → (o : Outcome) (s : Status) (cs : List Change)
+      → (apply r cs).reports ≡ put_row numbered_cmp report_key r.reports (report_row v p at o s)
+      → WasReported c p r (tell (answer.Reported p.number o s) cs)
   new_row v key o s cs reports = record {
     row = report_row v p at o s;
     key = ap (λ (k : Callsign). (k, p.number)) key;
@@ -222,7 +240,8 @@ module _ (c : Callsign) (p : Press) (at : ℕ) (r : Room) (order : IsInOrder r) 
     there = (false, ap (λ xs. row_at numbered_cmp report_key xs (v.callsign, p.number)) reports ∙ put_found numbered_cmp report_key numbered_total r.reports (report_row v p at o s));
   }
 
-  held_reported : (h : ℕ) (v : Option Vehicle) → held h c r ≡ v → (t : Option Turn) (l : Option Loan) → IfReported (report_held v t l p at)
+  held_reported : (h : ℕ) (v : Option Vehicle) → held h c r ≡ v
+      → (t : Option Turn) (l : Option Loan) → IfReported (report_held v t l p at)
   held_reported h None e t l = λ ok. cc
   held_reported h (Some v) e t l =
       let key = (held_is h c r v e).key in
@@ -240,7 +259,8 @@ module _ (c : Callsign) (p : Press) (at : ℕ) (r : Room) (order : IsInOrder r) 
   somewhere_reported None = λ ok. cc
   somewhere_reported (Some v) = in_reported v.holder
 
-  was_reported : (o : Option Report) → kept_report c p.number r ≡ o → IfReported (report_kept o c p at r)
+  was_reported : (o : Option Report) → kept_report c p.number r ≡ o
+      → IfReported (report_kept o c p at r)
   unfolding kept_report
   was_reported None e = somewhere_reported (vehicle_at c r)
   was_reported (Some k) e =
@@ -258,10 +278,15 @@ unfolding refuse_if
 refused_if true e x h = absurd (h refl)
 refused_if false e x h = refl
 
-only_answers : (e : Event) (r : Room) (x : Verdict) (a : Result Answer Refusal) → decided e r ≡ x → changes_of x ≡ [] → answer_of x ≡ a → OnlyAnswers e r a
+only_answers : (e : Event) (r : Room) (x : Verdict) (a : Result Answer Refusal) → decided e r ≡ x
+    → changes_of x ≡ [] → answer_of x ≡ a → OnlyAnswers e r a
 only_answers e r x a same none told = (ap (λ y. apply r (changes_of y)) same ∙ ap (apply r) none, ap answer_of same ∙ told)
 
-report_later : (c : Callsign) (q : Press) (at : ℕ) (s : Room) (k : Report) → (c, q.number) ≡ report_key k → ReportThere k s → crew_asks c (ask.Report q) at s ≡ refuse_if (not (same_press k q)) refusal.NumberReused (show (answer.Reported k.number k.outcome k.status))
+report_later : (c : Callsign) (q : Press) (at : ℕ) (s : Room) (k : Report)
+    → (c, q.number) ≡ report_key k → ReportThere k s
+    → crew_asks c (ask.Report q) at s
+    ≡ refuse_if (not (same_press k q)) refusal.NumberReused
+    (show (answer.Reported k.number k.outcome k.status))
 unfolding kept_report
 report_later c q at s k key there = ap (λ o. report_kept o c q at s) (ap (row_at numbered_cmp report_key s.reports) key ∙ there.1)
 
@@ -279,7 +304,8 @@ exact_place : (p q : Place) → same_place p q ≡ true → p ≡ q
 exact_place p q e i = record { east = eqb-true p.east q.east (left_true _ _ e) i; north = eqb-true p.north q.north (right_true (p.east == q.east) _ e) i }
 
 -- two reports of one number and one content are one
-one_press : (k : Report) (p q : Press) → same_press k p ≡ true → same_press k q ≡ true → q.number ≡ p.number → q ≡ p
+one_press : (k : Report) (p q : Press) → same_press k p ≡ true → same_press k q ≡ true
+    → q.number ≡ p.number → q ≡ p
 one_press k p q f g number =
     let rest_p = right_true (same_button k.button p.button) _ f in
     let rest_q = right_true (same_button k.button q.button) _ g in
@@ -288,7 +314,8 @@ one_press k p q f g number =
     let place : q.place ≡ p.place = sym (exact_place k.place q.place (right_true (k.order == q.order) _ rest_q)) ∙ exact_place k.place p.place (right_true (k.order == p.order) _ rest_p) in
     λ i. record { number = number i; button = button i; order = order i; place = place i }
 
-module _ (c : Callsign) (p : Press) (at : ℕ) (r : Room) (es : List Event) (order : IsInOrder r) (ok : is_ok (answer_to (by_crew c (ask.Report p) at) r) ≡ true) where
+module _ (c : Callsign) (p : Press) (at : ℕ) (r : Room) (es : List Event) (order : IsInOrder r)
+    (ok : is_ok (answer_to (by_crew c (ask.Report p) at) r) ≡ true) where
   abbrev first_report : Event
   first_report = by_crew c (ask.Report p) at
 
@@ -301,11 +328,13 @@ module _ (c : Callsign) (p : Press) (at : ℕ) (r : Room) (es : List Event) (ord
   report_stays : ReportThere reported.row after_report
   report_stays = run_keeps numbered_cmp report_key numbered_total exact_numbered with_cleared (λ r. r.reports) report_put reports_only reported.row (λ c d. tt) (report_spared reported.row) es (room_after first_report r) (in_order_apply r (changes_of (decided first_report r)) order) reported.there
 
-  pub report_repeated : (later : ℕ) → OnlyAnswers (by_crew c (ask.Report p) later) after_report (answer_to first_report r)
+  pub report_repeated : (later : ℕ)
+      → OnlyAnswers (by_crew c (ask.Report p) later) after_report (answer_to first_report r)
   report_repeated later = only_answers (by_crew c (ask.Report p) later) after_report (show (answer.Reported reported.row.number reported.row.outcome reported.row.status)) _
       (report_later c p later after_report reported.row reported.key report_stays ∙ told_if (same_press reported.row p) refusal.NumberReused _ reported.content) refl (sym reported.told)
 
-  pub number_used : (q : Press) (later : ℕ) → q.number ≡ p.number → (q ≡ p → ⊥) → OnlyAnswers (by_crew c (ask.Report q) later) after_report (Err refusal.NumberReused)
+  pub number_used : (q : Press) (later : ℕ) → q.number ≡ p.number → (q ≡ p → ⊥)
+      → OnlyAnswers (by_crew c (ask.Report q) later) after_report (Err refusal.NumberReused)
   number_used q later number other = only_answers (by_crew c (ask.Report q) later) after_report (Err refusal.NumberReused) _
       (report_later c q later after_report reported.row (ap (λ (n : ℕ). (c, n)) number ∙ reported.key) report_stays ∙ refused_if (same_press reported.row q) refusal.NumberReused _ (λ same. other (one_press reported.row p q reported.content same number))) refl refl
 
@@ -321,13 +350,17 @@ module _ (p : ℕ) (f : CallForm) (at : ℕ) (r : Room) (order : IsInOrder r) wh
   abbrev IfTaken : Verdict → Type 0
   IfTaken x = is_ok x ≡ true → WasTaken p f at r x
 
-  call_content : (d n : ℕ) (linked : Bool) → same_call (call_row d n linked (new_call p f at)) (new_call p f at) ≡ true
+  call_content : (d n : ℕ) (linked : Bool)
+      → same_call (call_row d n linked (new_call p f at)) (new_call p f at) ≡ true
   call_content d n linked =
       both_true _ _ (same_place_self f.place) (both_true _ _ (eq-eqb f.class f.class refl)
       (both_true _ _ (both_true _ _ (eq-eqb f.needs.ambulances f.needs.ambulances refl) (both_true _ _ (eq-eqb f.needs.cars f.needs.cars refl) (eq-eqb f.needs.support f.needs.support refl)))
       (ap is_eq (tied_itself callsigns_total f.note))))
 
-  new_taken : (d n : ℕ) (linked : Bool) (cs : List Change) → (apply r cs).calls ≡ put_row pair_cmp call_key r.calls (call_row d n linked (new_call p f at)) → WasTaken p f at r (tell (answer.Called d n linked) cs)
+  new_taken : (d n : ℕ) (linked : Bool) (cs : List Change)
+      → (apply r cs).calls ≡ put_row pair_cmp call_key r.calls
+      (call_row d n linked (new_call p f at))
+      → WasTaken p f at r (tell (answer.Called d n linked) cs)
   new_taken d n linked cs calls = record {
     row = call_row d n linked (new_call p f at);
     key = refl;
@@ -336,7 +369,8 @@ module _ (p : ℕ) (f : CallForm) (at : ℕ) (r : Room) (order : IsInOrder r) wh
     there = (n, ap (λ xs. row_at pair_cmp call_key xs (p, f.serial)) calls ∙ put_found pair_cmp call_key pairs_total r.calls (call_row d n linked (new_call p f at)));
   }
 
-  taken_in : (d : ℕ) (i : Option Incident) (v : Option Division) → IfTaken (call_taken d (new_call p f at) i v)
+  taken_in : (d : ℕ) (i : Option Incident) (v : Option Division)
+      → IfTaken (call_taken d (new_call p f at) i v)
   taken_in d (Some i) v = λ ok. new_taken d i.number true (PutIncident (with_call (new_call p f at) i) ∷ PutCall (call_row d i.number true (new_call p f at)) ∷ []) refl
   taken_in d None None = λ ok. cc
   taken_in d None (Some v) = by_refuse IfTaken _ _ _ (λ ok. cc) (λ e ok.
@@ -348,14 +382,18 @@ module _ (p : ℕ) (f : CallForm) (at : ℕ) (r : Room) (order : IsInOrder r) wh
   taken_somewhere None = λ ok. cc
   taken_somewhere (Some d) = taken_in d (link_target d f.place at r) (last_number d r)
 
-  was_taken : (o : Option Call) → kept_call p f.serial r ≡ o → IfTaken (call_kept o (new_call p f at) r)
+  was_taken : (o : Option Call) → kept_call p f.serial r ≡ o
+      → IfTaken (call_kept o (new_call p f at) r)
   unfolding kept_call
   was_taken None e = taken_somewhere (division_of r.plan f.place)
   was_taken (Some k) e =
       let key : (p, f.serial) ≡ call_key k = row_key pair_cmp call_key pairs_total exact_pair r.calls (p, f.serial) k e in
       by_refuse IfTaken _ _ _ (λ ok. cc) (λ same ok. record { row = k; key = key; content = not_false (same_call k (new_call p f at)) same; told = refl; there = (k.incident, subst (λ (z : ℕ × ℕ). row_at pair_cmp call_key r.calls z ≡ Some k) key e) })
 
-call_later : (p : ℕ) (f : CallForm) (at : ℕ) (s : Room) (k : Call) → (p, f.serial) ≡ call_key k → CallThere k s → take_call (new_call p f at) s ≡ refuse_if (not (same_call k (new_call p f at))) refusal.SerialReused (show (answer.Called k.division k.given k.linked))
+call_later : (p : ℕ) (f : CallForm) (at : ℕ) (s : Room) (k : Call) → (p, f.serial) ≡ call_key k
+    → CallThere k s → take_call (new_call p f at) s
+    ≡ refuse_if (not (same_call k (new_call p f at))) refusal.SerialReused
+    (show (answer.Called k.division k.given k.linked))
 unfolding kept_call
 call_later p f at s k key there = ap (λ o. call_kept o (new_call p f at) s) (ap (row_at pair_cmp call_key s.calls) key ∙ there.1)
 
@@ -371,7 +409,8 @@ record HasContent (k : Call) (f : CallForm) : Type 0 where
   needs : k.needs ≡ f.needs
   note : k.note ≡ f.note
 
-has_content : (k : Call) (p : ℕ) (f : CallForm) (at : ℕ) → same_call k (new_call p f at) ≡ true → HasContent k f
+has_content : (k : Call) (p : ℕ) (f : CallForm) (at : ℕ) → same_call k (new_call p f at) ≡ true
+    → HasContent k f
 has_content k p f at e =
     let after_place = right_true (same_place k.place f.place) _ e in
     let after_class = right_true (k.class == f.class) _ after_place in
@@ -382,10 +421,12 @@ has_content k p f at e =
       note = exact_callsigns k.note f.note (is_equal _ (right_true (same_needs k.needs f.needs) _ after_class));
     }
 
-one_form : (k : Call) (f g : CallForm) → HasContent k f → HasContent k g → g.serial ≡ f.serial → g ≡ f
+one_form : (k : Call) (f g : CallForm) → HasContent k f → HasContent k g → g.serial ≡ f.serial
+    → g ≡ f
 one_form k f g h j serial i = record { serial = serial i; place = (sym j.place ∙ h.place) i; class = (sym j.class ∙ h.class) i; needs = (sym j.needs ∙ h.needs) i; note = (sym j.note ∙ h.note) i }
 
-module _ (p : ℕ) (f : CallForm) (at : ℕ) (r : Room) (es : List Event) (order : IsInOrder r) (ok : is_ok (answer_to (by_position p (ask.Call f) at) r) ≡ true) where
+module _ (p : ℕ) (f : CallForm) (at : ℕ) (r : Room) (es : List Event) (order : IsInOrder r)
+    (ok : is_ok (answer_to (by_position p (ask.Call f) at) r) ≡ true) where
   abbrev first_call : Event
   first_call = by_position p (ask.Call f) at
 
@@ -398,10 +439,12 @@ module _ (p : ℕ) (f : CallForm) (at : ℕ) (r : Room) (es : List Event) (order
   call_stays : CallThere taken.row after_call
   call_stays = run_keeps pair_cmp call_key pairs_total exact_pair with_incident (λ r. r.calls) call_put calls_only taken.row (λ c d. tt) (call_spared taken.row) es (room_after first_call r) (in_order_apply r (changes_of (decided first_call r)) order) taken.there
 
-  pub call_repeated : (later : ℕ) → OnlyAnswers (by_position p (ask.Call f) later) after_call (answer_to first_call r)
+  pub call_repeated : (later : ℕ) → OnlyAnswers (by_position p (ask.Call f) later) after_call
+      (answer_to first_call r)
   call_repeated later = only_answers (by_position p (ask.Call f) later) after_call (show (answer.Called taken.row.division taken.row.given taken.row.linked)) _
       (call_later p f later after_call taken.row taken.key call_stays ∙ told_if (same_call taken.row (new_call p f later)) refusal.SerialReused _ taken.content) refl (sym taken.told)
 
-  pub serial_used : (g : CallForm) (later : ℕ) → g.serial ≡ f.serial → (g ≡ f → ⊥) → OnlyAnswers (by_position p (ask.Call g) later) after_call (Err refusal.SerialReused)
+  pub serial_used : (g : CallForm) (later : ℕ) → g.serial ≡ f.serial → (g ≡ f → ⊥)
+      → OnlyAnswers (by_position p (ask.Call g) later) after_call (Err refusal.SerialReused)
   serial_used g later serial other = only_answers (by_position p (ask.Call g) later) after_call (Err refusal.SerialReused) _
       (call_later p g later after_call taken.row (ap (λ (n : ℕ). (p, n)) serial ∙ taken.key) call_stays ∙ refused_if (same_call taken.row (new_call p g later)) refusal.SerialReused _ (λ same. other (one_form taken.row f g (has_content taken.row p f at taken.content) (has_content taken.row p g later same) serial))) refl refl

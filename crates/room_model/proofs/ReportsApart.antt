@@ -45,7 +45,8 @@ use Rattle.room_types.specs.declared.asks.Ask.TheVariants as ask
 use Rattle.room_types.specs.declared.codes.Button.TheVariants as button
 
 -- after changes that are none of the division's, it is the rest that counts
-own_after : (d : ℕ) (r : Room) (cs bs : List Change) → IsInOrder r → AllForeign d (own d r) cs → ArePlain bs → own d (apply r (cs ++ bs)) ≡ share_after d (own d r) bs
+own_after : (d : ℕ) (r : Room) (cs bs : List Change) → IsInOrder r → AllForeign d (own d r) cs
+    → ArePlain bs → own d (apply r (cs ++ bs)) ≡ share_after d (own d r) bs
 own_after d r [] bs w f p = own_apply d r bs w p
 own_after d r (c ∷ cs) bs w f p =
     let same = own_foreign_one d r c w f.0 in
@@ -68,12 +69,16 @@ turn_keeps button.Return at t = record { callsign = refl; order = refl; division
 turn_keeps button.Home at t = record { callsign = refl; order = refl; division = refl }
 
 -- the loans, vehicles and reports after them
-pub record IsLeft (r after : Room) (x : Report) (c : Callsign) (back : Bool) (v : Vehicle) : Type 0 where
+pub record IsLeft (r after : Room) (x : Report) (c : Callsign) (back : Bool)
+    (v : Vehicle) : Type 0 where
   pub loans : after.loans ≡ cond back (drop_row callsign_cmp loan_key r.loans c) r.loans
   pub vehicles : after.vehicles ≡ put_row callsign_cmp vehicle_key r.vehicles v
   pub reports : after.reports ≡ put_row numbered_cmp report_key r.reports x
 
-pub left_by : (r : Room) (x : Report) (b : Button) (at : ℕ) (t : Option Turn) (c : Callsign) (ends back : Bool) (v : Vehicle) → IsLeft r (apply r (PutReport x ∷ turn_changes b at t ++ (drop_changes c ends ++ (back_changes c back ++ PutVehicle v ∷ [])))) x c back v
+pub left_by : (r : Room) (x : Report) (b : Button) (at : ℕ) (t : Option Turn) (c : Callsign)
+    (ends back : Bool) (v : Vehicle) → IsLeft r
+    (apply r (PutReport x ∷ turn_changes b at t
+    ++ (drop_changes c ends ++ (back_changes c back ++ PutVehicle v ∷ [])))) x c back v
 left_by r x b at None c true true v = record { loans = refl; vehicles = refl; reports = refl }
 left_by r x b at None c true false v = record { loans = refl; vehicles = refl; reports = refl }
 left_by r x b at None c false true v = record { loans = refl; vehicles = refl; reports = refl }
@@ -93,7 +98,8 @@ not_ended d (Some l) = and_false (l.lender == d)
     and_false false = refl
 
 -- ---- of a vehicle that another division holds
-module _ (d h : ℕ) (r : Room) (w : IsWellFormed r) (apart : h == d ≡ false) (c : Callsign) (p : Press) (at : ℕ) (fresh : kept_report c p.number r ≡ None) where
+module _ (d h : ℕ) (r : Room) (w : IsWellFormed r) (apart : h == d ≡ false) (c : Callsign)
+    (p : Press) (at : ℕ) (fresh : kept_report c p.number r ≡ None) where
   same_and : (b : Bool) → b && true ≡ b
   same_and true = refl
   same_and false = refl
@@ -105,7 +111,8 @@ module _ (d h : ℕ) (r : Room) (w : IsWellFormed r) (apart : h == d ≡ false) 
   unfolding open_turn
   open_is t g = let parts = among_filter (λ t. t.division == h && (same_callsign t.callsign c && is_none t.ended)) r.turns t (first_among _ t g) in (parts.0, eqb-true t.division h (left_true _ _ parts.1))
 
-  turns_foreign : (o : Option Turn) → open_turn h c r ≡ o → AllForeign d (own d r) (turn_changes p.button at o)
+  turns_foreign : (o : Option Turn) → open_turn h c r ≡ o
+      → AllForeign d (own d r) (turn_changes p.button at o)
   turns_foreign None e = tt
   turns_foreign (Some t) e =
       let is = open_is t e in
@@ -122,7 +129,8 @@ module _ (d h : ℕ) (r : Room) (w : IsWellFormed r) (apart : h == d ≡ false) 
     abbrev HandsOver : Verdict → Type 0
     HandsOver x = own d (apply r (changes_of x)) ≡ share_by d (own d r) (arrival d c r (apply r (changes_of x)))
 
-    report_foreign : (o : Outcome) (s : Status) → IsForeign d (own d r) (PutReport (report_row v p at o s))
+    report_foreign : (o : Outcome) (s : Status)
+        → IsForeign d (own d r) (PutReport (report_row v p at o s))
     unfolding kept_report
     report_foreign o s = (
       apart_from v.holder h d is.holder apart,
@@ -135,30 +143,42 @@ module _ (d h : ℕ) (r : Room) (w : IsWellFormed r) (apart : h == d ≡ false) 
     drop_foreign true = (other_assignment d h r w apart c v is, tt)
 
     -- the report, the turn and the assignment
-    first_foreign : (o : Outcome) (s : Status) → AllForeign d (own d r) (PutReport (report_row v p at o s) ∷ turn_changes p.button at (open_turn h c r) ++ drop_changes v.callsign (ends_turn p.button))
+    first_foreign : (o : Outcome) (s : Status)
+        → AllForeign d (own d r) (PutReport (report_row v p at o s)
+        ∷ turn_changes p.button at (open_turn h c r)
+        ++ drop_changes v.callsign (ends_turn p.button))
     first_foreign o s = (report_foreign o s, foreign_append d (own d r) _ _ (turns_foreign (open_turn h c r) refl) (drop_foreign (ends_turn p.button)))
 
     -- where the loan stays as it is, nothing is handed over
-    stays : (cs : List Change) → AllForeign d (own d r) cs → (apply r cs).loans ≡ r.loans → own d (apply r cs) ≡ share_by d (own d r) (arrival d c r (apply r cs))
+    stays : (cs : List Change) → AllForeign d (own d r) cs → (apply r cs).loans ≡ r.loans
+        → own d (apply r cs) ≡ share_by d (own d r) (arrival d c r (apply r cs))
     unfolding loan_at
     stays cs f same =
         own_foreign d r cs w.order f
         ∙ sym (ap (λ (b : Bool). share_by d (own d r) (cond b (option_map Arrive (vehicle_at c (apply r cs))) None)) (ap (λ ls. is_loan_ended d (row_at callsign_cmp loan_key r.loans c) (row_at callsign_cmp loan_key ls c)) same ∙ not_ended d (row_at callsign_cmp loan_key r.loans c)))
 
-    ignored : (o : Outcome) → HandsOver (tell (answer.Reported p.number o v.status) (PutReport (report_row v p at o v.status) ∷ PutVehicle (with_report v p) ∷ []))
+    ignored : (o : Outcome) → HandsOver
+        (tell (answer.Reported p.number o v.status)
+        (PutReport (report_row v p at o v.status) ∷ PutVehicle (with_report v p) ∷ []))
     ignored o = stays (PutReport (report_row v p at o v.status) ∷ PutVehicle (with_report v p) ∷ []) (report_foreign o v.status, (vehicle_foreign d h r w apart c v is (with_report v p) refl is.holder, tt)) refl
 
     -- where the loan ends, its lender is handed the vehicle
-    loan_found : (l : Loan) → borrowed h c r ≡ Some l → (row_at callsign_cmp loan_key r.loans c ≡ Some l) × (l.borrower ≡ h)
+    loan_found : (l : Loan) → borrowed h c r ≡ Some l
+        → (row_at callsign_cmp loan_key r.loans c ≡ Some l) × (l.borrower ≡ h)
     unfolding borrowed
     loan_found l e = let parts = keep_some (λ (x : Loan). x.borrower == h) (row_at callsign_cmp loan_key r.loans c) l e in (parts.0, eqb-true l.borrower h parts.1)
 
-    other_loan : (l : Loan) → row_at callsign_cmp loan_key r.loans c ≡ Some l → l.lender == d ≡ false → l.borrower ≡ h → row_at callsign_cmp loan_key (own d r).loans v.callsign ≡ None
+    other_loan : (l : Loan) → row_at callsign_cmp loan_key r.loans c ≡ Some l
+        → l.lender == d ≡ false → l.borrower ≡ h
+        → row_at callsign_cmp loan_key (own d r).loans v.callsign ≡ None
     other_loan l there e f =
         ap (row_at callsign_cmp loan_key (own d r).loans) (sym is.key)
         ∙ none_own callsign_cmp loan_key callsigns_total (owns_loan d) r.loans c w.order.loans (λ y g. let both : Some l ≡ Some y = sym there ∙ g in let same : l ≡ y = cc in ap (owns_loan d) (sym same) ∙ neither _ _ e (apart_from l.borrower h d f apart))
 
-    returned : (o : Outcome) (l : Loan) → borrowed h c r ≡ Some l → own d (apply r (report_acts v (open_turn h c r) (Some l) p at o true)) ≡ share_by d (own d r) (arrival d c r (apply r (report_acts v (open_turn h c r) (Some l) p at o true)))
+    returned : (o : Outcome) (l : Loan) → borrowed h c r ≡ Some l
+        → own d (apply r (report_acts v (open_turn h c r) (Some l) p at o true))
+        ≡ share_by d (own d r) (arrival d c r
+        (apply r (report_acts v (open_turn h c r) (Some l) p at o true)))
     unfolding loan_at vehicle_at
     returned o l e =
         let s = own d r in
@@ -189,7 +209,10 @@ module _ (d h : ℕ) (r : Room) (w : IsWellFormed r) (apart : h == d ≡ false) 
         ∙ ap (λ q. share_by d s (cond (l.lender == d) (option_map Arrive q) None)) became
         )
 
-    acted : (o : Outcome) (back : Bool) → is_home p.button && is_due at (borrowed h c r) ≡ back → own d (apply r (report_acts v (open_turn h c r) (borrowed h c r) p at o back)) ≡ share_by d (own d r) (arrival d c r (apply r (report_acts v (open_turn h c r) (borrowed h c r) p at o back)))
+    acted : (o : Outcome) (back : Bool) → is_home p.button && is_due at (borrowed h c r) ≡ back
+        → own d (apply r (report_acts v (open_turn h c r) (borrowed h c r) p at o back))
+        ≡ share_by d (own d r) (arrival d c r
+        (apply r (report_acts v (open_turn h c r) (borrowed h c r) p at o back)))
     acted o false e =
         let x = vehicle_after v (borrowed h c r) p false in
         let first = first_foreign o (status_after v.status p.button) in
@@ -207,11 +230,15 @@ module _ (d h : ℕ) (r : Room) (w : IsWellFormed r) (apart : h == d ≡ false) 
   unheld : arrival d c r r ≡ None
   unheld = ap (λ (b : Bool). cond b (option_map Arrive (vehicle_at c r)) None) (not_ended d (loan_at c r))
 
-  by_held : (o : Option Vehicle) → held h c r ≡ o → own d (apply r (changes_of (report_held o (open_turn h c r) (borrowed h c r) p at))) ≡ share_by d (own d r) (arrival d c r (apply r (changes_of (report_held o (open_turn h c r) (borrowed h c r) p at))))
+  by_held : (o : Option Vehicle) → held h c r ≡ o
+      → own d (apply r (changes_of (report_held o (open_turn h c r) (borrowed h c r) p at)))
+      ≡ share_by d (own d r) (arrival d c r
+      (apply r (changes_of (report_held o (open_turn h c r) (borrowed h c r) p at))))
   by_held None e = sym (ap (share_by d (own d r)) unheld)
   by_held (Some v) e = held_report v (held_is h c r v e)
 
-  report_hands : own d (apply r (changes_of (report_in h c p at r))) ≡ share_by d (own d r) (arrival d c r (apply r (changes_of (report_in h c p at r))))
+  report_hands : own d (apply r (changes_of (report_in h c p at r)))
+      ≡ share_by d (own d r) (arrival d c r (apply r (changes_of (report_in h c p at r))))
   unfolding report_in
   report_hands = by_held (held h c r) refl
 
@@ -224,7 +251,8 @@ module _ (d : ℕ) (r : Room) (w : IsWellFormed r) (c : Callsign) (at : ℕ) whe
   unfolding kept_report
   kept_own n e = row_filter numbered_cmp report_key numbered_total (owns_report d) r.reports (c, n) w.order.reports ∙ ap (keep (owns_report d)) e
 
-  vehicle_own : (v : Vehicle) → vehicle_at c r ≡ Some v → v.holder == d ≡ true → vehicle_at c (own d r) ≡ Some v
+  vehicle_own : (v : Vehicle) → vehicle_at c r ≡ Some v → v.holder == d ≡ true
+      → vehicle_at c (own d r) ≡ Some v
   unfolding vehicle_at
   vehicle_own v e f = row_filter callsign_cmp vehicle_key callsigns_total (owns_vehicle d) r.vehicles c w.order.vehicles ∙ ap (keep (owns_vehicle d)) e ∙ ap (λ (b : Bool). cond b (Some v) None) f
 
@@ -236,10 +264,13 @@ module _ (d : ℕ) (r : Room) (w : IsWellFormed r) (c : Callsign) (at : ℕ) whe
       either false = refl
 
   -- a report that is not kept is decided where the vehicle is held
-  new_reported : (p : Press) (s : Room) (v : Vehicle) → kept_report c p.number s ≡ None → vehicle_at c s ≡ Some v → take_report c p at s ≡ report_in v.holder c p at s
+  new_reported : (p : Press) (s : Room) (v : Vehicle) → kept_report c p.number s ≡ None
+      → vehicle_at c s ≡ Some v → take_report c p at s ≡ report_in v.holder c p at s
   new_reported p s v k e = ap (λ q. report_kept q c p at s) k ∙ ap (λ q. report_somewhere q c p at s) e
 
-  pub report_by_share : (p : Press) (v : Vehicle) → kept_report c p.number r ≡ None → vehicle_at c r ≡ Some v → v.holder == d ≡ true → take_report c p at (own d r) ≡ take_report c p at r
+  pub report_by_share : (p : Press) (v : Vehicle) → kept_report c p.number r ≡ None
+      → vehicle_at c r ≡ Some v → v.holder == d ≡ true
+      → take_report c p at (own d r) ≡ take_report c p at r
   report_by_share p v k e f =
       let same : v.holder ≡ d = eqb-true v.holder d f in
       new_reported p (own d r) v (kept_own p.number k) (vehicle_own v e f) ∙ ap (λ q. report_in q c p at (own d r)) same ∙ report_in_own d r w.order c p at ∙ ap (λ q. report_in q c p at r) (sym same) ∙ sym (new_reported p r v k e)
@@ -252,7 +283,10 @@ module _ (d : ℕ) (r : Room) (w : IsWellFormed r) (c : Callsign) (at : ℕ) whe
     | false ↦ λ f. report_hands d v.holder r w f c p at k
   ]) refl
 
-  report_event : (p : Press) (o : Option Report) → kept_report c p.number r ≡ o → own d (apply r (changes_of (report_kept o c p at r))) ≡ share_by d (own d r) (cross_report d (sent (ask.Report p)) c o r (apply r (changes_of (report_kept o c p at r))))
+  report_event : (p : Press) (o : Option Report) → kept_report c p.number r ≡ o
+      → own d (apply r (changes_of (report_kept o c p at r)))
+      ≡ share_by d (own d r) (cross_report d (sent (ask.Report p)) c o r
+      (apply r (changes_of (report_kept o c p at r))))
   report_event p None e = placed p (vehicle_at c r) e refl
   report_event p (Some k) e = by_refuse (λ x. own d (apply r (changes_of x)) ≡ own d r) _ _ _ refl (λ f. refl)
 
@@ -260,18 +294,21 @@ module _ (d : ℕ) (r : Room) (w : IsWellFormed r) (c : Callsign) (at : ℕ) whe
   shown None a = refl
   shown (Some v) a = refl
 
-  pub crew_event : (a : Ask) → own d (apply r (changes_of (crew_asks c a at r))) ≡ share_by d (own d r) (cross_crew d c (sent a) a r)
+  pub crew_event : (a : Ask) → own d (apply r (changes_of (crew_asks c a at r)))
+      ≡ share_by d (own d r) (cross_crew d c (sent a) a r)
   crew_event (ask.Report p) = report_event p (kept_report c p.number r) refl
   crew_event ask.Order = ap (λ cs. own d (apply r cs)) (shown (vehicle_at c r) (assignment_at c r))
   crew_event a = refl
 
   -- no desk is told of it
-  quiet_arrival : (b : Bool) (o : Option Vehicle) → told_by (own d r) (cond b (option_map Arrive o) None) ≡ []
+  quiet_arrival : (b : Bool) (o : Option Vehicle)
+      → told_by (own d r) (cond b (option_map Arrive o) None) ≡ []
   quiet_arrival true None = refl
   quiet_arrival true (Some v) = refl
   quiet_arrival false o = refl
 
-  told_report : (p : Press) (o : Option Report) (after : Room) → told_by (own d r) (cross_report d (sent (ask.Report p)) c o r after) ≡ []
+  told_report : (p : Press) (o : Option Report) (after : Room)
+      → told_by (own d r) (cross_report d (sent (ask.Report p)) c o r after) ≡ []
   told_report p (Some k) after = refl
   told_report p None after = (elim (is_held_by d (vehicle_at c r)) as (λ (b : Bool). told_by (own d r) (cond b (Some (ReportIn (sent (ask.Report p)))) (arrival d c r after)) ≡ []) [
     | true ↦ refl

@@ -74,20 +74,26 @@ module _ (d : ℕ) (r : Room) (w : IsWellFormed r) where
   abbrev handed : Bool → ℕ → Ask → ℕ → Option Crossing
   handed b h a at = cond b (Some (cross_own (is_ok (desk_asks h a at r)) (by_desk h a at) a r)) (cond (is_ok (desk_asks h a at r)) (cross_other d h a r (apply r (changes_of (desk_asks h a at r)))) None)
 
-  desk_event : (h : ℕ) (a : Ask) (at : ℕ) (b : Bool) → h == d ≡ b → own d (apply r (changes_of (desk_asks h a at r))) ≡ share_by d (own d r) (handed b h a at)
+  desk_event : (h : ℕ) (a : Ask) (at : ℕ) (b : Bool) → h == d ≡ b
+      → own d (apply r (changes_of (desk_asks h a at r))) ≡ share_by d (own d r) (handed b h a at)
   desk_event h a at true e = subst (λ k. own d (apply r (changes_of (desk_asks k a at r))) ≡ share_by d (own d r) (handed true k a at)) (sym (eqb-true h d e)) (own_request d r w a at)
   desk_event h a at false e = other_desk d h r a at w e ∙ ap (λ b. share_by d (own d r) (handed b h a at)) e
 
-  told_desk : (h : ℕ) (a : Ask) (at : ℕ) (b : Bool) → h == d ≡ b → told_by (own d r) (handed b h a at) ≡ cond b (answer_to (by_desk h a at) r ∷ []) []
+  told_desk : (h : ℕ) (a : Ask) (at : ℕ) (b : Bool) → h == d ≡ b
+      → told_by (own d r) (handed b h a at) ≡ cond b (answer_to (by_desk h a at) r ∷ []) []
   told_desk h a at true e = subst (λ k. told_by (own d r) (handed true k a at) ≡ answer_to (by_desk k a at) r ∷ []) (sym (eqb-true h d e)) (told_request d r w a at)
   told_desk h a at false e = quiet_if (own d r) (is_ok (desk_asks h a at r)) (cross_other d h a r (apply r (changes_of (desk_asks h a at r)))) (quiet_other (own d r) d h a r (apply r (changes_of (desk_asks h a at r))))
 
-  who_event : (who : Who) (a : Ask) (at : ℕ) → own d (room_after (record { who = who; ask = a; at = at }) r) ≡ share_by d (own d r) (cross d r (record { who = who; ask = a; at = at }))
+  who_event : (who : Who) (a : Ask) (at : ℕ)
+      → own d (room_after (record { who = who; ask = a; at = at }) r)
+      ≡ share_by d (own d r) (cross d r (record { who = who; ask = a; at = at }))
   who_event (Desk h) a at = desk_event h a at (h == d) refl
   who_event (Position p) a at = position_event d r w p at a
   who_event (Crew c) a at = crew_event d r w c at a
 
-  told_who : (who : Who) (a : Ask) (at : ℕ) → told_by (own d r) (cross d r (record { who = who; ask = a; at = at })) ≡ cond (is_desk d who) (answer_to (record { who = who; ask = a; at = at }) r ∷ []) []
+  told_who : (who : Who) (a : Ask) (at : ℕ)
+      → told_by (own d r) (cross d r (record { who = who; ask = a; at = at }))
+      ≡ cond (is_desk d who) (answer_to (record { who = who; ask = a; at = at }) r ∷ []) []
   told_who (Desk h) a at = told_desk h a at (h == d) refl
   told_who (Position p) a at = told_position d r w p at a
   told_who (Crew c) a at = told_crew d r w c at a
@@ -97,7 +103,8 @@ module _ (d : ℕ) (r : Room) (w : IsWellFormed r) where
   one_event e = who_event e.who e.ask e.at
 
   -- and its desk is told the answer to its own requests, and nothing else
-  pub one_told : (e : Event) → told_by (own d r) (cross d r e) ≡ cond (is_desk d e.who) (answer_to e r ∷ []) []
+  pub one_told : (e : Event) → told_by (own d r) (cross d r e)
+      ≡ cond (is_desk d e.who) (answer_to e r ∷ []) []
   one_told e = told_who e.who e.ask e.at
 
 -- ---- lists of events
@@ -106,19 +113,23 @@ abbrev pub AreWellFormed : List Event → Room → Type 0
 AreWellFormed [] r = Unit {0}
 AreWellFormed (e ∷ es) r = IsWellFormed r × AreWellFormed es (room_after e r)
 
-pub meet_well_formed : (es : List Event) (r : Room) → IsWellFormed r → AreAddressed es r → AreWellFormed es r
+pub meet_well_formed : (es : List Event) (r : Room) → IsWellFormed r → AreAddressed es r
+    → AreWellFormed es r
 meet_well_formed [] r w known = tt
 meet_well_formed (e ∷ es) r w known = (w, meet_well_formed es (room_after e r) (event_kept e r w known.0 known.1) (addressed_still es r (changes_of (decided e r)) known.2))
 
-pub run_share : (d : ℕ) (es : List Event) (r : Room) → AreWellFormed es r → own d (room_run es r) ≡ alone d (crossings d es r) (own d r)
+pub run_share : (d : ℕ) (es : List Event) (r : Room) → AreWellFormed es r
+    → own d (room_run es r) ≡ alone d (crossings d es r) (own d r)
 run_share d [] r w = refl
 run_share d (e ∷ es) r w = run_share d es (room_after e r) w.1 ∙ ap (alone d (crossings d es (room_after e r))) (one_event d r w.0 e)
 
-told_first : {X : Type 0} (b : Bool) (x : X) (xs : List X) → cond b (x ∷ xs) xs ≡ cond b (x ∷ []) [] ++ xs
+told_first : {X : Type 0} (b : Bool) (x : X) (xs : List X)
+    → cond b (x ∷ xs) xs ≡ cond b (x ∷ []) [] ++ xs
 told_first true x xs = refl
 told_first false x xs = refl
 
-pub run_told : (d : ℕ) (es : List Event) (r : Room) → AreWellFormed es r → told d es r ≡ told_alone d (crossings d es r) (own d r)
+pub run_told : (d : ℕ) (es : List Event) (r : Room) → AreWellFormed es r
+    → told d es r ≡ told_alone d (crossings d es r) (own d r)
 run_told d [] r w = refl
 run_told d (e ∷ es) r w =
     told_first (is_desk d e.who) (answer_to e r) (told d es (room_after e r))
@@ -126,17 +137,21 @@ run_told d (e ∷ es) r w =
     ∙ ap (λ ts. told_by (own d r) (cross d r e) ++ ts) (run_told d es (room_after e r) w.1 ∙ ap (told_alone d (crossings d es (room_after e r))) (one_event d r w.0 e))
 
 -- ---- what is received, and no more, counts
-alone_received : (d : ℕ) (xs : List (Option Crossing)) (s : Room) → alone d xs s ≡ alone d (map Some (received xs)) s
+alone_received : (d : ℕ) (xs : List (Option Crossing)) (s : Room)
+    → alone d xs s ≡ alone d (map Some (received xs)) s
 alone_received d [] s = refl
 alone_received d (None ∷ xs) s = alone_received d xs s
 alone_received d (Some x ∷ xs) s = alone_received d xs (share_by d s (Some x))
 
-told_received : (d : ℕ) (xs : List (Option Crossing)) (s : Room) → told_alone d xs s ≡ told_alone d (map Some (received xs)) s
+told_received : (d : ℕ) (xs : List (Option Crossing)) (s : Room)
+    → told_alone d xs s ≡ told_alone d (map Some (received xs)) s
 told_received d [] s = refl
 told_received d (None ∷ xs) s = told_received d xs s
 told_received d (Some x ∷ xs) s = ap (λ ts. told_by s (Some x) ++ ts) (told_received d xs (share_by d s (Some x)))
 
-module _ (d : ℕ) (es fs : List Event) (r s : Room) (w : AreWellFormed es r) (v : AreWellFormed fs s) (same : own d r ≡ own d s) (handed : received (crossings d es r) ≡ received (crossings d fs s)) where
+module _ (d : ℕ) (es fs : List Event) (r s : Room) (w : AreWellFormed es r)
+    (v : AreWellFormed fs s) (same : own d r ≡ own d s)
+    (handed : received (crossings d es r) ≡ received (crossings d fs s)) where
   pub equal_shares : own d (room_run es r) ≡ own d (room_run fs s)
   equal_shares =
       run_share d es r w ∙ alone_received d (crossings d es r) (own d r)
@@ -150,18 +165,21 @@ module _ (d : ℕ) (es fs : List Event) (r s : Room) (w : AreWellFormed es r) (v
       ∙ sym (run_told d fs s v ∙ told_received d (crossings d fs s) (own d s))
 
 -- ---- where nothing is lent
-everyday_if : (b : Bool) (x y : Option Crossing) → is_everyday x ≡ true → is_everyday y ≡ true → is_everyday (cond b x y) ≡ true
+everyday_if : (b : Bool) (x y : Option Crossing) → is_everyday x ≡ true → is_everyday y ≡ true
+    → is_everyday (cond b x y) ≡ true
 everyday_if true x y e f = e
 everyday_if false x y e f = f
 
 -- what is done is not refused
-not_refused : (b : Bool) (x : Verdict) → b || is_err (answer_of x) ≡ true → is_ok x ≡ true → b ≡ true
+not_refused : (b : Bool) (x : Verdict) → b || is_err (answer_of x) ≡ true → is_ok x ≡ true
+    → b ≡ true
 not_refused true x l h = refl
 not_refused false (Ok x) l h = l
 not_refused false (Err e) l h = h
 
 module _ (d : ℕ) (r : Room) where
-  everyday_own : (b : Bool) (e : Event) (a : Ask) → is_local a ≡ true → is_everyday (Some (cross_own b e a r)) ≡ true
+  everyday_own : (b : Bool) (e : Event) (a : Ask) → is_local a ≡ true
+      → is_everyday (Some (cross_own b e a r)) ≡ true
   everyday_own b e (ask.Accept c) l = cc
   everyday_own b e a l = refl
 
@@ -169,7 +187,8 @@ module _ (d : ℕ) (r : Room) where
   everyday_refused e (ask.Accept c) = refl
   everyday_refused e a = refl
 
-  everyday_other : (h : ℕ) (a : Ask) (after : Room) → is_local a ≡ true → is_everyday (cross_other d h a r after) ≡ true
+  everyday_other : (h : ℕ) (a : Ask) (after : Room) → is_local a ≡ true
+      → is_everyday (cross_other d h a r after) ≡ true
   everyday_other h (ask.Lend c to until) after l = cc
   everyday_other h (ask.Withdraw c) after l = cc
   everyday_other h (ask.Decline c) after l = cc
@@ -178,11 +197,13 @@ module _ (d : ℕ) (r : Room) where
   everyday_other h (ask.GiveBack c) after l = cc
   everyday_other h a after l = refl
 
-  everyday_call : (e : Event) (f : CallForm) (o : Option Call) → is_everyday (cross_call d e f o r) ≡ true
+  everyday_call : (e : Event) (f : CallForm) (o : Option Call)
+      → is_everyday (cross_call d e f o r) ≡ true
   everyday_call e f (Some k) = refl
   everyday_call e f None = everyday_if (is_division_of d (division_of r.plan f.place)) (Some (CallIn e)) None refl refl
 
-  everyday_report : (e : Event) (c : Callsign) (o : Option Report) (after : Room) → after.loans ≡ r.loans → is_everyday (cross_report d e c o r after) ≡ true
+  everyday_report : (e : Event) (c : Callsign) (o : Option Report) (after : Room)
+      → after.loans ≡ r.loans → is_everyday (cross_report d e c o r after) ≡ true
   unfolding loan_at
   everyday_report e c (Some k) after same = refl
   everyday_report e c None after same =
@@ -193,19 +214,25 @@ module _ (d : ℕ) (r : Room) where
   everyday_position p e (ask.Call f) = everyday_call e f (kept_call p f.serial r)
   everyday_position p e a = refl
 
-  everyday_crew : (c : Callsign) (e : Event) (a : Ask) → (room_after e r).loans ≡ r.loans → is_everyday (cross_crew d c e a r) ≡ true
+  everyday_crew : (c : Callsign) (e : Event) (a : Ask) → (room_after e r).loans ≡ r.loans
+      → is_everyday (cross_crew d c e a r) ≡ true
   everyday_crew c e (ask.Report p) same = everyday_report e c (kept_report c p.number r) (room_after e r) same
   everyday_crew c e a same = refl
 
-  everyday_desk : (h : ℕ) (e : Event) (done : Bool) → (done ≡ true → is_local e.ask ≡ true) → is_everyday (cond (h == d) (Some (cross_own done e e.ask r)) (cond done (cross_other d h e.ask r (room_after e r)) None)) ≡ true
+  everyday_desk : (h : ℕ) (e : Event) (done : Bool) → (done ≡ true → is_local e.ask ≡ true)
+      → is_everyday (cond (h == d) (Some (cross_own done e e.ask r))
+      (cond done (cross_other d h e.ask r (room_after e r)) None)) ≡ true
   everyday_desk h e true l = everyday_if (h == d) _ _ (everyday_own true e e.ask (l refl)) (everyday_other h e.ask (room_after e r) (l refl))
   everyday_desk h e false l = everyday_if (h == d) _ None (everyday_refused e e.ask) refl
 
-  everyday_who : (who : Who) (e : Event) → is_local e.ask || is_err (answer_of (decided e r)) ≡ true → (room_after e r).loans ≡ r.loans → is_everyday (cross_who d e who r) ≡ true
+  everyday_who : (who : Who) (e : Event)
+      → is_local e.ask || is_err (answer_of (decided e r)) ≡ true
+      → (room_after e r).loans ≡ r.loans → is_everyday (cross_who d e who r) ≡ true
   everyday_who (Desk h) e l same = everyday_desk h e (is_ok (decided e r)) (not_refused (is_local e.ask) (decided e r) l)
   everyday_who (Position p) e l same = everyday_position p e e.ask
   everyday_who (Crew c) e l same = everyday_crew c e e.ask same
 
-pub run_everyday : (d : ℕ) (es : List Event) (r : Room) → AreLocal es r → list_all is_everyday (crossings d es r) ≡ true
+pub run_everyday : (d : ℕ) (es : List Event) (r : Room) → AreLocal es r
+    → list_all is_everyday (crossings d es r) ≡ true
 run_everyday d [] r l = refl
 run_everyday d (e ∷ es) r l = both_true _ _ (everyday_who d r e.who e l.0.0 l.0.1) (run_everyday d es (room_after e r) l.1)

@@ -54,7 +54,8 @@ pub record SeesIncident (d n : ℕ) (s r : Room) : Type 0 where
 abbrev pub beside : ℕ → Room → List Incident → List Call → List Turn → List Report → Room
 beside d r is cs ts xs = record (own d r) { incidents = is; calls = cs; turns = ts; reports = xs }
 
-module _ (d : ℕ) (r : Room) (in_order : IsInOrder r) (is : List Incident) (cs : List Call) (ts : List Turn) (xs : List Report) where
+module _ (d : ℕ) (r : Room) (in_order : IsInOrder r) (is : List Incident) (cs : List Call)
+    (ts : List Turn) (xs : List Report) where
   held_beside : (c : Callsign) → held d c (beside d r is cs ts xs) ≡ held d c r
   unfolding held
   held_beside c = ap (keep (λ v. v.holder == d)) (row_filter callsign_cmp vehicle_key callsigns_total (owns_vehicle d) r.vehicles c in_order.vehicles) ∙ keep_keep (λ v. v.holder == d) (owns_vehicle d) _ (λ x h. h)
@@ -87,7 +88,8 @@ module _ (d : ℕ) (r : Room) (in_order : IsInOrder r) (is : List Incident) (cs 
   unfolding offers_of
   offers_beside = filter_filter _ (owns_offer d) r.offers (λ x h. h)
 
-  assignment_beside : (c : Callsign) → assignment_of d c (beside d r is cs ts xs) ≡ assignment_of d c r
+  assignment_beside : (c : Callsign)
+      → assignment_of d c (beside d r is cs ts xs) ≡ assignment_of d c r
   unfolding assignment_of
   assignment_beside c = ap (keep (λ a. a.division == d)) (row_filter callsign_cmp assignment_key callsigns_total (owns_assignment d) r.assignments c in_order.assignments) ∙ keep_keep (λ a. a.division == d) (owns_assignment d) _ (λ x h. h)
 
@@ -103,7 +105,8 @@ module _ (d : ℕ) (r : Room) (in_order : IsInOrder r) (is : List Incident) (cs 
   unfolding holders
   holders_beside n at = filter_filter _ (owns_vehicle d) r.vehicles (λ x h. left_true _ _ (left_true _ _ h))
 
-  eligible_beside : (k : Kind) (at : ℕ) → eligible d k at (beside d r is cs ts xs) ≡ eligible d k at r
+  eligible_beside : (k : Kind) (at : ℕ)
+      → eligible d k at (beside d r is cs ts xs) ≡ eligible d k at r
   eligible_beside k at = filter_filter _ (owns_vehicle d) r.vehicles (λ x h. left_true _ _ (left_true _ _ h))
 
   pub sees_beside : SeesVehicles d (beside d r is cs ts xs) r

@@ -36,20 +36,26 @@ is_open t = is_none t.ended
 
 -- ---- one vehicle's rows, in a room that keeps the agreements
 -- a busy vehicle's turn of its last order is open, and its holder's
-open_busy : (v : Vehicle) (n : ℕ) (t : Turn) (ended : Option ℕ) → room.OpenAgrees v n t ended → n ≡ v.last_order → is_busy v.status ≡ true → (ended ≡ None) × (t.division ≡ v.holder)
+open_busy : (v : Vehicle) (n : ℕ) (t : Turn) (ended : Option ℕ) → room.OpenAgrees v n t ended
+    → n ≡ v.last_order → is_busy v.status ≡ true → (ended ≡ None) × (t.division ≡ v.holder)
 open_busy v n t None h last busy = (refl, h.1)
 open_busy v n t (Some at) h last busy = let idle = h last in cc
 
-open_holder : (v : Vehicle) (n : ℕ) (t : Turn) (ended : Option ℕ) → room.OpenAgrees v n t ended → is_none ended ≡ true → (n ≡ v.last_order) × (t.division ≡ v.holder)
+open_holder : (v : Vehicle) (n : ℕ) (t : Turn) (ended : Option ℕ) → room.OpenAgrees v n t ended
+    → is_none ended ≡ true → (n ≡ v.last_order) × (t.division ≡ v.holder)
 open_holder v n t None h e = (h.0, h.1)
 open_holder v n t (Some at) h e = cc
 
 -- an idle vehicle's is not
-open_idle : (v : Vehicle) (n : ℕ) (t : Turn) (ended : Option ℕ) → room.OpenAgrees v n t ended → is_busy v.status ≡ false → is_none ended ≡ false
+open_idle : (v : Vehicle) (n : ℕ) (t : Turn) (ended : Option ℕ) → room.OpenAgrees v n t ended
+    → is_busy v.status ≡ false → is_none ended ≡ false
 open_idle v n t None h idle = let busy = h.2 in cc
 open_idle v n t (Some at) h idle = refl
 
-pub sent_in_room : (v : Vehicle) (a : Option Assignment) (t : Option Turn) → room.AssignmentAgrees (Some v) a → room.TurnAgrees (Some v) v.last_order t → room.SameIncident a t → IfSome t (λ x. x.order ≡ v.last_order) → SentAgrees v a (keep is_open t)
+pub sent_in_room : (v : Vehicle) (a : Option Assignment) (t : Option Turn)
+    → room.AssignmentAgrees (Some v) a → room.TurnAgrees (Some v) v.last_order t
+    → room.SameIncident a t → IfSome t (λ x. x.order ≡ v.last_order)
+    → SentAgrees v a (keep is_open t)
 sent_in_room v None None h g same last = h
 sent_in_room v None (Some x) h g same last = rw (open_idle v v.last_order x x.ended g.2 h) h
 sent_in_room v (Some y) None h g same last = let idle = g refl in let busy = h.0 in cc
@@ -59,7 +65,8 @@ sent_in_room v (Some y) (Some x) h g same last =
 
 -- ---- a division's rows, of a well-formed room
 -- a filter's rows pass
-all_filter : {X : Type 0} (p q : X → Bool) → Implies q p → (xs : List X) → list_all p (filter q xs) ≡ true
+all_filter : {X : Type 0} (p q : X → Bool) → Implies q p → (xs : List X)
+    → list_all p (filter q xs) ≡ true
 all_filter p q f [] = refl
 all_filter p q f (x ∷ xs) = (elim (q x) as (λ (b : Bool). q x ≡ b → list_all p (cond b (x ∷ filter q xs) (filter q xs)) ≡ true) [
   | true ↦ λ e. rw (f x e) (all_filter p q f xs)
@@ -67,20 +74,24 @@ all_filter p q f (x ∷ xs) = (elim (q x) as (λ (b : Bool). q x ≡ b → list_
 ]) refl
 
 -- of the value, if there is one
-pub if_from : {X : Type 0} (P : X → Type 0) (o : Option X) → ((x : X) → o ≡ Some x → P x) → IfSome o P
+pub if_from : {X : Type 0} (P : X → Type 0) (o : Option X) → ((x : X) → o ≡ Some x → P x)
+    → IfSome o P
 if_from P None f = tt
 if_from P (Some x) f = f x refl
 
-pub if_then : {X : Type 0} (P Q : X → Type 0) (o : Option X) → ((x : X) → P x → Q x) → IfSome o P → IfSome o Q
+pub if_then : {X : Type 0} (P Q : X → Type 0) (o : Option X) → ((x : X) → P x → Q x) → IfSome o P
+    → IfSome o Q
 if_then P Q None f h = tt
 if_then P Q (Some x) f h = f x h
 
-pub if_kept : {X : Type 0} (p : X → Bool) (P : X → Type 0) (o : Option X) → ((x : X) → o ≡ Some x → p x ≡ true → P x) → IfSome (keep p o) P
+pub if_kept : {X : Type 0} (p : X → Bool) (P : X → Type 0) (o : Option X)
+    → ((x : X) → o ≡ Some x → p x ≡ true → P x) → IfSome (keep p o) P
 if_kept p P None f = tt
 if_kept p P (Some x) f = (elim (p x) as (λ (b : Bool). p x ≡ b → IfSome (cond b (Some x) None) P) [ true ↦ λ e. f x refl e | false ↦ λ e. tt ]) refl
 
 -- of what agrees, any parts do
-parts_of : (v : Vehicle) (a : Option Assignment) (t : Option Turn) → SentAgrees v a t → (b c : Bool) → PartsAgree v (cond b a None) (cond c t None)
+parts_of : (v : Vehicle) (a : Option Assignment) (t : Option Turn) → SentAgrees v a t
+    → (b c : Bool) → PartsAgree v (cond b a None) (cond c t None)
 parts_of v None None h true true = tt
 parts_of v None None h true false = tt
 parts_of v None None h false true = tt
@@ -106,7 +117,8 @@ abbrev turn_passed : {X : Type 0} → Bool → (X → Bool) → Option X → Boo
 turn_passed b p None = true
 turn_passed b p (Some x) = b && p x
 
-open_kept : {X : Type 0} (b : Bool) (is p : X → Bool) (o : Option X) → cond b (keep is (keep p o)) None ≡ cond (turn_passed b p o) (keep is o) None
+open_kept : {X : Type 0} (b : Bool) (is p : X → Bool) (o : Option X)
+    → cond b (keep is (keep p o)) None ≡ cond (turn_passed b p o) (keep is o) None
 open_kept true is p None = refl
 open_kept false is p None = refl
 open_kept false is p (Some x) = refl
@@ -151,20 +163,25 @@ module _ (d : ℕ) (r : Room) (formed : IsWellFormed r) (reads : Reads d) where
     reports = filter reads.report r.reports;
   }
 
-  vehicle_row : (c : Callsign) → vehicle_at c read_rows ≡ keep reads.vehicle (row_at callsign_cmp vehicle_key r.vehicles c)
+  vehicle_row : (c : Callsign) → vehicle_at c read_rows
+      ≡ keep reads.vehicle (row_at callsign_cmp vehicle_key r.vehicles c)
   vehicle_row c = row_filter callsign_cmp vehicle_key callsigns_total reads.vehicle r.vehicles c formed.order.vehicles
 
-  assignment_row : (c : Callsign) → assignment_at c read_rows ≡ keep reads.assignment (row_at callsign_cmp assignment_key r.assignments c)
+  assignment_row : (c : Callsign) → assignment_at c read_rows
+      ≡ keep reads.assignment (row_at callsign_cmp assignment_key r.assignments c)
   assignment_row c = row_filter callsign_cmp assignment_key callsigns_total reads.assignment r.assignments c formed.order.assignments
 
-  turn_row : (c : Callsign) (n : ℕ) → turn_at c n read_rows ≡ keep reads.turn (row_at numbered_cmp turn_key r.turns (c, n))
+  turn_row : (c : Callsign) (n : ℕ)
+      → turn_at c n read_rows ≡ keep reads.turn (row_at numbered_cmp turn_key r.turns (c, n))
   turn_row c n = row_filter numbered_cmp turn_key numbered_total reads.turn r.turns (c, n) formed.order.turns
 
-  turn_order : (c : Callsign) (n : ℕ) → IfSome (row_at numbered_cmp turn_key r.turns (c, n)) (λ t. t.order ≡ n)
+  turn_order : (c : Callsign) (n : ℕ)
+      → IfSome (row_at numbered_cmp turn_key r.turns (c, n)) (λ t. t.order ≡ n)
   turn_order c n = if_then (λ t. turn_key t ≡ (c, n)) (λ t. t.order ≡ n) (row_at numbered_cmp turn_key r.turns (c, n)) (λ t e. ap (λ (k : Callsign × ℕ). k.1) e) (row_key numbered_cmp turn_key numbered_total exact_numbered r.turns (c, n))
 
   -- ---- at each callsign
-  vehicle_agreed : (c : Callsign) (v : Vehicle) → row_at callsign_cmp vehicle_key r.vehicles c ≡ Some v → VehicleAgrees read_rows c v
+  vehicle_agreed : (c : Callsign) (v : Vehicle)
+      → row_at callsign_cmp vehicle_key r.vehicles c ≡ Some v → VehicleAgrees read_rows c v
   vehicle_agreed c v e =
       let named : v.callsign ≡ c = subst (λ o. IfSome o (λ x. x.callsign ≡ c)) e (row_key callsign_cmp vehicle_key callsigns_total exact_callsigns r.vehicles c) in
       let assigned = subst (λ o. room.AssignmentAgrees o (row_at callsign_cmp assignment_key r.assignments c)) e (formed.assignments c) in
@@ -182,7 +199,10 @@ module _ (d : ℕ) (r : Room) (formed : IsWellFormed r) (reads : Reads d) where
   vehicles_agreed : (c : Callsign) → IfSome (vehicle_at c read_rows) (VehicleAgrees read_rows c)
   vehicles_agreed c = subst (λ o. IfSome o (VehicleAgrees read_rows c)) (sym (vehicle_row c)) (if_kept reads.vehicle (VehicleAgrees read_rows c) (row_at callsign_cmp vehicle_key r.vehicles c) (λ v e passes. vehicle_agreed c v e))
 
-  assigned_active : (v : Vehicle) (a : Assignment) (t : Option Turn) → a.division ≡ v.holder → is_busy v.status ≡ true → a.order ≡ v.last_order → room.TurnAgrees (Some v) v.last_order t → room.SameIncident (Some a) t → IfSome t (λ x. x.order ≡ v.last_order) → room.TurnIsActive r t
+  assigned_active : (v : Vehicle) (a : Assignment) (t : Option Turn) → a.division ≡ v.holder
+      → is_busy v.status ≡ true → a.order ≡ v.last_order → room.TurnAgrees (Some v) v.last_order t
+      → room.SameIncident (Some a) t → IfSome t (λ x. x.order ≡ v.last_order)
+      → room.TurnIsActive r t
       → IsActive (row_at pair_cmp incident_key r.incidents (a.division, a.incident))
   assigned_active v a None held busy last ordered same numbered active = let idle = ordered refl in cc
   assigned_active v a (Some t) held busy last ordered same numbered active =
@@ -191,11 +211,13 @@ module _ (d : ℕ) (r : Room) (formed : IsWellFormed r) (reads : Reads d) where
       (subst (λ n. IsActive (row_at pair_cmp incident_key r.incidents (t.division, n))) (same (numbered ∙ sym last)) (active found.0))
 
   -- an active incident that is read is active
-  active_read : (o : Option Incident) → IsActive o → IfSome (keep reads.incident o) (λ i. is_active i.state ≡ true)
+  active_read : (o : Option Incident) → IsActive o
+      → IfSome (keep reads.incident o) (λ i. is_active i.state ≡ true)
   active_read None h = absurd h
   active_read (Some i) h = if_kept reads.incident (λ x. is_active x.state ≡ true) (Some i) (λ x e passes. subst IsActive e h)
 
-  assignment_agreed : (c : Callsign) (a : Assignment) → row_at callsign_cmp assignment_key r.assignments c ≡ Some a → AssignmentAgrees read_rows a
+  assignment_agreed : (c : Callsign) (a : Assignment)
+      → row_at callsign_cmp assignment_key r.assignments c ≡ Some a → AssignmentAgrees read_rows a
   assignment_agreed c a e = (elim (row_at callsign_cmp vehicle_key r.vehicles c) as (λ o. row_at callsign_cmp vehicle_key r.vehicles c ≡ o → room.AssignmentAgrees o (Some a) → AssignmentAgrees read_rows a) [
     | None ↦ λ f h. absurd h
     | Some v ↦ λ f h.
@@ -205,14 +227,17 @@ module _ (d : ℕ) (r : Room) (formed : IsWellFormed r) (reads : Reads d) where
         subst (λ o. IfSome o (λ i. is_active i.state ≡ true)) (sym (row_filter pair_cmp incident_key pairs_total reads.incident r.incidents (a.division, a.incident) formed.order.incidents)) (active_read _ active)
   ]) refl (subst (λ o. room.AssignmentAgrees (row_at callsign_cmp vehicle_key r.vehicles c) o) e (formed.assignments c))
 
-  assignments_agreed : (c : Callsign) → IfSome (assignment_at c read_rows) (AssignmentAgrees read_rows)
+  assignments_agreed : (c : Callsign)
+      → IfSome (assignment_at c read_rows) (AssignmentAgrees read_rows)
   assignments_agreed c = subst (λ o. IfSome o (AssignmentAgrees read_rows)) (sym (assignment_row c)) (if_kept reads.assignment (AssignmentAgrees read_rows) (row_at callsign_cmp assignment_key r.assignments c) (λ a e passes. assignment_agreed c a e))
 
-  in_turn : (v : Vehicle) (n : ℕ) (t : Turn) → t.order ≡ n → n ≤ v.last_order → room.OpenAgrees v n t t.ended → (b : Bool) → IsInTurn t (cond b (Some v) None)
+  in_turn : (v : Vehicle) (n : ℕ) (t : Turn) → t.order ≡ n → n ≤ v.last_order
+      → room.OpenAgrees v n t t.ended → (b : Bool) → IsInTurn t (cond b (Some v) None)
   in_turn v n t numbered below h true = (subst (λ m. m ≤ v.last_order) (sym numbered) below, λ e. numbered ∙ (open_holder v n t t.ended h (ap (λ (o : Option ℕ). is_none o) e)).0)
   in_turn v n t numbered below h false = tt
 
-  turn_agreed : (c : Callsign) (n : ℕ) (t : Turn) → row_at numbered_cmp turn_key r.turns (c, n) ≡ Some t → TurnAgrees read_rows c t
+  turn_agreed : (c : Callsign) (n : ℕ) (t : Turn)
+      → row_at numbered_cmp turn_key r.turns (c, n) ≡ Some t → TurnAgrees read_rows c t
   turn_agreed c n t e =
       let numbered : t.order ≡ n = subst (λ o. IfSome o (λ x. x.order ≡ n)) e (turn_order c n) in
       (elim (row_at callsign_cmp vehicle_key r.vehicles c) as (λ o. row_at callsign_cmp vehicle_key r.vehicles c ≡ o → room.TurnAgrees o n (Some t) → TurnAgrees read_rows c t) [
@@ -270,7 +295,8 @@ reads_all d = record {
   own_report = λ x h. h;
 }
 
-pub share_is_slice : (d : ℕ) (r : Room) (s : DivisionRows) → IsWellFormed r → room_of r.plan s ≡ own d r → IsShare d s
+pub share_is_slice : (d : ℕ) (r : Room) (s : DivisionRows) → IsWellFormed r
+    → room_of r.plan s ≡ own d r → IsShare d s
 share_is_slice d r s formed e = subst (IsShare d) (sym (ap rows_of e)) (read_share d r formed (reads_all d))
 
 abbrev reads_working : (d : ℕ) (a : Ask) (at : ℕ) (r : Room) → Reads d
@@ -297,5 +323,6 @@ reads_working d a at r = record {
   own_report = λ x h. left_true _ _ h;
 }
 
-pub working_is_slice : (d : ℕ) (a : Ask) (at : ℕ) (r : Room) (s : DivisionRows) → IsWellFormed r → room_of r.plan s ≡ working d a at r → IsShare d s
+pub working_is_slice : (d : ℕ) (a : Ask) (at : ℕ) (r : Room) (s : DivisionRows) → IsWellFormed r
+    → room_of r.plan s ≡ working d a at r → IsShare d s
 working_is_slice d a at r s formed e = subst (IsShare d) (sym (ap rows_of e)) (read_share d r formed (reads_working d a at r))

@@ -25,7 +25,8 @@ use Rattle.room_model.specs.Queries.{all_held, assignment_of, held, loans_of, of
 use Rattle.room_model.specs.Slices.{room_of}
 
 -- ---- rows that all pass
-keep_passing : {X : Type 0} (p : X → Bool) (o : Option X) → IfSome o (λ x. p x ≡ true) → keep p o ≡ o
+keep_passing : {X : Type 0} (p : X → Bool) (o : Option X) → IfSome o (λ x. p x ≡ true)
+    → keep p o ≡ o
 keep_passing p None h = refl
 keep_passing p (Some x) h = rw h refl
 
@@ -34,13 +35,16 @@ filter_passing p [] h = refl
 filter_passing p (x ∷ xs) h = rw (left_true (p x) _ h) (ap (λ ys. x ∷ ys) (filter_passing p xs (right_true (p x) _ h)))
 
 -- ---- the one row that passes
-among_rest : {X : Type 0} (q : X → Bool) (x y : X) (xs : List X) → Among y (x ∷ xs) → q y ≡ true → q x ≡ false → Among y xs
+among_rest : {X : Type 0} (q : X → Bool) (x y : X) (xs : List X) → Among y (x ∷ xs) → q y ≡ true
+    → q x ≡ false → Among y xs
 among_rest q x y xs a passes fails = elim a [
   | inl e ↦ let same = ap q e in absurd (cc)
   | inr b ↦ b
 ]
 
-first_passing : {X : Type 0} (q : X → Bool) (xs : List X) (o : Option X) → ((x : X) → Among x xs → q x ≡ true → o ≡ Some x) → ((x : X) → o ≡ Some x → Among x xs × (q x ≡ true)) → first (filter q xs) ≡ o
+first_passing : {X : Type 0} (q : X → Bool) (xs : List X) (o : Option X)
+    → ((x : X) → Among x xs → q x ≡ true → o ≡ Some x)
+    → ((x : X) → o ≡ Some x → Among x xs × (q x ≡ true)) → first (filter q xs) ≡ o
 first_passing q [] None only there = refl
 first_passing q [] (Some x) only there = absurd (there x refl).0
 first_passing q (x ∷ xs) o only there = (elim (q x) as (λ (b : Bool). q x ≡ b → first (cond b (x ∷ filter q xs) (filter q xs)) ≡ o) [
@@ -48,14 +52,16 @@ first_passing q (x ∷ xs) o only there = (elim (q x) as (λ (b : Bool). q x ≡
   | false ↦ λ e. first_passing q xs o (λ y a. only y (inr a)) (λ y f. let found = there y f in (among_rest q x y xs found.0 found.1 e, found.1))
 ]) refl
 
-found_among : {X K : Type 0} (cmp : K → K → Ordering) (key : X → K) (xs : List X) (k : K) (x : X) → row_at cmp key xs k ≡ Some x → Among x xs
+found_among : {X K : Type 0} (cmp : K → K → Ordering) (key : X → K) (xs : List X) (k : K) (x : X)
+    → row_at cmp key xs k ≡ Some x → Among x xs
 found_among cmp key [] k x e = cc
 found_among cmp key (y ∷ xs) k x e = (elim (is_eq (cmp k (key y))) as (λ (b : Bool). cond b (Some y) (row_at cmp key xs k) ≡ Some x → Among x (y ∷ xs)) [
   | true ↦ λ f. let same : x ≡ y = cc in inl same
   | false ↦ λ f. inr (found_among cmp key xs k x f)
 ]) e
 
-kept_some : {X : Type 0} (p : X → Bool) (o : Option X) (x : X) → keep p o ≡ Some x → (o ≡ Some x) × (p x ≡ true)
+kept_some : {X : Type 0} (p : X → Bool) (o : Option X) (x : X) → keep p o ≡ Some x
+    → (o ≡ Some x) × (p x ≡ true)
 kept_some p None x e = cc
 kept_some p (Some y) x e = (elim (p y) as (λ (b : Bool). p y ≡ b → cond b (Some y) None ≡ Some x → (Some y ≡ Some x) × (p x ≡ true)) [
   | true ↦ λ q f. let same : y ≡ x = cc in (f, subst (λ z. p z ≡ true) same q)
@@ -95,14 +101,16 @@ module _ (d : ℕ) (plan : List Area) (s : DivisionRows) (agrees : is_share d s 
   offers_is = filter_passing _ s.offers share.owned.offers
 
   -- ---- the open turn
-  module _ (c : Callsign) (v : Vehicle) (there : vehicle_at c s ≡ Some v) (in_order : IsKeyed numbered_cmp turn_key s.turns) where
+  module _ (c : Callsign) (v : Vehicle) (there : vehicle_at c s ≡ Some v)
+      (in_order : IsKeyed numbered_cmp turn_key s.turns) where
     abbrev is_open_of : Turn → Bool
     is_open_of t = t.division == d && (same_callsign t.callsign c && is_none t.ended)
 
     named : v.callsign ≡ c
     named = subst (λ o. IfSome o (λ x. x.callsign ≡ c)) there (row_key callsign_cmp vehicle_key callsigns_total exact_callsigns s.vehicles c)
 
-    last_one : (t : Turn) → TurnAgrees s c t → t.ended ≡ None → (1 ≤ t.order) × (t.order ≡ v.last_order)
+    last_one : (t : Turn) → TurnAgrees s c t → t.ended ≡ None
+        → (1 ≤ t.order) × (t.order ≡ v.last_order)
     last_one t h ended = let in_turn : IsInTurn t (Some v) = subst (IsInTurn t) there h.1 in (h.0, in_turn.1 ended)
 
     open_only : (t : Turn) → Among t s.turns → is_open_of t ≡ true → slice.open_turn v s ≡ Some t

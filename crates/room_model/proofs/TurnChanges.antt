@@ -36,28 +36,37 @@ pub record IsTurnOf (t x : Turn) : Type 0 where
   pub division : x.division ≡ t.division
   pub incident : x.incident ≡ t.incident
 
-module _ (s : Room) (p : VehicleRows) (v : Vehicle) (h : Agrees s (record p { vehicle = Some v })) (change : Turn → Turn) (same : (t : Turn) → IsTurnOf t (change t)) where
+module _ (s : Room) (p : VehicleRows) (v : Vehicle) (h : Agrees s (record p { vehicle = Some v }))
+    (change : Turn → Turn) (same : (t : Turn) → IsTurnOf t (change t)) where
   -- what is agreed of the open turn
-  open_agreed : (t : Turn) → (p.turn t.order ≡ Some t) × (t.ended ≡ None) → (1 ≤ t.order) × (t.order ≡ v.last_order) × (t.division ≡ v.holder) × (is_busy v.status ≡ true)
+  open_agreed : (t : Turn) → (p.turn t.order ≡ Some t) × (t.ended ≡ None)
+      → (1 ≤ t.order) × (t.order ≡ v.last_order) × (t.division ≡ v.holder)
+      × (is_busy v.status ≡ true)
   open_agreed t is =
       let g : TurnAgrees (Some v) t.order (Some t) = subst (TurnAgrees (Some v) t.order) is.0 (h.turn t.order) in
       let k : OpenAgrees v t.order t None = subst (OpenAgrees v t.order t) is.1 g.2 in
       (g.0, k.0, k.1, k.2)
 
-  shut_open : (u : Vehicle) (n : ℕ) (x : Turn) (o : Option ℕ) → is_busy u.status ≡ false → (o ≡ None → OpenAgrees v n x None → ⊥) → OpenAgrees v n x o → OpenAgrees u n x o
+  shut_open : (u : Vehicle) (n : ℕ) (x : Turn) (o : Option ℕ) → is_busy u.status ≡ false
+      → (o ≡ None → OpenAgrees v n x None → ⊥) → OpenAgrees v n x o → OpenAgrees u n x o
   shut_open u n x None idle none g = absurd (none refl g)
   shut_open u n x (Some at) idle none g = λ e. idle
 
-  shut_turn : (u : Vehicle) (n : ℕ) (o : Option Turn) → is_busy u.status ≡ false → u.last_order ≡ v.last_order → ((x : Turn) → o ≡ Some x → x.ended ≡ None → OpenAgrees v n x None → ⊥) → TurnAgrees (Some v) n o → TurnAgrees (Some u) n o
+  shut_turn : (u : Vehicle) (n : ℕ) (o : Option Turn) → is_busy u.status ≡ false
+      → u.last_order ≡ v.last_order → ((x : Turn) → o ≡ Some x → x.ended ≡ None
+      → OpenAgrees v n x None → ⊥) → TurnAgrees (Some v) n o → TurnAgrees (Some u) n o
   shut_turn u n None idle order none g = λ e. idle
   shut_turn u n (Some x) idle order none g = (g.0, subst (λ m. n ≤ m) (sym order) g.1, shut_open u n x x.ended idle (none x refl) g.2)
 
-  has_ended : (u : Vehicle) (n : ℕ) (x : Turn) (o : Option ℕ) → is_some o ≡ true → is_busy u.status ≡ false → OpenAgrees u n x o
+  has_ended : (u : Vehicle) (n : ℕ) (x : Turn) (o : Option ℕ) → is_some o ≡ true
+      → is_busy u.status ≡ false → OpenAgrees u n x o
   has_ended u n x None e idle = cc
   has_ended u n x (Some at) e idle = λ k. idle
 
   -- it has ended, and the vehicle is idle
-  pub ended_turns : (u : Vehicle) (o : Option Turn) → IsOpenTurn v.holder p.turn o → ((t : Turn) → is_some (change t).ended ≡ true) → is_busy u.status ≡ false → u.last_order ≡ v.last_order → (n : ℕ) → TurnAgrees (Some u) n (with_turn change o p.turn n)
+  pub ended_turns : (u : Vehicle) (o : Option Turn) → IsOpenTurn v.holder p.turn o
+      → ((t : Turn) → is_some (change t).ended ≡ true) → is_busy u.status ≡ false
+      → u.last_order ≡ v.last_order → (n : ℕ) → TurnAgrees (Some u) n (with_turn change o p.turn n)
   ended_turns u None is ends idle order = λ n. shut_turn u n (p.turn n) idle order (λ x e g k. is n x e g k.1) (h.turn n)
   ended_turns u (Some t) is ends idle order =
       let known = open_agreed t is in
@@ -67,7 +76,10 @@ module _ (s : Room) (p : VehicleRows) (v : Vehicle) (h : Agrees s (record p { ve
       (λ n other. shut_turn u n (p.turn n) idle order (λ x e g k. other (k.0 ∙ sym (kept.order ∙ known.1))) (h.turn n))
 
   -- it goes on, and the vehicle is as busy as it was
-  pub moved_turns : (u : Vehicle) (o : Option Turn) → IsOpenTurn v.holder p.turn o → ((t : Turn) → (change t).ended ≡ t.ended) → is_busy u.status ≡ is_busy v.status → u.holder ≡ v.holder → u.last_order ≡ v.last_order → (n : ℕ) → TurnAgrees (Some u) n (with_turn change o p.turn n)
+  pub moved_turns : (u : Vehicle) (o : Option Turn) → IsOpenTurn v.holder p.turn o
+      → ((t : Turn) → (change t).ended ≡ t.ended) → is_busy u.status ≡ is_busy v.status
+      → u.holder ≡ v.holder → u.last_order ≡ v.last_order → (n : ℕ)
+      → TurnAgrees (Some u) n (with_turn change o p.turn n)
   moved_turns u None is goes busy holder order = λ n. like_turn v u busy (λ b. holder) order n (p.turn n) (h.turn n)
   moved_turns u (Some t) is goes busy holder order =
       let known = open_agreed t is in
@@ -76,27 +88,38 @@ module _ (s : Room) (p : VehicleRows) (v : Vehicle) (h : Agrees s (record p { ve
       (subst (λ n. 1 ≤ n) (sym kept.order) known.0, omega (arith, kept.order, known.1, order), subst (OpenAgrees u (change t).order (change t)) (sym (goes t ∙ is.1)) (kept.order ∙ (known.1 ∙ sym order), kept.division ∙ (known.2 ∙ sym holder), busy ∙ known.3))
       (λ n other. like_turn v u busy (λ b. holder) order n (p.turn n) (h.turn n))
 
-  same_incident_of : (a : Option Assignment) (t x : Turn) → IsTurnOf t x → SameIncident a (Some t) → SameIncident a (Some x)
+  same_incident_of : (a : Option Assignment) (t x : Turn) → IsTurnOf t x → SameIncident a (Some t)
+      → SameIncident a (Some x)
   same_incident_of None t x is g = tt
   same_incident_of (Some a) t x is g = λ e. is.incident ∙ g (sym is.order ∙ e)
 
-  pub incidents_stay : (o : Option Turn) → IsOpenTurn v.holder p.turn o → (n : ℕ) → SameIncident p.assignment (with_turn change o p.turn n)
+  pub incidents_stay : (o : Option Turn) → IsOpenTurn v.holder p.turn o → (n : ℕ)
+      → SameIncident p.assignment (with_turn change o p.turn n)
   incidents_stay None is = h.same_incident
   incidents_stay (Some t) is = replaced (λ n o. SameIncident p.assignment o) (change t).order (change t) p.turn (same_incident_of p.assignment t (change t) (same t) (subst (SameIncident p.assignment) is.0 (h.same_incident t.order))) (λ n other. h.same_incident n)
 
-  pub still_active : (o : Option Turn) → IsOpenTurn v.holder p.turn o → (n : ℕ) → TurnIsActive s (with_turn change o p.turn n)
+  pub still_active : (o : Option Turn) → IsOpenTurn v.holder p.turn o → (n : ℕ)
+      → TurnIsActive s (with_turn change o p.turn n)
   still_active None is = h.active
   still_active (Some t) is =
       let kept = same t in
       let was : TurnIsActive s (Some t) = subst (TurnIsActive s) is.0 (h.active t.order) in
       replaced (λ n o. TurnIsActive s o) (change t).order (change t) p.turn (λ e. subst (λ (k : ℕ × ℕ). IsActive (row_at pair_cmp incident_key s.incidents k)) (λ i. (sym kept.division i, sym kept.incident i)) (was is.1)) (λ n other. h.active n)
 
-  pub divisions_of_turns : (o : Option Turn) → IsOpenTurn v.holder p.turn o → (n : ℕ) → IfSome (with_turn change o p.turn n) (λ t. has_division s.plan t.division ≡ true)
+  pub divisions_of_turns : (o : Option Turn) → IsOpenTurn v.holder p.turn o → (n : ℕ)
+      → IfSome (with_turn change o p.turn n) (λ t. has_division s.plan t.division ≡ true)
   divisions_of_turns None is = h.turn_division
   divisions_of_turns (Some t) is = replaced (λ n o. IfSome o (λ t. has_division s.plan t.division ≡ true)) (change t).order (change t) p.turn (rw (same t).division (subst (λ o. IfSome o (λ t. has_division s.plan t.division ≡ true)) is.0 (h.turn_division t.order))) (λ n other. h.turn_division n)
 
   -- a vehicle that is stood down
-  pub stood_down_agrees : (o : Option Turn) → IsOpenTurn v.holder p.turn o → ((t : Turn) → is_some (change t).ended ≡ true) → is_mobilised v.status ≡ true → Agrees s (record p { vehicle = Some (record v { status = Returning }); assignment = None; turn = with_turn change o p.turn })
+  pub stood_down_agrees : (o : Option Turn) → IsOpenTurn v.holder p.turn o
+      → ((t : Turn) → is_some (change t).ended ≡ true) → is_mobilised v.status ≡ true
+      → Agrees s (record p {
+        vehicle = Some
+            (record v { status = Returning });
+        assignment = None;
+        turn = with_turn change o p.turn;
+      })
   stood_down_agrees o is ends mobilised =
       let u : Vehicle = record v { status = Returning } in
       let now = mobilised_is v.status mobilised in
@@ -117,7 +140,8 @@ module _ (s : Room) (p : VehicleRows) (v : Vehicle) (h : Agrees s (record p { ve
       }
 
 -- ---- a report
-pub put_some : {X : Type 0} (m : ℕ) (x : X) (f : ℕ → Option X) (n : ℕ) → is_some (f n) ≡ true → is_some (put_at m x f n) ≡ true
+pub put_some : {X : Type 0} (m : ℕ) (x : X) (f : ℕ → Option X) (n : ℕ) → is_some (f n) ≡ true
+    → is_some (put_at m x f n) ≡ true
 put_some {X} m x f n e = some_either (is_eq (nat_cmp n m)) (f n) e
   where
     some_either : (b : Bool) (o : Option X) → is_some o ≡ true → is_some (cond b (Some x) o) ≡ true
@@ -130,7 +154,9 @@ put_itself m x f = ap (λ (b : Bool). is_some (cond b (Some x) (f m))) (ap is_eq
 max_either : (a b : ℕ) → (max a b ≡ a) ⊎ (max a b ≡ b)
 max_either a b = grind arith
 
-module _ (s : Room) (p : VehicleRows) (v u : Vehicle) (h : Agrees s (record p { vehicle = Some v })) (x : Report) (least : 1 ≤ x.number) (last : u.last_report ≡ max v.last_report x.number) where
+module _ (s : Room) (p : VehicleRows) (v u : Vehicle)
+    (h : Agrees s (record p { vehicle = Some v })) (x : Report) (least : 1 ≤ x.number)
+    (last : u.last_report ≡ max v.last_report x.number) where
   report_up : (n : ℕ) (o : Option Report) → ReportAgrees (Some v) n o → ReportAgrees (Some u) n o
   report_up n None g = tt
   report_up n (Some y) g = (g.0, omega (arith, g.1, last))
@@ -147,5 +173,6 @@ module _ (s : Room) (p : VehicleRows) (v u : Vehicle) (h : Agrees s (record p { 
     ])
   ])
 
-  pub divisions_of_reports : x.division ≡ v.holder → (n : ℕ) → IfSome (put_at x.number x p.report n) (λ y. has_division s.plan y.division ≡ true)
+  pub divisions_of_reports : x.division ≡ v.holder → (n : ℕ)
+      → IfSome (put_at x.number x p.report n) (λ y. has_division s.plan y.division ≡ true)
   divisions_of_reports e = replaced (λ n o. IfSome o (λ y. has_division s.plan y.division ≡ true)) x.number x p.report (rw e h.holder) (λ n other. h.report_division n)

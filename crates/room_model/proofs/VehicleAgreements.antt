@@ -50,20 +50,26 @@ pub record AreRecorded (s : Room) : Type 0 where
   pub calls : (p n : ℕ) → CallAgrees s (row_at pair_cmp call_key s.calls (p, n))
   pub opened : (d n : ℕ) → OpenedAgrees s (row_at pair_cmp incident_key s.incidents (d, n))
   pub numbers : (d n : ℕ) → NumberAgrees s (row_at pair_cmp incident_key s.incidents (d, n))
-  pub divisions : (d : ℕ) → is_some (row_at nat_cmp division_key s.divisions d) ≡ has_division s.plan d
-  pub points : (d n : ℕ) → IfSome (row_at pair_cmp point_key s.points (d, n)) (λ p. has_division s.plan p.division ≡ true)
+  pub divisions : (d : ℕ) → is_some (row_at nat_cmp division_key s.divisions d)
+      ≡ has_division s.plan d
+  pub points : (d n : ℕ) → IfSome (row_at pair_cmp point_key s.points (d, n))
+      (λ p. has_division s.plan p.division ≡ true)
 
 -- what opened an incident opened it in any room with the same calls
-pub opened_alike : (r s : Room) (o : Option Incident) → r.calls ≡ s.calls → OpenedAgrees r o → OpenedAgrees s o
+pub opened_alike : (r s : Room) (o : Option Incident) → r.calls ≡ s.calls → OpenedAgrees r o
+    → OpenedAgrees s o
 opened_alike r s None e h = tt
 opened_alike r s (Some i) e h = λ m. let o = h m in record { position = o.position; serial = o.serial; first_call = o.first_call; there = ap (λ cs. row_at pair_cmp call_key cs (o.position, o.serial)) (sym e) ∙ o.there; same = o.same }
 
 module _ (r : Room) where
-  last_from : (c : Callsign) (o : Option Vehicle) → row_at callsign_cmp vehicle_key r.vehicles c ≡ o → LastAgrees r o → IsLast (λ n. row_at numbered_cmp report_key r.reports (c, n)) o
+  last_from : (c : Callsign) (o : Option Vehicle)
+      → row_at callsign_cmp vehicle_key r.vehicles c ≡ o → LastAgrees r o
+      → IsLast (λ n. row_at numbered_cmp report_key r.reports (c, n)) o
   last_from c None e h = tt
   last_from c (Some v) e h = rw (row_key callsign_cmp vehicle_key callsigns_total exact_callsigns r.vehicles c v e) h
 
-  last_to : (c : Callsign) (o : Option Vehicle) → row_at callsign_cmp vehicle_key r.vehicles c ≡ o → IsLast (λ n. row_at numbered_cmp report_key r.reports (c, n)) o → LastAgrees r o
+  last_to : (c : Callsign) (o : Option Vehicle) → row_at callsign_cmp vehicle_key r.vehicles c ≡ o
+      → IsLast (λ n. row_at numbered_cmp report_key r.reports (c, n)) o → LastAgrees r o
   last_to c None e h = tt
   last_to c (Some v) e h = rw (← row_key callsign_cmp vehicle_key callsigns_total exact_callsigns r.vehicles c v e) h
 
@@ -94,7 +100,8 @@ module _ (r : Room) where
   }
 
   -- a room is well-formed by what each vehicle's rows agree on, and the others
-  pub well_formed : IsInOrder r → ((c : Callsign) → Agrees (bare r) (rows_of c r)) → AreRecorded (bare r) → IsWellFormed r
+  pub well_formed : IsInOrder r → ((c : Callsign) → Agrees (bare r) (rows_of c r))
+      → AreRecorded (bare r) → IsWellFormed r
   well_formed order f g = record {
     order = order;
     loans = λ c. (f c).loan;
@@ -120,7 +127,8 @@ module _ (r : Room) where
   }
 
 -- changes of one vehicle's rows keep the room well-formed, where these rows agree afterwards
-pub kept_by : (k : Callsign) (r : Room) (xs : List Change) → IsWellFormed r → AllConcern k xs → Agrees (bare r) (all_after (rows_of k r) xs) → IsWellFormed (apply r xs)
+pub kept_by : (k : Callsign) (r : Room) (xs : List Change) → IsWellFormed r → AllConcern k xs
+    → Agrees (bare r) (all_after (rows_of k r) xs) → IsWellFormed (apply r xs)
 kept_by k r xs w e h =
     let same = bare_stays k r xs e in
     well_formed (apply r xs) (in_order_apply r xs w.order) (λ c. subst (λ s. Agrees s (rows_of c (apply r xs))) (sym same) (each c)) (subst AreRecorded (sym same) (recorded r w))
@@ -132,17 +140,22 @@ kept_by k r xs w e h =
     ]) refl
 
 -- the same rows, with a vehicle that is known
-pub known : (s : Room) (p : VehicleRows) (v : Vehicle) → p.vehicle ≡ Some v → Agrees s p → Agrees s (record p { vehicle = Some v })
+pub known : (s : Room) (p : VehicleRows) (v : Vehicle) → p.vehicle ≡ Some v → Agrees s p
+    → Agrees s (record p { vehicle = Some v })
 known s p v e h = subst (λ o. Agrees s (record p { vehicle = o })) e h
 
 -- ---- a vehicle for another
 -- its status is as busy, and it keeps its holder where it is
-module _ (v u : Vehicle) (busy : is_busy u.status ≡ is_busy v.status) (holder : is_busy u.status ≡ true → u.holder ≡ v.holder) (order : u.last_order ≡ v.last_order) where
-  pub like_assignment : (o : Option Assignment) → AssignmentAgrees (Some v) o → AssignmentAgrees (Some u) o
+module _ (v u : Vehicle) (busy : is_busy u.status ≡ is_busy v.status)
+    (holder : is_busy u.status ≡ true → u.holder ≡ v.holder)
+    (order : u.last_order ≡ v.last_order) where
+  pub like_assignment : (o : Option Assignment) → AssignmentAgrees (Some v) o
+      → AssignmentAgrees (Some u) o
   like_assignment None h = busy ∙ h
   like_assignment (Some a) h = (busy ∙ h.0, h.1 ∙ sym (holder (busy ∙ h.0)), h.2 ∙ sym order)
 
-  pub like_open : (n : ℕ) (t x : Turn) (o : Option ℕ) → x.division ≡ t.division → OpenAgrees v n t o → OpenAgrees u n x o
+  pub like_open : (n : ℕ) (t x : Turn) (o : Option ℕ) → x.division ≡ t.division
+      → OpenAgrees v n t o → OpenAgrees u n x o
   like_open n t x None e h = (h.0 ∙ sym order, e ∙ (h.1 ∙ sym (holder (busy ∙ h.2))), busy ∙ h.2)
   like_open n t x (Some at) e h = λ g. busy ∙ h (g ∙ order)
 
@@ -161,10 +174,12 @@ free_is_idle AtHospital e = cc
 free_is_idle Returning e = (refl, refl)
 free_is_idle Offered e = cc
 
-pub no_offer : (plan : List Area) (v : Vehicle) (o : Option Offer) → is_offered v.status ≡ false → OfferAgrees plan (Some v) o → o ≡ None
+pub no_offer : (plan : List Area) (v : Vehicle) (o : Option Offer) → is_offered v.status ≡ false
+    → OfferAgrees plan (Some v) o → o ≡ None
 no_offer plan v None e h = refl
 no_offer plan v (Some o) e h = let g = h.0 in cc
 
-pub no_assignment : (v : Vehicle) (o : Option Assignment) → is_busy v.status ≡ false → AssignmentAgrees (Some v) o → o ≡ None
+pub no_assignment : (v : Vehicle) (o : Option Assignment) → is_busy v.status ≡ false
+    → AssignmentAgrees (Some v) o → o ≡ None
 no_assignment v None e h = refl
 no_assignment v (Some a) e h = let g = h.0 in cc

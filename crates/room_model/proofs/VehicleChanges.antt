@@ -42,29 +42,40 @@ mobilised_is Mobilised e = refl
 mobilised_is s e = cc
 
 -- a post stays one where the vehicle stays free, with its holder
-pub like_post : (s : Room) (v u : Vehicle) (o : Option ℕ) → (is_free v.status ≡ true → is_free u.status ≡ true) → u.holder ≡ v.holder → IsPost s v o → IsPost s u o
+pub like_post : (s : Room) (v u : Vehicle) (o : Option ℕ)
+    → (is_free v.status ≡ true → is_free u.status ≡ true) → u.holder ≡ v.holder → IsPost s v o
+    → IsPost s u o
 like_post s v u None f e h = tt
 like_post s v u (Some n) f e h = (f h.0, rw e h.1)
 
-pub like_offer : (plan : List Area) (v u : Vehicle) (o : Option Offer) → is_offered u.status ≡ is_offered v.status → u.holder ≡ v.holder → u.home ≡ v.home → OfferAgrees plan (Some v) o → OfferAgrees plan (Some u) o
+pub like_offer : (plan : List Area) (v u : Vehicle) (o : Option Offer)
+    → is_offered u.status ≡ is_offered v.status → u.holder ≡ v.holder → u.home ≡ v.home
+    → OfferAgrees plan (Some v) o → OfferAgrees plan (Some u) o
 like_offer plan v u None e f g h = e ∙ h
 like_offer plan v u (Some o) e f g h = (e ∙ h.0, h.1 ∙ sym f, h.2 ∙ sym g, h.3, h.4)
 
 -- an offer is of a vehicle at home
-pub away_offer : (plan : List Area) (v u : Vehicle) (o : Option Offer) → v.holder ≢ v.home → is_offered u.status ≡ is_offered v.status → OfferAgrees plan (Some v) o → OfferAgrees plan (Some u) o
+pub away_offer : (plan : List Area) (v u : Vehicle) (o : Option Offer) → v.holder ≢ v.home
+    → is_offered u.status ≡ is_offered v.status → OfferAgrees plan (Some v) o
+    → OfferAgrees plan (Some u) o
 away_offer plan v u None away e h = e ∙ h
 away_offer plan v u (Some o) away e h = absurd (away (sym h.1 ∙ h.2))
 
 -- what holds at each number, after a row was put at one
-pub replaced : {X : Type 0} (P : ℕ → Option X → Type 0) (m : ℕ) (x : X) (f : ℕ → Option X) → P m (Some x) → ((n : ℕ) → n ≢ m → P n (f n)) → (n : ℕ) → P n (put_at m x f n)
+pub replaced : {X : Type 0} (P : ℕ → Option X → Type 0) (m : ℕ) (x : X) (f : ℕ → Option X)
+    → P m (Some x) → ((n : ℕ) → n ≢ m → P n (f n)) → (n : ℕ) → P n (put_at m x f n)
 replaced {X} P m x f here there n = (elim (is_eq (nat_cmp n m)) as (λ (b : Bool). is_eq (nat_cmp n m) ≡ b → P n (cond b (Some x) (f n))) [
   | true ↦ λ e. subst (λ k. P k (Some x)) (sym (exact_number n m (is_equal _ e))) here
   | false ↦ λ e. there n (λ same. let tied : is_eq (nat_cmp n m) ≡ true = ap (λ k. is_eq (nat_cmp n k)) (sym same) ∙ ap is_eq (tied_itself nat_cmp_total n) in cc)
 ]) refl
 
-module _ (s : Room) (p : VehicleRows) (v : Vehicle) (h : Agrees s (record p { vehicle = Some v })) where
+module _ (s : Room) (p : VehicleRows) (v : Vehicle)
+    (h : Agrees s (record p { vehicle = Some v })) where
   -- another status for an idle vehicle, that neither begins nor ends an offer
-  pub idle_agrees : (u : Vehicle) → is_busy v.status ≡ false → is_busy u.status ≡ false → is_offered u.status ≡ is_offered v.status → u.home ≡ v.home → u.holder ≡ v.holder → u.last_order ≡ v.last_order → u.last_report ≡ v.last_report → IsPost s u u.post → Agrees s (record p { vehicle = Some u })
+  pub idle_agrees : (u : Vehicle) → is_busy v.status ≡ false → is_busy u.status ≡ false
+      → is_offered u.status ≡ is_offered v.status → u.home ≡ v.home → u.holder ≡ v.holder
+      → u.last_order ≡ v.last_order → u.last_report ≡ v.last_report → IsPost s u u.post
+      → Agrees s (record p { vehicle = Some u })
   idle_agrees u e f offered home holder order report post = record {
     loan = subst (λ (x : ℕ × ℕ). LoanAgrees (Some (record u { home = x.0; holder = x.1 })) p.loan) (λ i. (sym home i, sym holder i)) h.loan;
     offer = like_offer s.plan v u p.offer offered holder home h.offer;
@@ -82,7 +93,13 @@ module _ (s : Room) (p : VehicleRows) (v : Vehicle) (h : Agrees s (record p { ve
   }
 
   -- an idle vehicle at home that is offered to another division
-  pub offered_agrees : (o : Offer) → is_free v.status ≡ true → o.lender ≡ v.holder → o.lender ≡ v.home → o.borrower ≢ o.lender → has_division s.plan o.borrower ≡ true → Agrees s (record p { vehicle = Some (record v { status = Offered; post = None }); offer = Some o })
+  pub offered_agrees : (o : Offer) → is_free v.status ≡ true → o.lender ≡ v.holder
+      → o.lender ≡ v.home → o.borrower ≢ o.lender → has_division s.plan o.borrower ≡ true
+      → Agrees s (record p {
+        vehicle = Some
+            (record v { status = Offered; post = None });
+        offer = Some o;
+      })
   offered_agrees o free holder home other there =
       let u : Vehicle = record v { status = Offered; post = None } in
       let idle = (free_is_idle v.status free).0 in
@@ -103,7 +120,9 @@ module _ (s : Room) (p : VehicleRows) (v : Vehicle) (h : Agrees s (record p { ve
       }
 
   -- an offered vehicle that is settled with a division, its offer dropped
-  pub settled_agrees : (d : ℕ) (l : Option Loan) → is_offered v.status ≡ true → LoanAgrees (Some (settle d v)) l → has_division s.plan d ≡ true → Agrees s (record p { vehicle = Some (settle d v); offer = None; loan = l })
+  pub settled_agrees : (d : ℕ) (l : Option Loan) → is_offered v.status ≡ true
+      → LoanAgrees (Some (settle d v)) l → has_division s.plan d ≡ true
+      → Agrees s (record p { vehicle = Some (settle d v); offer = None; loan = l })
   settled_agrees d l offered loan there =
       let u = settle d v in
       let idle : false ≡ is_busy v.status = ap is_busy (sym (offered_is v.status offered)) in
@@ -128,7 +147,10 @@ module _ (s : Room) (p : VehicleRows) (v : Vehicle) (h : Agrees s (record p { ve
       no_post (Some n) g = let free = ap is_free (sym (offered_is v.status offered)) ∙ g.0 in cc
 
   -- an idle vehicle that is away, and goes back to its home
-  pub returned_agrees : (u : Vehicle) → v.holder ≢ v.home → is_busy v.status ≡ false → is_busy u.status ≡ false → is_offered u.status ≡ is_offered v.status → u.home ≡ v.home → u.holder ≡ v.home → u.last_order ≡ v.last_order → u.last_report ≡ v.last_report → u.post ≡ None → Agrees s (record p { vehicle = Some u; loan = None })
+  pub returned_agrees : (u : Vehicle) → v.holder ≢ v.home → is_busy v.status ≡ false
+      → is_busy u.status ≡ false → is_offered u.status ≡ is_offered v.status → u.home ≡ v.home
+      → u.holder ≡ v.home → u.last_order ≡ v.last_order → u.last_report ≡ v.last_report
+      → u.post ≡ None → Agrees s (record p { vehicle = Some u; loan = None })
   returned_agrees u away e f offered home holder order report post = record {
     loan = holder ∙ sym home;
     offer = away_offer s.plan v u p.offer away offered h.offer;
@@ -150,9 +172,17 @@ module _ (s : Room) (p : VehicleRows) (v : Vehicle) (h : Agrees s (record p { ve
 
   -- an order for a free vehicle
   pub mobilised_agrees : (t : Turn) (a : Assignment) → is_free v.status ≡ true
-      → t.order ≡ v.last_order + 1 → t.division ≡ v.holder → t.ended ≡ None → a.division ≡ v.holder → a.order ≡ v.last_order + 1 → t.incident ≡ a.incident
-      → IsActive (row_at pair_cmp incident_key s.incidents (t.division, t.incident)) → ((n : ℕ) (x : Turn) → p.turn n ≡ Some x → x.order ≡ n)
-      → Agrees s (record p { vehicle = Some (record v { status = Mobilised; post = None; last_order = v.last_order + 1 }); turn = put_at t.order t p.turn; assignment = Some a })
+      → t.order ≡ v.last_order + 1 → t.division ≡ v.holder → t.ended ≡ None → a.division ≡ v.holder
+      → a.order ≡ v.last_order + 1 → t.incident ≡ a.incident
+      → IsActive (row_at pair_cmp incident_key s.incidents (t.division, t.incident))
+      → ((n : ℕ) (x : Turn) → p.turn n ≡ Some x → x.order ≡ n)
+      → Agrees s (record p {
+        vehicle = Some
+            (record v { status = Mobilised; post = None; last_order = v.last_order + 1 });
+        turn =
+            put_at t.order t p.turn;
+        assignment = Some a;
+      })
   mobilised_agrees t a free order division unended assigned ordered same active numbered =
       let u : Vehicle = record v { status = Mobilised; post = None; last_order = v.last_order + 1 } in
       let idle = free_is_idle v.status free in
@@ -172,14 +202,24 @@ module _ (s : Room) (p : VehicleRows) (v : Vehicle) (h : Agrees s (record p { ve
         report_division = h.report_division;
       }
     where
-      newer_open : (n : ℕ) (x : Turn) (o : Option ℕ) → is_busy v.status ≡ false → n ≢ v.last_order + 1 → OpenAgrees v n x o → OpenAgrees (record v { status = Mobilised; post = None; last_order = v.last_order + 1 }) n x o
+      newer_open : (n : ℕ) (x : Turn) (o : Option ℕ) → is_busy v.status ≡ false
+          → n ≢ v.last_order + 1 → OpenAgrees v n x o
+          → OpenAgrees (record v {
+            status = Mobilised;
+            post = None;
+            last_order =
+                v.last_order + 1;
+          }) n x o
       newer_open n x None idle other g = let busy = g.2 in cc
       newer_open n x (Some at) idle other g = λ e. absurd (other e)
 
-      newer : (n : ℕ) (o : Option Turn) → is_busy v.status ≡ false → n ≢ v.last_order + 1 → TurnAgrees (Some v) n o → TurnAgrees (Some (record v { status = Mobilised; post = None; last_order = v.last_order + 1 })) n o
+      newer : (n : ℕ) (o : Option Turn) → is_busy v.status ≡ false → n ≢ v.last_order + 1
+          → TurnAgrees (Some v) n o → TurnAgrees
+          (Some (record v { status = Mobilised; post = None; last_order = v.last_order + 1 })) n o
       newer n None idle other g = λ e. absurd (other e)
       newer n (Some x) idle other g = let least = g.1 in (g.0, omega arith, newer_open n x x.ended idle other g.2)
 
-      older : (n : ℕ) (o : Option Turn) → ((x : Turn) → o ≡ Some x → x.order ≡ n) → n ≢ v.last_order + 1 → SameIncident (Some a) o
+      older : (n : ℕ) (o : Option Turn) → ((x : Turn) → o ≡ Some x → x.order ≡ n)
+          → n ≢ v.last_order + 1 → SameIncident (Some a) o
       older n None numbered other = tt
       older n (Some x) numbered other = λ e. absurd (other (sym (numbered x refl) ∙ (e ∙ ordered)))

@@ -96,14 +96,17 @@ all_after p [] = p
 all_after p (x ∷ xs) = all_after (rows_after p x) xs
 
 module _ {R K : Type 0} (cmp : K → K → Ordering) (key : R → K) (total : IsTotalOrder cmp) where
-  pub put_here : (xs : List R) (x : R) (k : K) → key x ≡ k → row_at cmp key (put_row cmp key xs x) k ≡ Some x
+  pub put_here : (xs : List R) (x : R) (k : K) → key x ≡ k
+      → row_at cmp key (put_row cmp key xs x) k ≡ Some x
   put_here xs x k e = row_put cmp key total xs x k ∙ ap (λ (o : Ordering). cond (is_eq o) (Some x) (row_at cmp key xs k)) (ap (cmp k) e ∙ tied_itself total k)
 
-  pub put_other : (xs : List R) (x : R) (k : K) → is_eq (cmp k (key x)) ≡ false → row_at cmp key (put_row cmp key xs x) k ≡ row_at cmp key xs k
+  pub put_other : (xs : List R) (x : R) (k : K) → is_eq (cmp k (key x)) ≡ false
+      → row_at cmp key (put_row cmp key xs x) k ≡ row_at cmp key xs k
   put_other xs x k e = row_put cmp key total xs x k ∙ ap (λ (b : Bool). cond b (Some x) (row_at cmp key xs k)) e
 
 -- a number beside the callsign
-beside : (k c : Callsign) (o : Ordering) → c ≡ k → is_eq (ordering_then (callsign_cmp k c) o) ≡ is_eq o
+beside : (k c : Callsign) (o : Ordering) → c ≡ k
+    → is_eq (ordering_then (callsign_cmp k c) o) ≡ is_eq o
 beside k c o e = ap (λ (x : Ordering). is_eq (ordering_then x o)) (ap (callsign_cmp k) e ∙ tied_itself callsigns_total k)
 
 apart_then : (o p : Ordering) → is_eq o ≡ false → is_eq (ordering_then o p) ≡ false
@@ -111,11 +114,15 @@ apart_then Less p e = refl
 apart_then Equal p e = cc
 apart_then Greater p e = refl
 
-settled_here : (k : Callsign) (d : ℕ) (xs : List Vehicle) (o : Option Vehicle) → row_at callsign_cmp vehicle_key xs k ≡ o → row_at callsign_cmp vehicle_key (settled o d xs) k ≡ option_map (settle d) o
+settled_here : (k : Callsign) (d : ℕ) (xs : List Vehicle) (o : Option Vehicle)
+    → row_at callsign_cmp vehicle_key xs k ≡ o
+    → row_at callsign_cmp vehicle_key (settled o d xs) k ≡ option_map (settle d) o
 settled_here k d xs None e = e
 settled_here k d xs (Some v) e = put_here callsign_cmp vehicle_key callsigns_total xs (settle d v) k (sym (row_key callsign_cmp vehicle_key callsigns_total exact_callsigns xs k v e))
 
-settled_other : (c k : Callsign) (d : ℕ) (xs : List Vehicle) (o : Option Vehicle) → row_at callsign_cmp vehicle_key xs k ≡ o → is_eq (callsign_cmp c k) ≡ false → row_at callsign_cmp vehicle_key (settled o d xs) c ≡ row_at callsign_cmp vehicle_key xs c
+settled_other : (c k : Callsign) (d : ℕ) (xs : List Vehicle) (o : Option Vehicle)
+    → row_at callsign_cmp vehicle_key xs k ≡ o → is_eq (callsign_cmp c k) ≡ false
+    → row_at callsign_cmp vehicle_key (settled o d xs) c ≡ row_at callsign_cmp vehicle_key xs c
 settled_other c k d xs None e apart = refl
 settled_other c k d xs (Some v) e apart = put_other callsign_cmp vehicle_key callsigns_total xs (settle d v) c (ap (λ j. is_eq (callsign_cmp c j)) (sym (row_key callsign_cmp vehicle_key callsigns_total exact_callsigns xs k v e)) ∙ apart)
 
@@ -138,7 +145,8 @@ module _ (k : Callsign) (r : Room) (w : IsInOrder r) where
   changed_one (PutPoint x) e = absurd e
 
   -- it leaves another vehicle's rows
-  others_one : (c : Callsign) (x : Change) → Concerns k x → is_eq (callsign_cmp c k) ≡ false → rows_of c (apply_one r x) ≡ rows_of c r
+  others_one : (c : Callsign) (x : Change) → Concerns k x → is_eq (callsign_cmp c k) ≡ false
+      → rows_of c (apply_one r x) ≡ rows_of c r
   others_one c (PutVehicle x) e apart = ap (λ o. record (rows_of c r) { vehicle = o }) (put_other callsign_cmp vehicle_key callsigns_total r.vehicles x c (ap (λ j. is_eq (callsign_cmp c j)) e ∙ apart))
   others_one c (PutAssignment x) e apart = ap (λ o. record (rows_of c r) { assignment = o }) (put_other callsign_cmp assignment_key callsigns_total r.assignments x c (ap (λ j. is_eq (callsign_cmp c j)) e ∙ apart))
   others_one c (PutLoan x) e apart = ap (λ o. record (rows_of c r) { loan = o }) (put_other callsign_cmp loan_key callsigns_total r.loans x c (ap (λ j. is_eq (callsign_cmp c j)) e ∙ apart))
@@ -172,18 +180,22 @@ bare_one k r (PutCall x) e = absurd e
 bare_one k r (PutPoint x) e = absurd e
 
 -- likewise changes in order
-pub changed : (k : Callsign) (r : Room) (xs : List Change) → IsInOrder r → AllConcern k xs → rows_of k (apply r xs) ≡ all_after (rows_of k r) xs
+pub changed : (k : Callsign) (r : Room) (xs : List Change) → IsInOrder r → AllConcern k xs
+    → rows_of k (apply r xs) ≡ all_after (rows_of k r) xs
 changed k r [] w e = refl
 changed k r (x ∷ xs) w e = changed k (apply_one r x) xs (in_order_one r x w) e.1 ∙ ap (λ p. all_after p xs) (changed_one k r w x e.0)
 
-pub others_stay : (k : Callsign) (r : Room) (xs : List Change) (c : Callsign) → IsInOrder r → AllConcern k xs → is_eq (callsign_cmp c k) ≡ false → rows_of c (apply r xs) ≡ rows_of c r
+pub others_stay : (k : Callsign) (r : Room) (xs : List Change) (c : Callsign) → IsInOrder r
+    → AllConcern k xs → is_eq (callsign_cmp c k) ≡ false → rows_of c (apply r xs) ≡ rows_of c r
 others_stay k r [] c w e apart = refl
 others_stay k r (x ∷ xs) c w e apart = others_stay k (apply_one r x) xs c (in_order_one r x w) e.1 apart ∙ others_one k r w c x e.0 apart
 
-pub bare_stays : (k : Callsign) (r : Room) (xs : List Change) → AllConcern k xs → bare (apply r xs) ≡ bare r
+pub bare_stays : (k : Callsign) (r : Room) (xs : List Change) → AllConcern k xs
+    → bare (apply r xs) ≡ bare r
 bare_stays k r [] e = refl
 bare_stays k r (x ∷ xs) e = bare_stays k (apply_one r x) xs e.1 ∙ bare_one k r x e.0
 
-pub all_concern : (k : Callsign) (xs ys : List Change) → AllConcern k xs → AllConcern k ys → AllConcern k (xs ++ ys)
+pub all_concern : (k : Callsign) (xs ys : List Change) → AllConcern k xs → AllConcern k ys
+    → AllConcern k (xs ++ ys)
 all_concern k [] ys e f = f
 all_concern k (x ∷ xs) ys e f = (e.0, all_concern k xs ys e.1 f)

@@ -22,7 +22,8 @@ use Rattle.room_model.specs.WellFormed.{IsWellFormed}
 use Rattle.room_model.specs.Working.{reads_incident, reads_loan, reads_point, reads_report, reads_vehicle, working}
 use Rattle.room_types.specs.declared.asks.Ask.TheVariants as ask
 
-opened_read : (d : ℕ) (from to : ℤ) (at : ℕ) (r : Room) → incidents_opened d from to (working d (ask.Times from to) at r) ≡ incidents_opened d from to r
+opened_read : (d : ℕ) (from to : ℤ) (at : ℕ) (r : Room)
+    → incidents_opened d from to (working d (ask.Times from to) at r) ≡ incidents_opened d from to r
 unfolding incidents_opened
 opened_read d from to at r = filter_filter _ (λ i. i.division == d && reads_incident (ask.Times from to) at i) r.incidents (λ i g. both_true _ _ (left_true _ _ g) (right_true (not (is_merged i.state)) _ (right_true _ _ g)))
 
@@ -34,7 +35,8 @@ same_equal Greater h = cc
 same_self : (c : Callsign) → same_callsign c c ≡ true
 same_self c = same_equal (callsign_cmp c c) (callsigns_total.antisymm c c)
 
-report_read : (c : Callsign) (n : ℕ) (x : Report) → is_eq (numbered_cmp (c, n) (report_key x)) ≡ true → reads_report (ask.Clear c n) x ≡ true
+report_read : (c : Callsign) (n : ℕ) (x : Report)
+    → is_eq (numbered_cmp (c, n) (report_key x)) ≡ true → reads_report (ask.Clear c n) x ≡ true
 report_read c n x e =
     let key : (c, n) ≡ report_key x = exact_numbered (c, n) (report_key x) (is_equal _ e) in
     both_true _ _ (subst (λ k. same_callsign c k ≡ true) (ap (λ (p : Callsign × ℕ). p.0) key) (same_self c)) (eq-eqb n x.number (ap (λ (p : Callsign × ℕ). p.1) key))
@@ -44,7 +46,8 @@ itself n = eq-eqb n n refl
 
 module _ (d : ℕ) (r : Room) (formed : IsWellFormed r) where
   -- the vehicle that an ask names
-  named : (a : Ask) (at : ℕ) (c : Callsign) → reads_vehicle a c ≡ same_callsign c c → reads_loan a c ≡ same_callsign c c → SeesVehicle d c (working d a at r) r
+  named : (a : Ask) (at : ℕ) (c : Callsign) → reads_vehicle a c ≡ same_callsign c c
+      → reads_loan a c ≡ same_callsign c c → SeesVehicle d c (working d a at r) r
   named a at c h g = sees_vehicle d a at r formed c (h ∙ same_self c) (g ∙ same_self c)
 
   pub desk_working : (a : Ask) (at : ℕ) → desk_asks d a at (working d a at r) ≡ desk_asks d a at r

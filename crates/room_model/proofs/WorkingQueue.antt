@@ -22,7 +22,8 @@ use Rattle.room_model.specs.WellFormed.{IsWellFormed}
 use Rattle.room_model.specs.Working.{names_report, reads_incident, reads_report, working}
 use Rattle.room_types.specs.declared.asks.Ask.TheVariants as ask
 
-off_share : {X : Type 0} (b c : Bool) (o : Option X) → b && true ≡ false → cond (b && c) o None ≡ None
+off_share : {X : Type 0} (b c : Bool) (o : Option X) → b && true ≡ false
+    → cond (b && c) o None ≡ None
 off_share true c o h = cc
 off_share false c o h = refl
 
@@ -30,13 +31,15 @@ module _ (d at : ℕ) (r : Room) (formed : IsWellFormed r) where
   abbrev seen : Room
   seen = working d ask.Queue at r
 
-  unserved_by : (i : Incident) → ((h : i.division == d ≡ true) (g : is_active i.state ≡ true) → SeesIncident d i.number seen r) → unserved d at seen i ≡ unserved d at r i
+  unserved_by : (i : Incident) → ((h : i.division == d ≡ true) (g : is_active i.state ≡ true)
+      → SeesIncident d i.number seen r) → unserved d at seen i ≡ unserved d at r i
   unserved_by i f =
       ap (λ (b : Bool). cond b (Some (record { rank = 1; since = i.opened; number = i.number; callsign = None })) None)
       (and_same (i.division == d) _ _ (λ h. and_same (is_active i.state) _ _ (λ g. let see = f h g in
       ap (λ (n : Kind → ℕ). (n Ambulance == 0 && (n Car == 0 && n Support == 0)) && nat_lt 180 (age at i.opened)) (λ j k. see.same_served k j))))
 
-  unserved_read : filter_map (unserved d at seen) seen.incidents ≡ filter_map (unserved d at r) r.incidents
+  unserved_read : filter_map (unserved d at seen) seen.incidents
+      ≡ filter_map (unserved d at r) r.incidents
   unserved_read =
       filter_map_among (unserved d at seen) (unserved d at r) _ (λ i m. unserved_by i (λ h g. sees_active d ask.Queue at r formed refl i (among_filter (λ i. i.division == d && reads_incident ask.Queue at i) r.incidents i m).0 h g))
       ∙ filter_map_filter (unserved d at r) (λ i. i.division == d && reads_incident ask.Queue at i) r.incidents (λ i h. guard_none (i.division == d) (is_active i.state) (false || false) _ _ h)
@@ -46,7 +49,9 @@ module _ (d at : ℕ) (r : Room) (formed : IsWellFormed r) where
       ap (λ (f : Vehicle → Option Entry). filter_map f (filter (λ v. owns_vehicle d v && true) r.vehicles)) (λ j v. cond (v.holder == d && is_mobilised v.status) (unread_turn at v (open_turn_read d ask.Queue at r formed refl v.callsign j)) None)
       ∙ filter_map_filter (unread d at r) (λ v. owns_vehicle d v && true) r.vehicles (λ v h. off_share (v.holder == d) _ _ h)
 
-  slow_turn_same : (v : Vehicle) (o : Option Turn) → ((t : Turn) → o ≡ Some t → IsActive (incident_of d t.incident r)) → slow_turn d at seen v o ≡ slow_turn d at r v o
+  slow_turn_same : (v : Vehicle) (o : Option Turn)
+      → ((t : Turn) → o ≡ Some t → IsActive (incident_of d t.incident r))
+      → slow_turn d at seen v o ≡ slow_turn d at r v o
   slow_turn_same v None h = refl
   slow_turn_same v (Some t) h = ap (slow_incident at v) (incident_active d ask.Queue at r formed refl t.incident (h t refl))
 
@@ -63,7 +68,8 @@ module _ (d at : ℕ) (r : Room) (formed : IsWellFormed r) where
   exception_read : filter_map (exception d) seen.reports ≡ filter_map (exception d) r.reports
   exception_read = filter_map_filter (exception d) (λ x. x.division == d && reads_report ask.Queue x) r.reports (λ x h. guarded_none (x.division == d) (not (is_normal x.outcome) && not x.cleared) (names_report ask.Queue x.callsign x.number) _ h)
 
-  uncovered_read : filter_map (uncovered d at seen) seen.points ≡ filter_map (uncovered d at r) r.points
+  uncovered_read : filter_map (uncovered d at seen) seen.points
+      ≡ filter_map (uncovered d at r) r.points
   uncovered_read =
       ap (λ (f : Point → Option Entry). filter_map f (filter (λ p. owns_point d p && true) r.points)) (λ j p. cond (p.division == d && nat_lt (length (holders_read d ask.Queue at r formed (λ k. refl) p.number at j)) p.cover) (Some (record { rank = 7; since = 0; number = p.number; callsign = None })) None)
       ∙ filter_map_filter (uncovered d at r) (λ p. owns_point d p && true) r.points (λ p h. off_share (p.division == d) _ _ h)

@@ -1,4 +1,5 @@
--- The rows of a division's share that an ask reads: what a desk asks, and a call that is placed in it.
+-- The rows of a division's share that an ask reads: what a desk asks, and a call that is placed in
+-- it.
 use Rattle.std.specs.Int.{abs_diff}
 use Rattle.std.specs.Ordering.{is_eq}
 use Rattle.std.specs.Prelude.{Bool, None, Option, Some, false, filter, int_le, int_lt, is_some, nat_le, not, pos, true, ℕ, ◌&&◌, ◌==◌, ◌||◌}
@@ -107,7 +108,8 @@ names_incident (ask.Merge m into) n = m == n || into == n
 names_incident (ask.Close m) n = m == n
 names_incident a n = false
 
--- in the square whose sides lie 200 m from a place: whatever lies outside it is more than 200 m away
+-- in the square whose sides lie 200 m from a place: whatever lies outside it is more than 200 m
+-- away
 abbrev pub is_around : Place → Place → Bool
 is_around p q = nat_le (abs_diff p.east q.east) 200 && nat_le (abs_diff p.north q.north) 200
 

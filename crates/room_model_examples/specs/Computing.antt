@@ -15,5 +15,11 @@ use Rattle.room_place.specs.Places.{distance}
 use Rattle.room_place.specs.Plans.{division_of}
 
 unfoldable pub machine : Bool
-unfolding accept active_incidents all_held assignment_at assignment_of borrowed call_in calls_of candidates change_needs clear close decline distance division_of duty entries give_back held holders incident_of incidents_opened is_attended kept_call kept_report last_number lend lent link_target loan_at loans_of merge mobilise off offer_at offered_by offered_to offers_of open_turn point_of points_of propose recall refuse_if report_in report_of served show_incidents show_loans show_offers show_points show_queue show_times show_vehicles stand_down standby vehicle_at withdraw
+unfolding accept active_incidents all_held assignment_at assignment_of borrowed call_in calls_of
+    candidates change_needs clear close decline distance division_of duty entries give_back held
+    holders incident_of incidents_opened is_attended kept_call kept_report last_number lend
+    lent link_target loan_at loans_of merge mobilise off offer_at offered_by offered_to
+    offers_of open_turn point_of points_of propose recall refuse_if report_in report_of
+    served show_incidents show_loans show_offers show_points show_queue show_times
+    show_vehicles stand_down standby vehicle_at withdraw
 machine = true

@@ -33,7 +33,10 @@ C1 = codes "C1"
 
 -- a rectangle of a division's area
 abbrev pub area : ℕ → ℕ → ℕ → ℕ → ℕ → Area
-area division west south east north = record { division = division; rect = record { west = west; south = south; east = east; north = north } }
+area division west south east north = record {
+  division = division;
+  rect = record { west = west; south = south; east = east; north = north };
+}
 
 -- a division that gave no number yet
 abbrev pub fresh_division : ℕ → Division

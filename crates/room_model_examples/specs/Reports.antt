@@ -1,4 +1,5 @@
--- Reports: what a button comes to, what a repeated, late, stale or wrong report changes, and who clears it.
+-- Reports: what a button comes to, what a repeated, late, stale or wrong report changes, and who
+-- clears it.
 use Rattle.std.specs.Prelude.{Err, None, Ok, Option, Some, option_map, ℕ, ◌≡◌}
 use Rattle.room_types.specs.declared.answers.Answer.TheVariants as answer
 use Rattle.room_types.specs.declared.asks.Ask.TheVariants as ask
@@ -17,7 +18,8 @@ use Rattle.room_model_examples.specs.LoansAndOffers.{a1_offered, accept_a1, lend
 use Rattle.room_model_examples.specs.Telling.{at, place, place_of, press, status_of, ◌▸◌}
 use Rattle.room_model_examples.specs.Vehicles.{a1_stood_down, a1_waits}
 
--- A1 acknowledges its order; then it leaves the scene without having reported it; then that report comes
+-- A1 acknowledges its order; then it leaves the scene without having reported it; then that report
+-- comes
 abbrev pub mobile : Event
 mobile = at 2010 (Crew A1) (press 1 button.Mobile 1 "TQ303804")
 
@@ -61,40 +63,81 @@ clear_2 = at 2040 (Desk 1) (ask.Clear A1 2)
 
 pub record ReportExamples : Type 0 where
   pub mobile_is_normal : answer_to mobile a1_sent ≡ Ok (answer.Reported 1 Normal Mobilised)
-  pub leaving_without_the_scene_is_skipped : answer_to leave (a1_sent ▸ mobile) ≡ Ok (answer.Reported 3 Skipped Leaving)
+  pub leaving_without_the_scene_is_skipped : answer_to leave (a1_sent ▸ mobile)
+      ≡ Ok (answer.Reported 3 Skipped Leaving)
   pub a_lower_number_is_late : answer_to late_scene a1_left ≡ Ok (answer.Reported 2 Late Leaving)
-  pub a_late_report_leaves_the_last_number : answer_to (at 1300 (Crew A1) (press 6 button.Position 0 "TQ300800")) (a1_waits ▸ here ▸ at 1200 (Crew A1) (press 5 button.Position 0 "TQ300800")) ≡ Ok (answer.Reported 6 Late Available)
-  pub the_scene_after_mobile_is_normal : answer_to (at 2020 (Crew A1) (press 2 button.Scene 1 "TQ300800")) (a1_sent ▸ mobile) ≡ Ok (answer.Reported 2 Normal AtScene)
-  pub the_scene_without_mobile_is_skipped : answer_to (at 2040 (Crew A1) (press 2 button.Scene 2 "TQ300800")) (a1_sent_again ▸ stale_scene) ≡ Ok (answer.Reported 2 Skipped AtScene)
-  pub an_earlier_order_is_stale : answer_to stale_scene a1_sent_again ≡ Ok (answer.Reported 1 Stale Mobilised)
-  pub return_under_an_earlier_order_is_stale : answer_to (at 2030 (Crew A1) (press 1 button.Return 1 "TQ300800")) a1_sent_again ≡ Ok (answer.Reported 1 Stale Mobilised)
-  pub home_names_no_order : answer_to (at 2030 (Crew A1) (press 1 button.Home 1 "TQ300800")) a1_sent_again ≡ Ok (answer.Reported 1 Skipped Available)
-  pub off_duty_each_button_is_wrong : answer_to (at 2050 (Crew A2) (press 1 button.Home 0 "TQ300800")) example_room ≡ Ok (answer.Reported 1 Wrong OffDuty)
+  pub a_late_report_leaves_the_last_number : answer_to
+      (at 1300 (Crew A1) (press 6 button.Position 0 "TQ300800"))
+      (a1_waits ▸ here ▸ at 1200 (Crew A1) (press 5 button.Position 0 "TQ300800"))
+      ≡ Ok (answer.Reported 6 Late Available)
+  pub the_scene_after_mobile_is_normal : answer_to
+      (at 2020 (Crew A1) (press 2 button.Scene 1 "TQ300800")) (a1_sent ▸ mobile)
+      ≡ Ok (answer.Reported 2 Normal AtScene)
+  pub the_scene_without_mobile_is_skipped : answer_to
+      (at 2040 (Crew A1) (press 2 button.Scene 2 "TQ300800")) (a1_sent_again ▸ stale_scene)
+      ≡ Ok (answer.Reported 2 Skipped AtScene)
+  pub an_earlier_order_is_stale : answer_to stale_scene a1_sent_again
+      ≡ Ok (answer.Reported 1 Stale Mobilised)
+  pub return_under_an_earlier_order_is_stale : answer_to
+      (at 2030 (Crew A1) (press 1 button.Return 1 "TQ300800")) a1_sent_again
+      ≡ Ok (answer.Reported 1 Stale Mobilised)
+  pub home_names_no_order : answer_to
+      (at 2030 (Crew A1) (press 1 button.Home 1 "TQ300800")) a1_sent_again
+      ≡ Ok (answer.Reported 1 Skipped Available)
+  pub off_duty_each_button_is_wrong : answer_to
+      (at 2050 (Crew A2) (press 1 button.Home 0 "TQ300800")) example_room
+      ≡ Ok (answer.Reported 1 Wrong OffDuty)
   pub a_normal_report_moves_the_vehicle : place_of A1 (a1_waits ▸ here) ≡ Some (place "TQ300800")
   pub a_late_report_leaves_the_place : place_of A1 a1_was_late ≡ Some (place "TQ300800")
   pub a_late_report_leaves_the_status : status_of A1 a1_was_late ≡ Some Leaving
-  pub a_stale_report_leaves_the_place : place_of A1 (a1_sent_again ▸ stale_scene) ≡ Some (place "TQ303804")
-  pub a_wrong_report_leaves_the_place : place_of A2 (example_room ▸ at 2050 (Crew A2) (press 1 button.Position 0 "TQ300800")) ≡ Some (place "TQ304803")
-  pub return_ends_the_assignment : assignment_at A1 (a1_left ▸ at 2040 (Crew A1) (press 4 button.Return 1 "TQ300800")) ≡ None
-  pub return_sets_returning : status_of A1 (a1_left ▸ at 2040 (Crew A1) (press 4 button.Return 1 "TQ300800")) ≡ Some Returning
+  pub a_stale_report_leaves_the_place : place_of A1 (a1_sent_again ▸ stale_scene)
+      ≡ Some (place "TQ303804")
+  pub a_wrong_report_leaves_the_place : place_of A2
+      (example_room ▸ at 2050 (Crew A2) (press 1 button.Position 0 "TQ300800"))
+      ≡ Some (place "TQ304803")
+  pub return_ends_the_assignment : assignment_at A1
+      (a1_left ▸ at 2040 (Crew A1) (press 4 button.Return 1 "TQ300800")) ≡ None
+  pub return_sets_returning : status_of A1
+      (a1_left ▸ at 2040 (Crew A1) (press 4 button.Return 1 "TQ300800")) ≡ Some Returning
   pub a_report_is_answered : answer_to here a1_waits ≡ Ok (answer.Reported 7 Normal Available)
-  pub a_repeated_report_is_answered_alike : answer_to here (a1_waits ▸ here) ≡ Ok (answer.Reported 7 Normal Available)
+  pub a_repeated_report_is_answered_alike : answer_to here (a1_waits ▸ here)
+      ≡ Ok (answer.Reported 7 Normal Available)
   pub a_repeated_report_changes_nothing : a1_waits ▸ here ▸ here ≡ a1_waits ▸ here
-  pub an_earlier_report_repeated_is_answered_alike : answer_to mobile a1_was_late ≡ Ok (answer.Reported 1 Normal Mobilised)
+  pub an_earlier_report_repeated_is_answered_alike : answer_to mobile a1_was_late
+      ≡ Ok (answer.Reported 1 Normal Mobilised)
   pub an_earlier_report_repeated_changes_nothing : a1_was_late ▸ mobile ≡ a1_was_late
-  pub a_report_repeated_after_a_loan_is_answered_alike : answer_to here reported_and_lent ≡ Ok (answer.Reported 7 Normal Available)
+  pub a_report_repeated_after_a_loan_is_answered_alike : answer_to here reported_and_lent
+      ≡ Ok (answer.Reported 7 Normal Available)
   pub a_report_repeated_after_a_loan_changes_nothing : reported_and_lent ▸ here ≡ reported_and_lent
-  pub a_number_with_another_button_is_refused : answer_to (at 1100 (Crew A1) (press 7 button.Home 0 "TQ300800")) reported_and_lent ≡ Err refusal.NumberReused
-  pub a_number_with_another_place_is_refused : answer_to (at 1100 (Crew A1) (press 7 button.Position 0 "TQ310800")) reported_and_lent ≡ Err refusal.NumberReused
-  pub a_lower_number_after_a_loan_is_late : answer_to late_position reported_and_lent ≡ Ok (answer.Reported 6 Late Available)
+  pub a_number_with_another_button_is_refused : answer_to
+      (at 1100 (Crew A1) (press 7 button.Home 0 "TQ300800")) reported_and_lent
+      ≡ Err refusal.NumberReused
+  pub a_number_with_another_place_is_refused : answer_to
+      (at 1100 (Crew A1) (press 7 button.Position 0 "TQ310800")) reported_and_lent
+      ≡ Err refusal.NumberReused
+  pub a_lower_number_after_a_loan_is_late : answer_to late_position reported_and_lent
+      ≡ Ok (answer.Reported 6 Late Available)
   pub a_report_belongs_to_the_holder_of_then : owner_of 7 (reported_and_lent ▸ here) ≡ Some 1
-  pub a_later_report_belongs_to_the_borrower : owner_of 6 (reported_and_lent ▸ late_position) ≡ Some 2
+  pub a_later_report_belongs_to_the_borrower : owner_of 6 (reported_and_lent ▸ late_position)
+      ≡ Some 2
   pub an_exception_is_cleared : answer_to clear_2 a1_was_late ≡ Ok answer.Done
-  pub a_cleared_exception_is_not_cleared_again : answer_to clear_2 (a1_was_late ▸ clear_2) ≡ Err refusal.NoSuchException
-  pub a_normal_report_is_not_cleared : answer_to (at 2040 (Desk 1) (ask.Clear A1 1)) a1_was_late ≡ Err refusal.NoSuchException
-  pub another_divisions_exception_is_not_cleared : answer_to (at 2040 (Desk 2) (ask.Clear A1 2)) a1_was_late ≡ Err refusal.NoSuchException
-  pub the_holder_of_then_clears : answer_to (at 2200 (Desk 2) (ask.Clear A1 6)) (reported_and_lent ▸ late_position) ≡ Ok answer.Done
-  pub the_lender_does_not_clear_the_borrowers_exception : answer_to (at 2200 (Desk 1) (ask.Clear A1 6)) (reported_and_lent ▸ late_position) ≡ Err refusal.NoSuchException
-  pub offered_position_keeps_the_offer : answer_to (at 2010 (Crew A1) (press 1 button.Position 0 "TQ303804")) a1_offered ≡ Ok (answer.Reported 1 Normal Offered)
-  pub offered_home_keeps_the_offer : answer_to (at 2010 (Crew A1) (press 2 button.Home 0 "TQ303804")) a1_offered ≡ Ok (answer.Reported 2 Normal Offered)
-  pub offered_mobile_is_wrong : answer_to (at 2010 (Crew A1) (press 3 button.Mobile 0 "TQ303804")) a1_offered ≡ Ok (answer.Reported 3 Wrong Offered)
+  pub a_cleared_exception_is_not_cleared_again : answer_to clear_2 (a1_was_late ▸ clear_2)
+      ≡ Err refusal.NoSuchException
+  pub a_normal_report_is_not_cleared : answer_to (at 2040 (Desk 1) (ask.Clear A1 1)) a1_was_late
+      ≡ Err refusal.NoSuchException
+  pub another_divisions_exception_is_not_cleared : answer_to
+      (at 2040 (Desk 2) (ask.Clear A1 2)) a1_was_late ≡ Err refusal.NoSuchException
+  pub the_holder_of_then_clears : answer_to (at 2200 (Desk 2) (ask.Clear A1 6))
+      (reported_and_lent ▸ late_position) ≡ Ok answer.Done
+  pub the_lender_does_not_clear_the_borrowers_exception : answer_to
+      (at 2200 (Desk 1) (ask.Clear A1 6)) (reported_and_lent ▸ late_position)
+      ≡ Err refusal.NoSuchException
+  pub offered_position_keeps_the_offer : answer_to
+      (at 2010 (Crew A1) (press 1 button.Position 0 "TQ303804")) a1_offered
+      ≡ Ok (answer.Reported 1 Normal Offered)
+  pub offered_home_keeps_the_offer : answer_to
+      (at 2010 (Crew A1) (press 2 button.Home 0 "TQ303804")) a1_offered
+      ≡ Ok (answer.Reported 2 Normal Offered)
+  pub offered_mobile_is_wrong : answer_to
+      (at 2010 (Crew A1) (press 3 button.Mobile 0 "TQ303804")) a1_offered
+      ≡ Ok (answer.Reported 3 Wrong Offered)

@@ -1,4 +1,5 @@
--- What a sampled step says: the answer and the room after it, what it hands to a division, and which rows decide it.
+-- What a sampled step says: the answer and the room after it, what it hands to a division, and
+-- which rows decide it.
 use Rattle.std.specs.Prelude.{List, Option, Result, ℕ, ◌≡◌}
 use Rattle.room_types.specs.Texts.{Callsign}
 use Rattle.room_types.specs.declared.answers.Answer.{Answer}
@@ -20,7 +21,8 @@ Steps e r answer after = (answer_to e r ≡ answer) × (room_after e r ≡ after
 
 -- division d is handed this, its desk is told so, and by that alone its share becomes this
 abbrev pub Hands : ℕ → Event → Room → Option Crossing → List (Result Answer Refusal) → Room → Type 0
-Hands d e r handed told share = (cross d r e ≡ handed) × (told_by (own d r) handed ≡ told) × (share_by d (own d r) handed ≡ share) × (own d (room_after e r) ≡ share)
+Hands d e r handed told share = (cross d r e ≡ handed) × (told_by (own d r) handed ≡ told)
+    × (share_by d (own d r) handed ≡ share) × (own d (room_after e r) ≡ share)
 
 -- the working rows of a desk's ask decide it
 abbrev pub ByWorkingRows : ℕ → Ask → ℕ → Room → Type 0
@@ -28,4 +30,6 @@ ByWorkingRows d ask t r = desk_asks d ask t (working d ask t r) ≡ desk_asks d 
 
 -- a vehicle's rows decide what its crew asks, and what becomes of them
 abbrev pub ByOneVehicle : Callsign → Ask → ℕ → Room → Type 0
-ByOneVehicle c ask t r = (crew_asks c ask t (mine c r) ≡ crew_asks c ask t r) × (mine c (room_after (at t (Crew c) ask) (mine c r)) ≡ mine c (room_after (at t (Crew c) ask) r))
+ByOneVehicle c ask t r = (crew_asks c ask t (mine c r) ≡ crew_asks c ask t r)
+    × (mine c (room_after (at t (Crew c) ask) (mine c r))
+    ≡ mine c (room_after (at t (Crew c) ask) r))

@@ -43,7 +43,13 @@ needs ambulances cars support = record { ambulances = ambulances; cars = cars; s
 
 -- a call of class 2 for one ambulance
 abbrev pub call_of : ℕ → String → CallForm
-call_of serial reference = record { serial = serial; place = place reference; class = 2; needs = needs 1 0 0; note = [] }
+call_of serial reference = record {
+  serial = serial;
+  place = place reference;
+  class = 2;
+  needs = needs 1 0 0;
+  note = [];
+}
 
 -- the first call taker's position
 abbrev pub taker : Who
@@ -55,11 +61,17 @@ call_at t serial reference = at t taker (ask.Call (call_of serial reference))
 
 -- a report: its number, the button, the order that it speaks of, and where the vehicle is
 abbrev pub press : ℕ → Button → ℕ → String → Ask
-press number button order reference = ask.Report (record { number = number; button = button; order = order; place = place reference })
+press number button order reference =
+    ask.Report (record { number = number; button = button; order = order; place = place reference })
 
 -- an entry of the queue: its rank, since when, the number, and the vehicle where there is one
 abbrev pub entry : ℕ → ℕ → ℕ → Option Callsign → Entry
-entry rank since number callsign = record { rank = rank; since = since; number = number; callsign = callsign }
+entry rank since number callsign = record {
+  rank = rank;
+  since = since;
+  number = number;
+  callsign = callsign;
+}
 
 -- what the room keeps of a vehicle
 abbrev pub holder_of : Callsign → Room → Option ℕ

@@ -20,7 +20,8 @@ below_root n m f x y h e g = (elim (cases_lt m f) [
 ])
 
 -- no place is nearer than the floor of its cell's ring
-pub ring_floor-le : (a b : Place) → IsInSquares a → IsInSquares b → ring_floor (ring_of (cell_of a) (cell_of b)) ≤ distance a b
+pub ring_floor-le : (a b : Place) → IsInSquares a → IsInSquares b
+    → ring_floor (ring_of (cell_of a) (cell_of b)) ≤ distance a b
 ring_floor-le a b a_inside b_inside =
     let root = distance_is_root a b a_inside b_inside in
     let east = abs_diff (a.east / 1000) (b.east / 1000) in

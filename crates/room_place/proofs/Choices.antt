@@ -63,14 +63,16 @@ module _ {X : Type 0} (lt : X → X → Bool) (order : IsStrict lt) where
   empty [] e = refl
   empty (y ∷ ys) e = absurd (none_least ys y e)
 
-  in_filter : (p : X → Bool) (xs : List X) (y : X) → Among y (filter p xs) → Among y xs × (p y ≡ true)
+  in_filter : (p : X → Bool) (xs : List X) (y : X) → Among y (filter p xs)
+      → Among y xs × (p y ≡ true)
   in_filter p [] y h = absurd h
   in_filter p (x ∷ xs) y h = (elim (p x) as (λ (b : Bool). p x ≡ b → Among y (cond b (x ∷ filter p xs) (filter p xs)) → Among y (x ∷ xs) × (p y ≡ true)) [
     | true ↦ λ e g. elim g [ inl k ↦ (inl k, ap p k ∙ e) | inr k ↦ let f = in_filter p xs y k in (inr f.0, f.1) ]
     | false ↦ λ e g. let f = in_filter p xs y g in (inr f.0, f.1)
   ]) refl h
 
-  into_filter : (p : X → Bool) (xs : List X) (y : X) → Among y xs → p y ≡ true → Among y (filter p xs)
+  into_filter : (p : X → Bool) (xs : List X) (y : X) → Among y xs → p y ≡ true
+      → Among y (filter p xs)
   into_filter p [] y h e = absurd h
   into_filter p (x ∷ xs) y h e = (elim (p x) as (λ (b : Bool). p x ≡ b → Among y (cond b (x ∷ filter p xs) (filter p xs))) [
     | true ↦ λ f. elim h [ inl k ↦ inl k | inr k ↦ inr (into_filter p xs y k e) ]
@@ -78,8 +80,10 @@ module _ {X : Type 0} (lt : X → X → Bool) (order : IsStrict lt) where
   ]) refl
 
   -- where p passes just x and what q passes
-  module _ (p q : X → Bool) (x : X) (more : (y : X) → q y ≡ true → p y ≡ true) (here : p x ≡ true) (past : q x ≡ false) where
-    same_length : (ys : List X) → ((y : X) → Among y ys → p y ≡ true → q y ≡ false → y ≡ x) → (Among x ys → ⊥) → length (filter p ys) ≡ length (filter q ys)
+  module _ (p q : X → Bool) (x : X) (more : (y : X) → q y ≡ true → p y ≡ true) (here : p x ≡ true)
+      (past : q x ≡ false) where
+    same_length : (ys : List X) → ((y : X) → Among y ys → p y ≡ true → q y ≡ false → y ≡ x)
+        → (Among x ys → ⊥) → length (filter p ys) ≡ length (filter q ys)
     same_length [] only h = refl
     same_length (y ∷ ys) only h = (elim (p y) as (λ (b : Bool). p y ≡ b → length (cond b (y ∷ filter p ys) (filter p ys)) ≡ length (filter q (y ∷ ys))) [
       | true ↦ λ e. (elim (q y) as (λ (c : Bool). q y ≡ c → suc (length (filter p ys)) ≡ length (cond c (y ∷ filter q ys) (filter q ys))) [
@@ -92,7 +96,8 @@ module _ {X : Type 0} (lt : X → X → Bool) (order : IsStrict lt) where
       ]) refl
     ]) refl
 
-    one_more : (ys : List X) → ((y : X) → Among y ys → p y ≡ true → q y ≡ false → y ≡ x) → AreDistinct ys → Among x ys → length (filter p ys) ≡ suc (length (filter q ys))
+    one_more : (ys : List X) → ((y : X) → Among y ys → p y ≡ true → q y ≡ false → y ≡ x)
+        → AreDistinct ys → Among x ys → length (filter p ys) ≡ suc (length (filter q ys))
     one_more [] only d h = absurd h
     one_more (y ∷ ys) only d h = (elim (p y) as (λ (b : Bool). p y ≡ b → length (cond b (y ∷ filter p ys) (filter p ys)) ≡ suc (length (filter q (y ∷ ys)))) [
       | true ↦ λ e. (elim (q y) as (λ (c : Bool). q y ≡ c → suc (length (filter p ys)) ≡ suc (length (cond c (y ∷ filter q ys) (filter q ys)))) [
@@ -105,17 +110,25 @@ module _ {X : Type 0} (lt : X → X → Bool) (order : IsStrict lt) where
       ]) refl
     ]) refl
 
-  after_more : (last : Option X) (x y : X) → comes_after lt last x ≡ true → lt x y ≡ true → comes_after lt last y ≡ true
+  after_more : (last : Option X) (x y : X) → comes_after lt last x ≡ true → lt x y ≡ true
+      → comes_after lt last y ≡ true
   after_more None x y e f = refl
   after_more (Some z) x y e f = order.steps z x y e f
 
   -- each time the least that is left: these are the first
-  pub chosen_first : (n : ℕ) (last : Option X) (xs : List X) → AreDistinct xs → AreFirst lt n last xs (chosen lt n last xs)
+  pub chosen_first : (n : ℕ) (last : Option X) (xs : List X) → AreDistinct xs
+      → AreFirst lt n last xs (chosen lt n last xs)
   chosen_first zero last xs d = record { count = omega arith; members = λ y h. absurd h; rising = tt; outside = λ y h e. inr tt }
   chosen_first (suc n) last xs d = (elim (least lt (filter (comes_after lt last) xs)) as (λ (o : Option X). least lt (filter (comes_after lt last) xs) ≡ o → AreFirst lt (suc n) last xs (extend o (λ x. chosen lt n (Some x) xs))) [
     | None ↦ λ e.
         let none = empty _ e in
-        record { count = rw none (omega arith); members = λ y h. absurd h; rising = tt; outside = λ y h f. absurd (subst (Among y) none (into_filter (comes_after lt last) xs y h f)) }
+        record {
+          count = rw none (omega arith);
+          members = λ y h. absurd h;
+          rising = tt;
+          outside =
+              λ y h f. absurd (subst (Among y) none (into_filter (comes_after lt last) xs y h f));
+        }
     | Some x ↦ λ e.
         let found = finds (filter (comes_after lt last) xs) None x e in
         let among : Among x (filter (comes_after lt last) xs) = elim found.from [ inl k ↦ cc | inr k ↦ k ] in
@@ -135,12 +148,15 @@ module _ {X : Type 0} (lt : X → X → Bool) (order : IsStrict lt) where
   ]) refl
 
 module _ {X : Type 0} (lt : X → X → Bool) where
-  pub choose_more : (n i : ℕ) (last : Option X) (xs : List X) (x : X) → i < n → Some x ≡ least lt (filter (comes_after lt last) xs) → chosen lt (n - i) last xs ≡ x ∷ chosen lt (n - (i + 1)) (Some x) xs
+  pub choose_more : (n i : ℕ) (last : Option X) (xs : List X) (x : X) → i < n
+      → Some x ≡ least lt (filter (comes_after lt last) xs)
+      → chosen lt (n - i) last xs ≡ x ∷ chosen lt (n - (i + 1)) (Some x) xs
   choose_more n i last xs x h e =
       let left : n - i ≡ suc (n - (i + 1)) = omega arith in
       ap (λ k. chosen lt k last xs) left ∙ ap (λ o. extend o (λ y. chosen lt (n - (i + 1)) (Some y) xs)) (sym e)
 
-  none_left : (k : ℕ) (last : Option X) (xs : List X) → None ≡ least lt (filter (comes_after lt last) xs) → chosen lt k last xs ≡ []
+  none_left : (k : ℕ) (last : Option X) (xs : List X)
+      → None ≡ least lt (filter (comes_after lt last) xs) → chosen lt k last xs ≡ []
   none_left zero last xs e = refl
   none_left (suc k) last xs e = ap (λ o. extend o (λ y. chosen lt k (Some y) xs)) (sym e)
 
@@ -148,8 +164,11 @@ module _ {X : Type 0} (lt : X → X → Bool) where
   append_nil [] = refl
   append_nil (x ∷ xs) = ap (λ ys. x ∷ ys) (append_nil xs)
 
-  pub chosen_none : (few : List X) (k : ℕ) (last : Option X) (xs all : List X) → None ≡ least lt (filter (comes_after lt last) xs) → few ++ chosen lt k last xs ≡ all → few ≡ all
+  pub chosen_none : (few : List X) (k : ℕ) (last : Option X) (xs all : List X)
+      → None ≡ least lt (filter (comes_after lt last) xs) → few ++ chosen lt k last xs ≡ all
+      → few ≡ all
   chosen_none few k last xs all e h = sym (append_nil few) ∙ ap (λ ys. few ++ ys) (sym (none_left k last xs e)) ∙ h
 
-  pub chosen_all : (few : List X) (n i : ℕ) (last : Option X) (xs all : List X) → n ≤ i → few ++ chosen lt (n - i) last xs ≡ all → few ≡ all
+  pub chosen_all : (few : List X) (n i : ℕ) (last : Option X) (xs all : List X) → n ≤ i
+      → few ++ chosen lt (n - i) last xs ≡ all → few ≡ all
   chosen_all few n i last xs all le h = let none : n - i ≡ 0 = omega arith in sym (append_nil few) ∙ ap (λ k. few ++ chosen lt k last xs) (sym none) ∙ h

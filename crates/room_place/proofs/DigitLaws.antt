@@ -31,10 +31,12 @@ pub allowed-gap : (gap : List ℕ) → IsGap gap → are_allowed gap ≡ true
 allowed-gap gap is = elim is [ inl none ↦ ap are_allowed none | inr one ↦ ap are_allowed one ]
 
 -- the gap before digits is passed over, and nothing more
-after_gap-digit : (d : ℕ) (tail : List ℕ) → is_ascii_digit d ≡ true → after_gap (d ∷ tail) ≡ d ∷ tail
+after_gap-digit : (d : ℕ) (tail : List ℕ) → is_ascii_digit d ≡ true
+    → after_gap (d ∷ tail) ≡ d ∷ tail
 after_gap-digit d tail digit = ap (λ (b : Bool). cond b tail (d ∷ tail)) (digit_no_space d digit)
 
-pub after_gap-digits : (gap ds tail : List ℕ) → IsGap gap → AreDigits ds → 1 ≤ length ds → after_gap (gap ++ (ds ++ tail)) ≡ ds ++ tail
+pub after_gap-digits : (gap ds tail : List ℕ) → IsGap gap → AreDigits ds → 1 ≤ length ds
+    → after_gap (gap ++ (ds ++ tail)) ≡ ds ++ tail
 after_gap-digits gap [] tail is digits some = absurd (omega arith)
 after_gap-digits gap (d ∷ ds) tail is digits some = elim is [
   | inl none ↦ ap (λ (g : List ℕ). after_gap (g ++ (d ∷ ds ++ tail))) none ∙ after_gap-digit d (ds ++ tail) (and_parts (is_ascii_digit d) _ digits).0
@@ -61,7 +63,8 @@ gap_of-after_gap (b ∷ bs) = (elim (b == 32) as (λ (t : Bool). (b == 32) ≡ t
 pub number_of-lt : (ds : List ℕ) → AreDigits ds → number_of ds < 10 ^ length ds
 number_of-lt ds digits = let below : number_of ds < 1 * 10 ^ length ds = from_below ds 0 1 digits (omega arith) in omega (arith, below)
   where
-    from_below : (ds : List ℕ) (n top : ℕ) → AreDigits ds → n < top → fold (λ m b. m * 10 + (b - 48)) n ds < top * 10 ^ length ds
+    from_below : (ds : List ℕ) (n top : ℕ) → AreDigits ds → n < top
+        → fold (λ m b. m * 10 + (b - 48)) n ds < top * 10 ^ length ds
     from_below [] n top digits below = omega arith
     from_below (d ∷ ds) n top digits below =
         let parts = and_parts (is_ascii_digit d) _ digits in
@@ -69,5 +72,6 @@ number_of-lt ds digits = let below : number_of ds < 1 * 10 ^ length ds = from_be
         let rest = from_below ds (n * 10 + (d - 48)) (top * 10) parts.1 one_more in
         rw (pow-succ' 10 (length ds), ← mul_assoc top 10 (10 ^ length ds)) rest
       where
-        small : (d : ℕ) → is_ascii_digit d ≡ true → (n top : ℕ) → n < top → n * 10 + (d - 48) < top * 10
+        small : (d : ℕ) → is_ascii_digit d ≡ true → (n top : ℕ) → n < top
+            → n * 10 + (d - 48) < top * 10
         small d digit n top below = grind (arith, nat_tests)

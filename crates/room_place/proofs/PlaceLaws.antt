@@ -20,7 +20,12 @@ within_edges east north inside =
     let west = and_parts _ _ inside in
     let east = and_parts _ _ west.1 in
     let south = and_parts _ _ east.1 in
-    record { from_west = leb-true _ _ west.0; to_east = leb-true _ _ east.0; from_south = leb-true _ _ south.0; to_north = leb-true _ _ south.1 }
+    record {
+      from_west = leb-true _ _ west.0;
+      to_east = leb-true _ _ east.0;
+      from_south = leb-true _ _ south.0;
+      to_north = leb-true _ _ south.1;
+    }
 
 pub same_place-true : (a b : Place) → same_place a b ≡ true → a ≡ b
 same_place-true a b same =
@@ -31,7 +36,8 @@ pub same_place-same : (a b : Place) → a ≡ b → same_place a b ≡ true
 same_place-same a b same = and_from _ _ (eq-eqb _ _ (ap (λ (p : Place). p.east) same)) (eq-eqb _ _ (ap (λ (p : Place). p.north) same))
 
 -- the distance is the root of the square of the way
-pub distance_is_root : (a b : Place) → IsInSquares a → IsInSquares b → IsRoot (square_between a b) (distance a b)
+pub distance_is_root : (a b : Place) → IsInSquares a → IsInSquares b
+    → IsRoot (square_between a b) (distance a b)
 unfolding distance
 distance_is_root a b a_inside b_inside =
     let here = within_edges a.east a.north a_inside in
@@ -41,6 +47,7 @@ distance_is_root a b a_inside b_inside =
     root_is_root (square_between a b) (omega (arith, mul-le-mul east east, mul-le-mul north north))
 
 -- a place within the outer edges is in the squares
-pub in_squares : (p : Place) → 400000 ≤ p.east → p.east ≤ 599999 → 100000 ≤ p.north → p.north ≤ 299999 → IsInSquares p
+pub in_squares : (p : Place) → 400000 ≤ p.east → p.east ≤ 599999 → 100000 ≤ p.north
+    → p.north ≤ 299999 → IsInSquares p
 in_squares p from_west to_east from_south to_north =
     and_from _ _ (le-leb _ _ from_west) (and_from _ _ (le-leb _ _ to_east) (and_from _ _ (le-leb _ _ from_south) (le-leb _ _ to_north)))

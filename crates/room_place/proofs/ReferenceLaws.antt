@@ -16,18 +16,23 @@ use Rattle.room_place.specs.declared.places.PlaceFault.TheVariants.{Digit, Lengt
 use Rattle.room_place.proofs.DigitLaws.{after_gap-digits, allowed-digits, allowed-gap, filter-digits, filter-gap, gap_of, gap_of-IsGap, gap_of-after_gap}
 
 -- a text without the first three faults is read
-unfaulted : (text : List ℕ) → has_square_fault text ≡ false → has_digit_fault text ≡ false → has_length_fault text ≡ false → parse text ≡ ok_or (option_and_then (place_in (digit_count text / 2) (drop 2 text)) (square_of text)) Spacing
+unfaulted : (text : List ℕ) → has_square_fault text ≡ false → has_digit_fault text ≡ false
+    → has_length_fault text ≡ false → parse text
+    ≡ ok_or (option_and_then (place_in (digit_count text / 2) (drop 2 text)) (square_of text))
+    Spacing
 unfaulted text square digit length = rw (square, digit, length) refl
 
 -- 6, 8 or 10 digits are 3, 4 or 5 each way
 
-half-even : (n : ℕ) → (n == 6 || (n == 8 || n == 10)) ≡ true → (n / 2 ≡ 3) ⊎ ((n / 2 ≡ 4) ⊎ (n / 2 ≡ 5))
+half-even : (n : ℕ) → (n == 6 || (n == 8 || n == 10)) ≡ true
+    → (n / 2 ≡ 3) ⊎ ((n / 2 ≡ 4) ⊎ (n / 2 ≡ 5))
 half-even n even = elim (or_cases _ _ even) [
   | inl six ↦ inl (ap (λ k. k / 2) (eqb-true n 6 six))
   | inr more ↦ elim (or_cases _ _ more) [ inl eight ↦ inr (inl (ap (λ k. k / 2) (eqb-true n 8 eight))) | inr ten ↦ inr (inr (ap (λ k. k / 2) (eqb-true n 10 ten))) ]
 ]
 
-even-half : (h n : ℕ) → n ≡ h + h → (h ≡ 3) ⊎ ((h ≡ 4) ⊎ (h ≡ 5)) → (n == 6 || (n == 8 || n == 10)) ≡ true
+even-half : (h n : ℕ) → n ≡ h + h → (h ≡ 3) ⊎ ((h ≡ 4) ⊎ (h ≡ 5))
+    → (n == 6 || (n == 8 || n == 10)) ≡ true
 even-half h n twice size = elim size [
   | inl three ↦ or_left _ _ (eq-eqb n 6 (omega arith))
   | inr more ↦ elim more [
@@ -37,7 +42,9 @@ even-half h n twice size = elim size [
 ]
 
 -- a text that begins with a square and goes on with twice h digits and spaces is read on
-pub parse-square : (text rest : List ℕ) (corner : Place) (h : ℕ) → square_of text ≡ Some corner → rest ≡ drop 2 text → are_allowed rest ≡ true → length (filter is_ascii_digit rest) ≡ h + h → (h ≡ 3) ⊎ ((h ≡ 4) ⊎ (h ≡ 5)) → parse text ≡ ok_or (place_in h rest corner) Spacing
+pub parse-square : (text rest : List ℕ) (corner : Place) (h : ℕ) → square_of text ≡ Some corner
+    → rest ≡ drop 2 text → are_allowed rest ≡ true → length (filter is_ascii_digit rest) ≡ h + h
+    → (h ≡ 3) ⊎ ((h ≡ 4) ⊎ (h ≡ 5)) → parse text ≡ ok_or (place_in h rest corner) Spacing
 parse-square text rest corner h square same allowed digits size =
     let twice : digit_count text ≡ h + h = ap (λ (ds : List ℕ). length (filter is_ascii_digit ds)) (sym same) ∙ digits in
     let half : digit_count text / 2 ≡ h = omega (arith, twice) in
@@ -46,7 +53,8 @@ parse-square text rest corner h square same allowed digits size =
     ∙ (ap (λ n. ok_or (place_in n (drop 2 text) corner) Spacing) half ∙ ap (λ (ds : List ℕ). ok_or (place_in h ds corner) Spacing) (sym same)))
 
 -- the first two characters, and the rest
-pub square_of-letters : (text : List ℕ) → 2 ≤ length text → square_of text ≡ corner_of (get_or text 0 0) (get_or text 1 0)
+pub square_of-letters : (text : List ℕ) → 2 ≤ length text
+    → square_of text ≡ corner_of (get_or text 0 0) (get_or text 1 0)
 square_of-letters [] two = absurd (omega arith)
 square_of-letters (a ∷ []) two = absurd (omega arith)
 square_of-letters (a ∷ b ∷ bs) two = refl
@@ -55,7 +63,11 @@ pub rest-drop : (text : List ℕ) → take (length text - 2) (drop 2 text) ≡ d
 rest-drop text = let left : length text - 2 ≡ length (drop 2 text) = omega (arith, length-drop 2 text) in ap (λ n. take n (drop 2 text)) left ∙ take-length (drop 2 text)
 
 -- a place stands where its halves say
-pub place_in-read : (h : ℕ) (bs easting later northing : List ℕ) (corner p : Place) → easting ≡ take h (after_gap bs) → later ≡ drop h (after_gap bs) → northing ≡ after_gap later → are_digits h easting ≡ true → are_digits h northing ≡ true → p.east ≡ corner.east + metres_of h easting → p.north ≡ corner.north + metres_of h northing → place_in h bs corner ≡ Some p
+pub place_in-read : (h : ℕ) (bs easting later northing : List ℕ) (corner p : Place)
+    → easting ≡ take h (after_gap bs) → later ≡ drop h (after_gap bs) → northing ≡ after_gap later
+    → are_digits h easting ≡ true → are_digits h northing ≡ true
+    → p.east ≡ corner.east + metres_of h easting → p.north ≡ corner.north + metres_of h northing
+    → place_in h bs corner ≡ Some p
 place_in-read h bs easting later northing corner p first rest second east_digits north_digits east north =
     let read : northing ≡ after_gap (drop h (after_gap bs)) = second ∙ ap after_gap rest in
     let halves : place_in h bs corner ≡ place_by h easting northing corner = ap (λ (e : List ℕ). place_by h e (after_gap (drop h (after_gap bs))) corner) (sym first) ∙ ap (λ (n : List ℕ). place_by h easting n corner) (sym read) in
@@ -105,7 +117,8 @@ parse-reference text p r = ap parse r.spelled ∙ parse-read text p r
 
 module _ (a b : ℕ) (bs : List ℕ) (p : Place) where
   -- what is read is a reference to that place
-  read_by : (corner : Place) → corner_of a b ≡ Some corner → (h : ℕ) → (h ≡ 3) ⊎ ((h ≡ 4) ⊎ (h ≡ 5)) → place_in h bs corner ≡ Some p → IsReference (a ∷ b ∷ bs) p
+  read_by : (corner : Place) → corner_of a b ≡ Some corner → (h : ℕ)
+      → (h ≡ 3) ⊎ ((h ≡ 4) ⊎ (h ≡ 5)) → place_in h bs corner ≡ Some p → IsReference (a ∷ b ∷ bs) p
   read_by corner square h size there =
       let easting = take h (after_gap bs) in
       let northing = after_gap (drop h (after_gap bs)) in
@@ -141,7 +154,9 @@ module _ (a b : ℕ) (bs : List ℕ) (p : Place) where
       ]) refl there
 
 -- what is read is a reference to that place
-read_place : (text : List ℕ) (p : Place) → has_length_fault text ≡ false → option_and_then (place_in (digit_count text / 2) (drop 2 text)) (square_of text) ≡ Some p → IsReference text p
+read_place : (text : List ℕ) (p : Place) → has_length_fault text ≡ false
+    → option_and_then (place_in (digit_count text / 2) (drop 2 text)) (square_of text) ≡ Some p
+    → IsReference text p
 read_place [] p even there = cc
 read_place (a ∷ []) p even there = cc
 read_place (a ∷ b ∷ bs) p even there = (elim (corner_of a b) as (λ (o : Option Place). corner_of a b ≡ o → option_and_then (place_in (digit_count (a ∷ b ∷ bs) / 2) bs) o ≡ Some p → IsReference (a ∷ b ∷ bs) p) [
@@ -166,10 +181,12 @@ parse-told text = (elim (has_square_fault text) as (λ (s : Bool). has_square_fa
 ]) refl
 
 -- the same of a result that was read
-pub told_place : (text : List ℕ) (r : Result Place PlaceFault) → r ≡ parse text → IfOk r (IsReference text)
+pub told_place : (text : List ℕ) (r : Result Place PlaceFault) → r ≡ parse text
+    → IfOk r (IsReference text)
 told_place text (Ok p) read = subst (λ (r : Result Place PlaceFault). MatchResult r (IsReference text) (IsFirstFault text)) (sym read) (parse-told text)
 told_place text (Err fault) read = tt
 
-pub told_fault : (text : List ℕ) (r : Result Place PlaceFault) → r ≡ parse text → IfErr r (IsFirstFault text)
+pub told_fault : (text : List ℕ) (r : Result Place PlaceFault) → r ≡ parse text
+    → IfErr r (IsFirstFault text)
 told_fault text (Ok p) read = tt
 told_fault text (Err fault) read = subst (λ (r : Result Place PlaceFault). MatchResult r (IsReference text) (IsFirstFault text)) (sym read) (parse-told text)

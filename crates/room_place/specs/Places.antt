@@ -28,7 +28,8 @@ IsRoot n m = (m * m ≤ n) × (n < (m + 1) * (m + 1))
 
 -- the square of the way from one place to another
 abbrev pub square_between : Place → Place → ℕ
-square_between a b = abs_diff a.east b.east * abs_diff a.east b.east + abs_diff a.north b.north * abs_diff a.north b.north
+square_between a b = abs_diff a.east b.east * abs_diff a.east b.east + abs_diff a.north b.north *
+    abs_diff a.north b.north
 
 -- whole metres, rounded down
 unfoldable pub distance : Place → Place → ℕ

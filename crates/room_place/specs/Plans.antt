@@ -11,7 +11,8 @@ use Rattle.room_place.specs.declared.plans.Rect.{Rect}
 
 -- a rectangle has the places on its edges too
 abbrev pub has_place : Place → Rect → Bool
-has_place p r = nat_le r.west p.east && (nat_le p.east r.east && (nat_le r.south p.north && nat_le p.north r.north))
+has_place p r = nat_le r.west p.east
+    && (nat_le p.east r.east && (nat_le r.south p.north && nat_le p.north r.north))
 
 -- the divisions of the areas that have the place
 abbrev pub divisions_with : Place → List Area → List ℕ
@@ -31,7 +32,8 @@ is_division d = nat_le 1 d && nat_le d 9
 
 -- not turned round, with its corners in the squares
 abbrev pub is_rectangle : Rect → Bool
-is_rectangle r = nat_le r.west r.east && (nat_le r.south r.north && (is_in_squares r.west r.south && is_in_squares r.east r.north))
+is_rectangle r = nat_le r.west r.east
+    && (nat_le r.south r.north && (is_in_squares r.west r.south && is_in_squares r.east r.north))
 
 abbrev pub is_ascii : List ℕ → Bool
 is_ascii bs = list_all (λ b. nat_lt b 128) bs

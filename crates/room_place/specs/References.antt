@@ -18,7 +18,8 @@ corner_of a b =
     if are_letters (codes "TQ") a b then Some (record { east = 500000; north = 100000 }) else
     (if are_letters (codes "TL") a b then Some (record { east = 500000; north = 200000 }) else
     (if are_letters (codes "SU") a b then Some (record { east = 400000; north = 100000 }) else
-    (if are_letters (codes "SP") a b then Some (record { east = 400000; north = 200000 }) else None)))
+    (if are_letters (codes "SP") a b then Some
+    (record { east = 400000; north = 200000 }) else None)))
 
 -- the number that digits write; 48 is the code of 0
 abbrev pub number_of : List ℕ → ℕ
@@ -79,14 +80,17 @@ has_digit_fault text = not (are_allowed (drop 2 text))
 
 -- there are not 6, 8 or 10 digits
 abbrev pub has_length_fault : List ℕ → Bool
-has_length_fault text = not (digit_count text == 6 || (digit_count text == 8 || digit_count text == 10))
+has_length_fault text =
+    not (digit_count text == 6 || (digit_count text == 8 || digit_count text == 10))
 
 -- the first fault of a text: that of spacing where it is no reference and has no other
 abbrev pub IsFirstFault : List ℕ → PlaceFault → Type 0
 IsFirstFault text Square = has_square_fault text ≡ true
 IsFirstFault text Digit = (has_square_fault text ≡ false) × (has_digit_fault text ≡ true)
-IsFirstFault text Length = (has_square_fault text ≡ false) × (has_digit_fault text ≡ false) × (has_length_fault text ≡ true)
-IsFirstFault text Spacing = (has_square_fault text ≡ false) × (has_digit_fault text ≡ false) × (has_length_fault text ≡ false) × ((p : Place) → ¬ IsReference text p)
+IsFirstFault text Length = (has_square_fault text ≡ false) × (has_digit_fault text ≡ false)
+    × (has_length_fault text ≡ true)
+IsFirstFault text Spacing = (has_square_fault text ≡ false) × (has_digit_fault text ≡ false)
+    × (has_length_fault text ≡ false) × ((p : Place) → ¬ IsReference text p)
 
 -- what follows a space that may stand at the head
 abbrev pub after_gap : List ℕ → List ℕ
@@ -100,7 +104,11 @@ are_digits h bs = length bs == h && list_all is_ascii_digit bs
 abbrev pub place_by : ℕ → List ℕ → List ℕ → Place → Option Place
 place_by h easting northing corner =
     if are_digits h easting && are_digits h northing
-    then Some (record { east = corner.east + metres_of h easting; north = corner.north + metres_of h northing })
+    then Some (record {
+      east = corner.east + metres_of h easting;
+      north =
+          corner.north + metres_of h northing;
+    })
     else None
 
 -- the place that h digits each way name in a square
@@ -113,4 +121,5 @@ parse text =
     if has_square_fault text then Err Square else
     (if has_digit_fault text then Err Digit else
     (if has_length_fault text then Err Length else
-    ok_or (option_and_then (place_in (digit_count text / 2) (drop 2 text)) (square_of text)) Spacing))
+    ok_or (option_and_then (place_in (digit_count text / 2) (drop 2 text)) (square_of text))
+    Spacing))

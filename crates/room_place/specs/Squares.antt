@@ -16,4 +16,5 @@ north_edge = 299999
 
 -- whether a point lies in the squares
 abbrev pub is_in_squares : ℕ → ℕ → Bool
-is_in_squares east north = nat_le west_edge east && (nat_le east east_edge && (nat_le south_edge north && nat_le north north_edge))
+is_in_squares east north = nat_le west_edge east
+    && (nat_le east east_edge && (nat_le south_edge north && nat_le north north_edge))

@@ -11,7 +11,8 @@ use Rattle.room_model.specs.Decisions.{show}
 use Rattle.room_model.specs.Queue.{IsQueueOf, entries, show_queue}
 use Rattle.room_model.specs.Room.{Room}
 
-pub shown : (d at : ℕ) (r : Room) (queue : List Entry) → IsQueueOf (entries d at r) queue → show_queue d at r ≡ show (Queue queue)
+pub shown : (d at : ℕ) (r : Room) (queue : List Entry) → IsQueueOf (entries d at r) queue
+    → show_queue d at r ≡ show (Queue queue)
 unfolding show_queue
 shown d at r queue is =
     let machine = ordered_queue (entries d at r) in

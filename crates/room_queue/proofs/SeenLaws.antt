@@ -27,35 +27,45 @@ use Rattle.room_queue.specs.declared.served.Served.{Served}
 use Rattle.room_queue.proofs.ServedLaws.{unserved_is}
 
 -- what makes nothing of no turn may look at the turn's guard first
-guarded : (f : Option Turn → Option Entry) → f None ≡ None → (b : Bool) (o : Option Turn) → f (cond b o None) ≡ cond b (f o) None
+guarded : (f : Option Turn → Option Entry) → f None ≡ None → (b : Bool) (o : Option Turn)
+    → f (cond b o None) ≡ cond b (f o) None
 guarded f none true o = refl
 guarded f none false o = none
 
-all_among_hold : {X : Type 0} (p : X → Bool) (xs : List X) (x : X) → list_all p xs ≡ true → Among x xs → p x ≡ true
+all_among_hold : {X : Type 0} (p : X → Bool) (xs : List X) (x : X) → list_all p xs ≡ true
+    → Among x xs → p x ≡ true
 all_among_hold p [] x h a = absurd a
 all_among_hold p (y ∷ ys) x h a = elim a [
   | inl e ↦ rw e (left_true (p y) _ h)
   | inr b ↦ all_among_hold p ys x (right_true (p y) _ h) b
 ]
 
-module _ (d at : ℕ) (plan : List Area) (s : DivisionRows) (agrees : is_share d s ≡ true) (vehicles : IsKeyed callsign_cmp vehicle_key s.vehicles) (points : IsKeyed pair_cmp point_key s.points) (turns : IsKeyed numbered_cmp turn_key s.turns) where
-  same_turn : (v : Vehicle) → Among v s.vehicles → slice.open_turn v s ≡ open_turn d v.callsign (room_of plan s)
+module _ (d at : ℕ) (plan : List Area) (s : DivisionRows) (agrees : is_share d s ≡ true)
+    (vehicles : IsKeyed callsign_cmp vehicle_key s.vehicles)
+    (points : IsKeyed pair_cmp point_key s.points)
+    (turns : IsKeyed numbered_cmp turn_key s.turns) where
+  same_turn : (v : Vehicle) → Among v s.vehicles
+      → slice.open_turn v s ≡ open_turn d v.callsign (room_of plan s)
   same_turn v a = sym (open_turn_is d plan s agrees v.callsign v (row_among callsign_cmp vehicle_key callsigns_total s.vehicles v vehicles a) turns)
 
-  unread_is : (v : Vehicle) → Among v s.vehicles → unread_turn at v (turn_ahead d s v) ≡ unread d at (room_of plan s) v
+  unread_is : (v : Vehicle) → Among v s.vehicles
+      → unread_turn at v (turn_ahead d s v) ≡ unread d at (room_of plan s) v
   unread_is v a = rw (same_turn v a) (guarded (unread_turn at v) refl _ _)
 
-  slow_is : (v : Vehicle) → Among v s.vehicles → slow_turn d at (room_of plan s) v (turn_ahead d s v) ≡ slow d at (room_of plan s) v
+  slow_is : (v : Vehicle) → Among v s.vehicles
+      → slow_turn d at (room_of plan s) v (turn_ahead d s v) ≡ slow d at (room_of plan s) v
   slow_is v a = rw (same_turn v a) (guarded (slow_turn d at (room_of plan s) v) refl _ _)
 
-  uncovered_is : (p : Point) → Among p s.points → uncovered_seen d at s p ≡ uncovered d at (room_of plan s) p
+  uncovered_is : (p : Point) → Among p s.points
+      → uncovered_seen d at s p ≡ uncovered d at (room_of plan s) p
   unfolding holders point_of
   uncovered_is p a =
       let owned : p.division ≡ d = eqb-true p.division d (all_among_hold (owns_point d) s.points p (share_agrees d s agrees).owned.points a) in
       let there : row_at pair_cmp point_key s.points (d, p.number) ≡ Some p = subst (λ k. row_at pair_cmp point_key s.points (k, p.number) ≡ Some p) owned (row_among pair_cmp point_key pairs_total s.points p points a) in
       rw there refl
 
-  pub seen_all : (served : List Served) → AreServed d s.turns served → seen d at served s ≡ entries d at (room_of plan s)
+  pub seen_all : (served : List Served) → AreServed d s.turns served
+      → seen d at served s ≡ entries d at (room_of plan s)
   unfolding entries holders incident_of
   seen_all served h = rw (filter_map_among _ _ s.incidents (λ i a. unserved_is d at (room_of plan s) served i h)) (rw (filter_map_among _ _ s.vehicles unread_is) (rw (filter_map_among _ _ s.vehicles slow_is) (rw (filter_map_among _ _ s.points uncovered_is) (simp append_assoc refl))))
 
@@ -65,7 +75,10 @@ one_or_none None ys = refl
 one_or_none (Some y) ys = refl
 
 -- what one row makes is put behind what those before it made
-pub noted : {X Y : Type 0} (h : X → Option Y) (xs : List X) (i : ℕ) (x : X) (o : Option Y) (before after all : List Y) → o ≡ h x → after ≡ before ++ cons_option o [] → drop i xs ≡ x ∷ drop (i + 1) xs → before ++ filter_map h (drop i xs) ≡ all → after ++ filter_map h (drop (i + 1) xs) ≡ all
+pub noted : {X Y : Type 0} (h : X → Option Y) (xs : List X) (i : ℕ) (x : X) (o : Option Y)
+    (before after all : List Y) → o ≡ h x → after ≡ before ++ cons_option o []
+    → drop i xs ≡ x ∷ drop (i + 1) xs → before ++ filter_map h (drop i xs) ≡ all
+    → after ++ filter_map h (drop (i + 1) xs) ≡ all
 noted h xs i x o before after all made put rest so_far =
     let later = filter_map h (drop (i + 1) xs) in
     ap (λ ys. ys ++ later) put
@@ -74,5 +87,7 @@ noted h xs i x o before after all made put rest so_far =
     ∙ (ap (λ ys. before ++ filter_map h ys) (sym rest) ∙ so_far)))
 
 -- at the end of a walk
-pub walked : {X Y : Type 0} (h : X → Option Y) (xs : List X) (i : ℕ) (before after : List Y) → length xs ≤ i → after ++ filter_map h (drop i xs) ≡ before ++ filter_map h xs → after ≡ before ++ filter_map h xs
+pub walked : {X Y : Type 0} (h : X → Option Y) (xs : List X) (i : ℕ) (before after : List Y)
+    → length xs ≤ i → after ++ filter_map h (drop i xs) ≡ before ++ filter_map h xs
+    → after ≡ before ++ filter_map h xs
 walked h xs i before after past so_far = sym (append-nil after) ∙ (ap (λ ys. after ++ filter_map h ys) (sym (drop_all i xs past)) ∙ so_far)

@@ -37,7 +37,8 @@ same_options (Some a) (Some b) = refl
 same_cmp : (a b : Entry) → told_cmp a b ≡ entry_cmp a b
 same_cmp a b = ap (λ o. ordering_then (nat_cmp a.rank b.rank) (ordering_then (nat_cmp a.since b.since) (ordering_then (nat_cmp a.number b.number) o))) (same_options a.callsign b.callsign)
 
-tied_options : (a b : Option Callsign) → option_eq (eq_by_cmp callsign_cmp) a b ≡ is_eq (option_callsign_cmp a b)
+tied_options : (a b : Option Callsign)
+    → option_eq (eq_by_cmp callsign_cmp) a b ≡ is_eq (option_callsign_cmp a b)
 tied_options None None = refl
 tied_options None (Some b) = refl
 tied_options (Some a) None = refl
@@ -57,7 +58,8 @@ alike_same : (a b : Entry) → alike a b ≡ true → a ≡ b
 alike_same a b e = exact_entries a b (is_equal _ (sym (tied a b) ∙ e))
 
 -- ---- strictly in order
-below_all : (x : Entry) (xs : List Entry) → AllByRecursion (λ y. entry_cmp x y ≡ Less) xs → IsBelowAll entry_cmp entry_key x xs
+below_all : (x : Entry) (xs : List Entry) → AllByRecursion (λ y. entry_cmp x y ≡ Less) xs
+    → IsBelowAll entry_cmp entry_key x xs
 below_all x [] h = tt
 below_all x (y ∷ ys) h = (h.0, below_all x ys h.1)
 
@@ -81,7 +83,8 @@ all_among (x ∷ xs) = All-cons (λ y. Among y (x ∷ xs)) x xs (inl refl) (All-
 among : (xs : List Entry) (x : Entry) → Contains xs x → Among x xs
 among xs x h = All-contains (λ y. Among y xs) xs x (all_among xs) h
 
-pub sorted_queue : (all sorted : List Entry) → IsPermutation all sorted → IsSorted told_cmp sorted → IsQueueOf all (dedup alike sorted)
+pub sorted_queue : (all sorted : List Entry) → IsPermutation all sorted → IsSorted told_cmp sorted
+    → IsQueueOf all (dedup alike sorted)
 sorted_queue all sorted moved rises = record {
   increasing = keyed _ (IsStrictlySortedBy-dedup entries_total tied sorted (λ k d low high. ap is_lt (sym (same_cmp (slice_index_or sorted (k + 1) d) (slice_index_or sorted k d))) ∙ rises k d low high));
   there = λ e a. among _ e (Contains-dedup alike_equiv alike_same sorted e (Contains-permutation all sorted e moved (contained all e a)));

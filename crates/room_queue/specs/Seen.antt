@@ -22,7 +22,9 @@ room s = room_of [] s
 
 -- of an incident that is not among those that some vehicle serves
 abbrev pub unserved_seen : ℕ → ℕ → List Served → Incident → Option Entry
-unserved_seen d at served i = cond (i.division == d && (is_active i.state && (nat_lt 180 (age at i.opened) && not (is_served served i.number))))
+unserved_seen d at served i = cond
+    (i.division == d && (is_active i.state
+    && (nat_lt 180 (age at i.opened) && not (is_served served i.number))))
     (Some (record { rank = 1; since = i.opened; number = i.number; callsign = None })) None
 
 -- the turn that a mobilised vehicle is on its way by, found at its last order
@@ -31,7 +33,8 @@ turn_ahead d s v = cond (v.holder == d && is_mobilised v.status) (open_turn v s)
 
 -- of a point that the slice has
 abbrev pub uncovered_seen : ℕ → ℕ → DivisionRows → Point → Option Entry
-uncovered_seen d at s p = cond (is_some (point_of d p.number (room s))) (uncovered d at (room s) p) None
+uncovered_seen d at s p =
+    cond (is_some (point_of d p.number (room s))) (uncovered d at (room s) p) None
 
 -- what was seen before, and then ranks 1 to 4, one by one
 abbrev pub with_sent : ℕ → ℕ → List Served → DivisionRows → List Entry → List Entry

@@ -20,4 +20,5 @@ is_served served n = is_some (row_at nat_cmp number_of served n)
 
 -- an incident is among them exactly where a turn of it counts
 abbrev pub AreServed : ℕ → List Turn → List Served → Type 0
-AreServed d turns served = (n : ℕ) → is_served served n ≡ list_any (λ t. is_eq (nat_cmp n t.incident) && serves d t) turns
+AreServed d turns served =
+    (n : ℕ) → is_served served n ≡ list_any (λ t. is_eq (nat_cmp n t.incident) && serves d t) turns

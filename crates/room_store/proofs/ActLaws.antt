@@ -18,11 +18,15 @@ module _ (old mid new : State) (layout : Layout) (event : Event) (changes : List
     (same : HasCleanDisk mid → IsUnchanged old mid)
     (is : HasCleanDisk mid → (house : House) (room : Room) → IsFor old.now.trees layout event house room → changes ≡ changes_of (decided event room)) where
   -- what was written is the room after the event
-  made : HasCleanDisk mid → (house : House) (room : Room) → IsFor old.now.trees layout event house room
-      → ((r : Room) → Stands mid.now.trees house r → Stands new.now.trees house (apply r changes)) → Stands new.now.trees house (room_after event room)
+  made : HasCleanDisk mid → (house : House) (room : Room)
+      → IsFor old.now.trees layout event house room
+      → ((r : Room) → Stands mid.now.trees house r → Stands new.now.trees house (apply r changes))
+      → Stands new.now.trees house (room_after event room)
   made clean house room h wrote = subst (λ cs. Stands new.now.trees house (apply room cs)) (is clean house room h) (wrote room (kept old mid (same clean) house room h.stands))
 
-  pub acted : HasCleanDisk mid → Commits mid new (Stands mid.now.trees) (λ room. apply room changes) → Commits old new (IsFor old.now.trees layout event) (room_after event)
+  pub acted : HasCleanDisk mid → Commits mid new (Stands mid.now.trees)
+      (λ room. apply room changes) → Commits old new (IsFor old.now.trees layout event)
+      (room_after event)
   acted clean wrote = record {
     was_open = (same clean).0.was_open;
     settled = wrote.settled;
@@ -30,8 +34,11 @@ module _ (old mid new : State) (layout : Layout) (event : Event) (changes : List
     stands = λ house room h. made clean house room h (wrote.stands house);
   }
 
-  pub acted_survives : Survives old mid (λ _. ⊥) → Survives mid new (λ db. (house : House) (room : Room) → Stands mid.now.trees house room → Stands db house (apply room changes))
-      → Survives old new (λ db. (house : House) (room : Room) → IsFor old.now.trees layout event house room → Stands db house (room_after event room))
+  pub acted_survives : Survives old mid (λ _. ⊥)
+      → Survives mid new (λ db. (house : House) (room : Room) → Stands mid.now.trees house room
+      → Stands db house (apply room changes))
+      → Survives old new (λ db. (house : House) (room : Room)
+      → IsFor old.now.trees layout event house room → Stands db house (room_after event room))
   acted_survives read wrote = survives_then old mid new _ _ (λ db. (house : House) (room : Room) → IsFor old.now.trees layout event house room → Stands db house (room_after event room))
       (λ _ db none. absurd none)
       (λ clean db left house room h.

@@ -20,19 +20,24 @@ use Rattle.room_model.specs.Room.{Room}
 use Rattle.room_model.specs.Step.{decided}
 use Rattle.room_store.specs.Acting.{IsIn}
 
-pub kept_is : (position serial : ℕ) (room : Room) → row_at pair_cmp call_key room.calls (position, serial) ≡ kept_call position serial room
+pub kept_is : (position serial : ℕ) (room : Room)
+    → row_at pair_cmp call_key room.calls (position, serial) ≡ kept_call position serial room
 unfolding kept_call
 kept_is position serial room = refl
 
 -- A position's call, by its place in these areas and by what is kept at its serial.
-module _ (event : Event) (position : ℕ) (form : CallForm) (areas : List Area) (room : Room) (planned : room.plan ≡ areas) (who : event.who ≡ Position position) (ask : event.ask ≡ Call form)
+module _ (event : Event) (position : ℕ) (form : CallForm) (areas : List Area) (room : Room)
+    (planned : room.plan ≡ areas) (who : event.who ≡ Position position)
+    (ask : event.ask ≡ Call form)
     (found : Option Call') (row : found ≡ row_at pair_cmp call_key room.calls (position, form.serial)) where
   kept_at : (o : Option Call') → found ≡ o → kept_call position form.serial room ≡ o
   kept_at o is = sym (kept_is position form.serial room) ∙ sym row ∙ is
 
   -- one that is kept is told again
-  pub told_again : (kept : Call') (new : NewCall) (told : Verdict) → found ≡ Some kept → new ≡ new_call position form event.at
-      → told ≡ refuse_if (not (same_call kept new)) SerialReused (show (Called kept.division kept.given kept.linked)) → told ≡ decided event room
+  pub told_again : (kept : Call') (new : NewCall) (told : Verdict) → found ≡ Some kept
+      → new ≡ new_call position form event.at
+      → told ≡ refuse_if (not (same_call kept new)) SerialReused
+      (show (Called kept.division kept.given kept.linked)) → told ≡ decided event room
   told_again kept new told is made gives = gives ∙ rw (made, who, ask, kept_at (Some kept) is) refl
 
   module _ (division : Option ℕ) (placed : division ≡ division_of areas form.place) where
@@ -48,8 +53,10 @@ module _ (event : Event) (position : ℕ) (form : CallForm) (areas : List Area) 
     is_in d none there = rw who (form, ask, kept_at None none, place_is (Some d) there)
 
 -- The form of a call that is for a division is its own.
-pub placed_in : (ask : Ask) (position division : ℕ) (form : CallForm) (room : Room) → ask ≡ Call form → IsIn (Position position) ask division room
-    → (kept_call position form.serial room ≡ None) × (division_of room.plan form.place ≡ Some division)
+pub placed_in : (ask : Ask) (position division : ℕ) (form : CallForm) (room : Room)
+    → ask ≡ Call form → IsIn (Position position) ask division room
+    → (kept_call position form.serial room ≡ None)
+    × (division_of room.plan form.place ≡ Some division)
 placed_in ask position division form room is there =
     let both : Call form ≡ Call there.0 = sym is ∙ there.1 in
     let same : form ≡ there.0 = cc in

@@ -28,18 +28,22 @@ use Rattle.room_store_writes.specs.Filling.{division_numbers, in_order, new_divi
 use Rattle.room_store_writes.proofs.CreationSteps.{divisions_more, divisions_to}
 use Rattle.room_store_reads.proofs.RoomReads.{turned_number}
 
-keyed_if : (b : Bool) (xs : List Division) (x : Division) → IsKeyed nat_cmp division_key xs → IsKeyed nat_cmp division_key (cond b (put_row nat_cmp division_key xs x) xs)
+keyed_if : (b : Bool) (xs : List Division) (x : Division) → IsKeyed nat_cmp division_key xs
+    → IsKeyed nat_cmp division_key (cond b (put_row nat_cmp division_key xs x) xs)
 keyed_if true xs x h = keyed_put nat_cmp division_key nat_cmp_total xs x h
 keyed_if false xs x h = h
 
-divisions_keyed : (passes : ℕ → Bool) (a k : ℕ) → IsKeyed nat_cmp division_key (divisions_to passes a k)
+divisions_keyed : (passes : ℕ → Bool) (a k : ℕ)
+    → IsKeyed nat_cmp division_key (divisions_to passes a k)
 divisions_keyed passes a zero = tt
 divisions_keyed passes a (suc k) =
     subst (IsKeyed nat_cmp division_key) (divisions_more passes a k (a + k) refl) (keyed_if (passes (a + k)) (divisions_to passes a k) (new_division (a + k)) (divisions_keyed passes a k))
 
-one_division : (n d : ℕ) (rest : List ℕ) (passes here same among : Bool) → is_eq (nat_cmp d n) ≡ same → (same ≡ true → passes ≡ here)
+one_division : (n d : ℕ) (rest : List ℕ) (passes here same among : Bool)
+    → is_eq (nat_cmp d n) ≡ same → (same ≡ true → passes ≡ here)
     → is_some (row_at nat_cmp division_key (map new_division rest) d) ≡ here && among
-    → is_some (row_at nat_cmp division_key (map new_division (cond passes (n ∷ rest) rest)) d) ≡ here && (same || among)
+    → is_some (row_at nat_cmp division_key (map new_division (cond passes (n ∷ rest) rest)) d)
+    ≡ here && (same || among)
 one_division n d rest true here true among is alike found = rw is (ap (λ b. b && true) (alike refl))
 one_division n d rest true here false among is alike found = rw is found
 one_division n d rest false here true among is alike found = found ∙ ap (λ b. b && among) (sym (alike refl)) ∙ ap (λ b. b && true) (alike refl)
@@ -50,7 +54,9 @@ none_here true = refl
 none_here false = refl
 
 -- there is a row of each number that passes
-division_found : (passes : ℕ → Bool) (d : ℕ) (ns : List ℕ) → is_some (row_at nat_cmp division_key (map new_division (filter passes ns)) d) ≡ passes d && list_any (λ n. n == d) ns
+division_found : (passes : ℕ → Bool) (d : ℕ) (ns : List ℕ)
+    → is_some (row_at nat_cmp division_key (map new_division (filter passes ns)) d) ≡ passes d
+    && list_any (λ n. n == d) ns
 division_found passes d [] = none_here (passes d)
 division_found passes d (n ∷ ns) = one_division n d (filter passes ns) (passes n) (passes d) (n == d) (list_any (λ n. n == d) ns) (turned_number d n) (λ same. ap passes (eqb-true n d same)) (division_found passes d ns)
 
@@ -58,14 +64,16 @@ one_to_nine : (d : ℕ) → 1 ≤ d → d ≤ 9 → list_any (λ n. n == d) divi
 one_to_nine d low high = grind (arith, nat_tests)
 
 -- a division of a plan has one of nine numbers
-numbered_so : (plan : Layout) (d : ℕ) (has : Bool) → has_division plan.areas d ≡ has → has && list_any (λ n. n == d) division_numbers ≡ has
+numbered_so : (plan : Layout) (d : ℕ) (has : Bool) → has_division plan.areas d ≡ has
+    → has && list_any (λ n. n == d) division_numbers ≡ has
 numbered_so plan d false is = refl
 numbered_so plan d true is =
     let any = Any-from_list_any (λ (area : Area). area.division == d) plan.areas is in
     let within = numbered plan.areas plan.zone (λ area. Unit {0}) d plan.sound (any.0, any.1, any.2, any.3, (eqb-true _ _ any.4, tt)) in
     one_to_nine d within.0 within.1
 
-divisions_in_plan : (plan : Layout) (d : ℕ) → is_some (row_at nat_cmp division_key (new_divisions plan.areas) d) ≡ has_division plan.areas d
+divisions_in_plan : (plan : Layout) (d : ℕ)
+    → is_some (row_at nat_cmp division_key (new_divisions plan.areas) d) ≡ has_division plan.areas d
 unfolding new_divisions
 divisions_in_plan plan d = division_found (has_division plan.areas) d division_numbers ∙ numbered_so plan d (has_division plan.areas d) refl
 
@@ -110,7 +118,8 @@ new_room_formed plan = record {
 }
 
 module _ (may : Terminal → Bool) where
-  one_put : (xs : List Terminal) (x : Terminal) → list_all may xs ≡ true → may x ≡ true → list_all may (put_row token_cmp terminal_key xs x) ≡ true
+  one_put : (xs : List Terminal) (x : Terminal) → list_all may xs ≡ true → may x ≡ true
+      → list_all may (put_row token_cmp terminal_key xs x) ≡ true
   one_put [] x all one = both_true (may x) true one refl
   one_put (y ∷ xs) x all one = (elim (token_cmp x.token y.token) as (λ (o : Ordering). list_all may (match_ordering o (x ∷ y ∷ xs) (x ∷ xs) (y ∷ put_row token_cmp terminal_key xs x)) ≡ true) [
     | Less ↦ both_true (may x) _ one all
@@ -118,22 +127,27 @@ module _ (may : Terminal → Bool) where
     | Greater ↦ both_true (may y) _ (left_true (may y) _ all) (one_put xs x (right_true (may y) _ all) one)
   ])
 
-  all_put : (xs ts : List Terminal) → list_all may xs ≡ true → list_all may ts ≡ true → list_all may (put_all xs ts) ≡ true
+  all_put : (xs ts : List Terminal) → list_all may xs ≡ true → list_all may ts ≡ true
+      → list_all may (put_all xs ts) ≡ true
   all_put xs [] all rest = all
   all_put xs (t ∷ ts) all rest = all_put (put_row token_cmp terminal_key xs t) ts (one_put xs t all (left_true (may t) _ rest)) (right_true (may t) _ rest)
 
-put_keyed : (xs ts : List Terminal) → IsKeyed token_cmp terminal_key xs → IsKeyed token_cmp terminal_key (put_all xs ts)
+put_keyed : (xs ts : List Terminal) → IsKeyed token_cmp terminal_key xs
+    → IsKeyed token_cmp terminal_key (put_all xs ts)
 put_keyed xs [] h = h
 put_keyed xs (t ∷ ts) h = put_keyed (put_row token_cmp terminal_key xs t) ts (keyed_put token_cmp terminal_key nat_list_cmp_total xs t h)
 
 -- the terminal at each token is of a user that the room may have
-user_at : (plan : Layout) (ts : List Terminal) → AreNewTerminals plan ts → (k : Token) (t : Terminal) → terminal_at k (in_order ts) ≡ Some t → may_use plan.areas t.who ≡ true
+user_at : (plan : Layout) (ts : List Terminal) → AreNewTerminals plan ts
+    → (k : Token) (t : Terminal) → terminal_at k (in_order ts) ≡ Some t
+    → may_use plan.areas t.who ≡ true
 user_at plan ts new k t there =
     let may = λ (t : Terminal). may_use plan.areas t.who in
     subst (λ o. IfSome o (λ t. may t ≡ true)) there
     (at_each_key token_cmp terminal_key nat_list_cmp_total exact_bytes may (λ k t. may t ≡ true) (λ t. (λ h. h, λ h. h)) (in_order ts) (all_put may [] ts refl new.users) k)
 
-pub new_terminals_fit : (plan : Layout) (ts : List Terminal) → AreNewTerminals plan ts → AreTerminals (new_room plan) (in_order ts)
+pub new_terminals_fit : (plan : Layout) (ts : List Terminal) → AreNewTerminals plan ts
+    → AreTerminals (new_room plan) (in_order ts)
 new_terminals_fit plan ts new = record {
   keyed = put_keyed [] ts tt;
   has_crew = λ c there. cc;

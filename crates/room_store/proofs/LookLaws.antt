@@ -16,14 +16,16 @@ abbrev pub IsAsCommitted : State → Type 0
 IsAsCommitted at = IsTrue at.is_open → at.now ≡ at.committed
 
 -- which a connection tells that says that it is in none
-pub outside : {P : Type 0} (told mode : Bool) → mode ≡ false → told ≡ not mode → (IsTrue told → P) → P
+pub outside : {P : Type 0} (told mode : Bool) → mode ≡ false → told ≡ not mode → (IsTrue told → P)
+    → P
 outside told mode is says f = f (says ∙ ap not is)
 
 pub left_same : (at : State) → Leaves at at
 left_same at = record { was_open = λ is_open. is_open; now_is = λ _. refl; committed_is = λ _. refl }
 
 -- more is allowed to be left by a stop
-pub survives_more : (old new : State) (P : Trees → Type 0) → Survives old new (λ _. ⊥) → Survives old new P
+pub survives_more : (old new : State) (P : Trees → Type 0) → Survives old new (λ _. ⊥)
+    → Survives old new P
 survives_more old new P none = survives_weaker old new (λ _. ⊥) P (λ _ db never. absurd never) none
 
 pub left_unchanged : (old new : State) → IsUnchanged old new → Leaves old new
@@ -47,18 +49,24 @@ left_failed old new settled (inr back) = record {
 
 module _ {S : Type 0} (g : Ghosts S) (old new : Held S) where
   -- or nothing was read
-  pub left_unread : IsAsCommitted (state g old) → Keeps (state g old) (state g new) ⊎ (new ≡ old) → Leaves (state g old) (state g new)
+  pub left_unread : IsAsCommitted (state g old) → Keeps (state g old) (state g new) ⊎ (new ≡ old)
+      → Leaves (state g old) (state g new)
   left_unread settled (inl kept) = left_failed (state g old) (state g new) settled kept
   left_unread settled (inr same) = rw same (left_same (state g old))
 
   -- after reads it may be written
   module _ (same : HasCleanDisk (state g new) → IsUnchanged (state g old) (state g new)) where
-    pub room_read : Survives (state g old) (state g new) (λ _. ⊥) → HasRoomSchema g old → HasRoomSchema g new
+    pub room_read : Survives (state g old) (state g new) (λ _. ⊥) → HasRoomSchema g old
+        → HasRoomSchema g new
     room_read survives is clean =
         let early : HasCleanDisk (state g old) = omega (arith, survives.clean) in
         ap (λ (db : Database). db.schema) (same clean).0.now_is ∙ is early
 
-    pub settled_read : IsAsCommitted (state g old) → HasCleanDisk (state g new) → IsSettled (state g new)
+    pub settled_read : IsAsCommitted (state g old) → HasCleanDisk (state g new)
+        → IsSettled (state g new)
     settled_read settled clean =
         let is = (same clean).0 in
-        record { is_open = is.is_open; committed = is.committed_is ∙ sym (settled is.was_open) ∙ sym is.now_is }
+        record {
+          is_open = is.is_open;
+          committed = is.committed_is ∙ sym (settled is.was_open) ∙ sym is.now_is;
+        }

@@ -24,15 +24,19 @@ use Rattle.room_store_writes.specs.Houses.{house_of}
 use Rattle.room_store.specs.declared.store.Store.{Store}
 
 -- a store that was found sound may be called,
-pub ready_sound : {S : Type 0} (g : Ghosts S) (held : Store S) → held.conn.in_transaction ≡ false → held.is_sound ≡ true → HasRoomSchema g held.conn → IsReady g held
+pub ready_sound : {S : Type 0} (g : Ghosts S) (held : Store S) → held.conn.in_transaction ≡ false
+    → held.is_sound ≡ true → HasRoomSchema g held.conn → IsReady g held
 ready_sound g held outside sound is = record { outside = outside; schema = λ _ clean. is clean; shut = λ unsound. let never : false ≡ true = sym unsound ∙ sound in cc }
 
 -- and so may one whose file was tested
-pub ready_tested : {S : Type 0} (g : Ghosts S) (held : Store S) → held.conn.in_transaction ≡ false → (IsTrue held.is_sound ↔ ((state g held.conn).now.schema ≡ room_schema)) → IsReady g held
+pub ready_tested : {S : Type 0} (g : Ghosts S) (held : Store S) → held.conn.in_transaction ≡ false
+    → (IsTrue held.is_sound ↔ ((state g held.conn).now.schema ≡ room_schema)) → IsReady g held
 ready_tested g held outside tested = record { outside = outside; schema = λ sound _. tested.0 sound; shut = λ unsound is. let never : false ≡ true = sym unsound ∙ tested.1 is in cc }
 
 -- tables that were left stand for the room that they stood for
-pub room_left : {S : Type 0} (g : Ghosts S) (old new : Store S) (terminals : List Terminal) (room : Room) → Leaves (state g old.conn) (state g new.conn) → new.plan ≡ old.plan → IsRoom g old terminals room → IsRoom g new terminals room
+pub room_left : {S : Type 0} (g : Ghosts S) (old new : Store S) (terminals : List Terminal)
+    (room : Room) → Leaves (state g old.conn) (state g new.conn) → new.plan ≡ old.plan
+    → IsRoom g old terminals room → IsRoom g new terminals room
 room_left g old new terminals room left same is = record {
   formed = is.formed;
   fits = is.fits;
@@ -40,12 +44,17 @@ room_left g old new terminals room left same is = record {
   tables = λ is_open. rw same (subst (λ (db : Database). Stands db.trees (house_of old.plan terminals) room) (sym (left.now_is is_open)) (is.tables (left.was_open is_open)));
 }
 
-module _ {S : Type 0} (g : Ghosts S) (old new : Store S) (event : Event) (terminals : List Terminal) (room : Room) (is : IsRoom g old terminals room) (addressed : IsAddressed event room) where
+module _ {S : Type 0} (g : Ghosts S) (old new : Store S) (event : Event)
+    (terminals : List Terminal) (room : Room) (is : IsRoom g old terminals room)
+    (addressed : IsAddressed event room) where
   -- while the connection is open, the event is for the room in the tables
-  pub for_room : IsTrue (state g old.conn).is_open → IsFor (state g old.conn).now.trees old.plan event (house_of old.plan terminals) room
+  pub for_room : IsTrue (state g old.conn).is_open
+      → IsFor (state g old.conn).now.trees old.plan event (house_of old.plan terminals) room
   for_room is_open = record { stands = is.tables is_open; formed = is.formed; plan = is.plan; addressed = addressed }
 
-  pub room_moved : IsNumbered event.ask → new.plan ≡ old.plan → Commits (state g old.conn) (state g new.conn) (IsFor (state g old.conn).now.trees old.plan event) (room_after event)
+  pub room_moved : IsNumbered event.ask → new.plan ≡ old.plan
+      → Commits (state g old.conn) (state g new.conn)
+      (IsFor (state g old.conn).now.trees old.plan event) (room_after event)
       → IsRoom g new terminals (room_after event room)
   room_moved is_numbered same wrote = record {
     formed = event_kept event room is.formed addressed is_numbered;
@@ -56,31 +65,45 @@ module _ {S : Type 0} (g : Ghosts S) (old new : Store S) (event : Event) (termin
 
 -- what a stop leaves of the event in the tables, it leaves of the store
 pub event_survives : {S : Type 0} (g : Ghosts S) (old : Store S) (new : State) (event : Event)
-    → Survives (state g old.conn) new (λ db. (house : House) (room : Room) → IsFor (state g old.conn).now.trees old.plan event house room → Stands db house (room_after event room))
-    → Survives (state g old.conn) new (λ db. IsTrue (state g old.conn).is_open → (terminals : List Terminal) (room : Room) → IsRoom g old terminals room → IsAddressed event room
+    → Survives (state g old.conn) new
+    (λ db. (house : House) (room : Room)
+    → IsFor (state g old.conn).now.trees old.plan event house room
+    → Stands db house (room_after event room))
+    → Survives (state g old.conn) new
+    (λ db. IsTrue (state g old.conn).is_open → (terminals : List Terminal) (room : Room)
+    → IsRoom g old terminals room → IsAddressed event room
     → Stands db (house_of old.plan terminals) (room_after event room))
 event_survives g old new event =
     survives_weaker (state g old.conn) new _ _ (λ _ db left is_open terminals room is addressed. left (house_of old.plan terminals) room (for_room g old old event terminals room is addressed is_open))
 
 -- what is kept of a settled connection
-pub kept_settled : {S T E : Type 0} (g : Ghosts S) (held : Store S) (r : Result T E) → OnOk r (IsSettled (state g held.conn))
-    → OnOk r ((db : Trees) → (state g held.conn).may_leave db → db ≡ (state g held.conn).now.trees) → OnOk r (IsKept g held)
+pub kept_settled : {S T E : Type 0} (g : Ghosts S) (held : Store S) (r : Result T E)
+    → OnOk r (IsSettled (state g held.conn))
+    → OnOk r ((db : Trees) → (state g held.conn).may_leave db → db ≡ (state g held.conn).now.trees)
+    → OnOk r (IsKept g held)
 kept_settled g held (Ok x) settled alone = record { is_open = settled.is_open; alone = alone }
 kept_settled g held (Err e) settled alone = tt
 
 -- a settled connection keeps what it holds, since a stop of an open one leaves what was committed
-pub settled_kept : {S : Type 0} (g : Ghosts S) (held : Store S) → ((db : Trees) → IsTrue (state g held.conn).is_open → (state g held.conn).may_leave db → db ≡ (state g held.conn).committed.trees)
+pub settled_kept : {S : Type 0} (g : Ghosts S) (held : Store S)
+    → ((db : Trees) → IsTrue (state g held.conn).is_open → (state g held.conn).may_leave db
+    → db ≡ (state g held.conn).committed.trees)
     → IsSettled (state g held.conn) → IsKept g held
 settled_kept g held leaves settled = record { is_open = settled.is_open; alone = λ db left. leaves db settled.is_open left ∙ ap (λ (b : Database). b.trees) settled.committed }
 
 -- what is kept, a stop leaves
-pub kept_stands : {S : Type 0} (g : Ghosts S) (held : Store S) (terminals : List Terminal) (room : Room) → IsKept g held → IsRoom g held terminals room
-    → (db : Trees) → (state g held.conn).may_leave db → Stands db (house_of held.plan terminals) room
+pub kept_stands : {S : Type 0} (g : Ghosts S) (held : Store S) (terminals : List Terminal)
+    (room : Room) → IsKept g held → IsRoom g held terminals room
+    → (db : Trees) → (state g held.conn).may_leave db
+    → Stands db (house_of held.plan terminals) room
 kept_stands g held terminals room kept is db left = subst (λ (trees : Trees). Stands trees (house_of held.plan terminals) room) (sym (kept.alone db left)) (is.tables kept.is_open)
 
-module _ {S : Type 0} (g : Ghosts S) (old new : Store S) (same : new.plan ≡ old.plan) (clean : HasCleanDisk (state g new.conn)) (kept : IsKept g old) where
+module _ {S : Type 0} (g : Ghosts S) (old new : Store S) (same : new.plan ≡ old.plan)
+    (clean : HasCleanDisk (state g new.conn)) (kept : IsKept g old) where
   -- A call that looked leaves what is kept as it was,
-  pub looked_kept : Leaves (state g old.conn) (state g new.conn) → Survives (state g old.conn) (state g new.conn) (λ _. ⊥) → IsTrue (state g new.conn).is_open → IsKept g new
+  pub looked_kept : Leaves (state g old.conn) (state g new.conn)
+      → Survives (state g old.conn) (state g new.conn) (λ _. ⊥) → IsTrue (state g new.conn).is_open
+      → IsKept g new
   looked_kept looked survives is_open = record {
     is_open = is_open;
     alone = λ db left. elim (survives.crash clean db left) [
@@ -90,15 +113,21 @@ module _ {S : Type 0} (g : Ghosts S) (old new : Store S) (same : new.plan ≡ ol
   }
 
   -- and also where it fails, a stop leaves the room as it was.
-  pub looked_left : (terminals : List Terminal) (room : Room) → IsRoom g old terminals room → Survives (state g old.conn) (state g new.conn) (λ _. ⊥) → LeavesOneOf g new terminals (room ∷ [])
+  pub looked_left : (terminals : List Terminal) (room : Room) → IsRoom g old terminals room
+      → Survives (state g old.conn) (state g new.conn) (λ _. ⊥)
+      → LeavesOneOf g new terminals (room ∷ [])
   looked_left terminals room is survives db left =
       let before : (state g old.conn).may_leave db = elim (survives.crash clean db left) [ inl before ↦ before | inr none ↦ absurd none ] in
       inl (rw same (kept_stands g old terminals room kept is db before))
 
   -- Where an event was acted on, a stop leaves the room before it or after it.
-  pub acted_left : (event : Event) (terminals : List Terminal) (room : Room) → IsRoom g old terminals room → IsAddressed event room
-      → Survives (state g old.conn) (state g new.conn) (λ db. IsTrue (state g old.conn).is_open → (terminals : List Terminal) (room : Room) → IsRoom g old terminals room → IsAddressed event room
-      → Stands db (house_of old.plan terminals) (room_after event room)) → LeavesOneOf g new terminals (room ∷ room_after event room ∷ [])
+  pub acted_left : (event : Event) (terminals : List Terminal) (room : Room)
+      → IsRoom g old terminals room → IsAddressed event room
+      → Survives (state g old.conn) (state g new.conn)
+      (λ db. IsTrue (state g old.conn).is_open → (terminals : List Terminal) (room : Room)
+      → IsRoom g old terminals room → IsAddressed event room
+      → Stands db (house_of old.plan terminals) (room_after event room))
+      → LeavesOneOf g new terminals (room ∷ room_after event room ∷ [])
   acted_left event terminals room is addressed survives db left =
       elim (survives.crash clean db left) [
         | inl before ↦ inl (rw same (kept_stands g old terminals room kept is db before))

@@ -15,7 +15,8 @@ use Rattle.room_model.specs.WellFormed.{IsWellFormed}
 use Rattle.room_tables.specs.Stands.{House, Stands}
 
 -- The tables stand for this well-formed room of the plan, and the event is addressed in it.
-pub record IsFor (trees : Trees) (layout : Layout) (event : Event) (house : House) (room : Room) : Type 0 where
+pub record IsFor (trees : Trees) (layout : Layout) (event : Event) (house : House)
+    (room : Room) : Type 0 where
   pub stands : Stands trees house room
   pub formed : IsWellFormed room
   pub plan : room.plan ≡ layout.areas
@@ -24,5 +25,6 @@ pub record IsFor (trees : Trees) (layout : Layout) (event : Event) (house : Hous
 -- This is for the division: its desk asks it, or it is a call that is placed in it and not kept.
 abbrev pub IsIn : Who → Ask → ℕ → Room → Type 0
 IsIn (Desk d) ask division room = d ≡ division
-IsIn (Position p) ask division room = (form : CallForm) × (ask ≡ Call form) × (kept_call p form.serial room ≡ None) × (division_of room.plan form.place ≡ Some division)
+IsIn (Position p) ask division room = (form : CallForm) × (ask ≡ Call form)
+    × (kept_call p form.serial room ≡ None) × (division_of room.plan form.place ≡ Some division)
 IsIn (Crew c) ask division room = ⊥

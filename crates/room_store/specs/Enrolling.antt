@@ -16,7 +16,8 @@ use Rattle.room_store_writes.specs.Houses.{house_of}
 use Rattle.room_store.specs.declared.store.Store.{Store}
 
 -- The tables stand for this house and for this room, which is of the plan.
-pub record StandsInPlan (trees : Trees) (layout : Layout) (house : House) (room : Room) : Type 0 where
+pub record StandsInPlan (trees : Trees) (layout : Layout) (house : House)
+    (room : Room) : Type 0 where
   pub stands : Stands trees house room
   pub plan : room.plan ≡ layout.areas
 
@@ -35,18 +36,26 @@ terminals_after_rows rows room terminals = (enrolled rows room terminals).1
 -- the tables stand for the room and the terminals after so many of the rows
 abbrev pub StandsAfterRows : Trees → Layout → List FleetRow → List Terminal → Room → ℕ → Type 0
 StandsAfterRows trees layout rows terminals room count =
-    Stands trees (house_of layout (terminals_after_rows (take count rows) room terminals)) (room_after_rows (take count rows) room terminals)
+    Stands trees (house_of layout (terminals_after_rows (take count rows) room terminals))
+    (room_after_rows (take count rows) room terminals)
 
--- So many of the rows, the first ones, were enrolled: their fates were added, and the store stands for the room and the terminals after them.
--- Where what it held was kept, a stop leaves what is there after these rows, or after one more.
-pub record HasEnrolled {S : Type 0} (g : Ghosts S) (old new : Store S) (rows : List FleetRow) (was is : List RowFate) (terminals : List Terminal) (room : Room) : Type 0 where
+-- So many of the rows, the first ones, were enrolled: their fates were added, and the store stands
+-- for the room and the terminals after them. Where what it held was kept, a stop leaves what is
+-- there after these rows, or after one more.
+pub record HasEnrolled {S : Type 0} (g : Ghosts S) (old new : Store S) (rows : List FleetRow)
+    (was is : List RowFate) (terminals : List Terminal) (room : Room) : Type 0 where
   pub count : ℕ
   pub within : count ≤ length rows
   pub told : is ≡ was ++ fates_of (take count rows) room terminals
-  pub stands : IsRoom g new (terminals_after_rows (take count rows) room terminals) (room_after_rows (take count rows) room terminals)
-  pub left : IsKept g old → (db : Trees) → (state g new.conn).may_leave db → StandsAfterRows db old.plan rows terminals room count ⊎ StandsAfterRows db old.plan rows terminals room (count + 1)
+  pub stands : IsRoom g new (terminals_after_rows (take count rows) room terminals)
+      (room_after_rows (take count rows) room terminals)
+  pub left : IsKept g old → (db : Trees) → (state g new.conn).may_leave db
+      → StandsAfterRows db old.plan rows terminals room count
+      ⊎ StandsAfterRows db old.plan rows terminals room (count + 1)
 
--- What a stop may leave of an enrolment, beside what it could before: the room and the terminals after some of the rows, the first ones.
+-- What a stop may leave of an enrolment, beside what it could before: the room and the terminals
+-- after some of the rows, the first ones.
 abbrev pub MayBeEnrolled : {S : Type 0} → Ghosts S → Store S → List FleetRow → Trees → Type 0
-MayBeEnrolled g old rows trees = IsTrue (state g old.conn).is_open → (terminals : List Terminal) (room : Room) → IsRoom g old terminals room
+MayBeEnrolled g old rows trees = IsTrue (state g old.conn).is_open
+    → (terminals : List Terminal) (room : Room) → IsRoom g old terminals room
     → (count : ℕ) × StandsAfterRows trees old.plan rows terminals room count

@@ -13,18 +13,23 @@ use Rattle.room_tables.specs.Stands.{House, Stands}
 use Rattle.room_store_writes.specs.Houses.{house_of}
 use Rattle.room_store.specs.declared.store.Store.{Store}
 
--- It may be called: no transaction is open, a sound store's file is a room's, and what an unsound one shows is none.
+-- It may be called: no transaction is open, a sound store's file is a room's, and what an unsound
+-- one shows is none.
 pub record IsReady {S : Type 0} (g : Ghosts S) (held : Store S) : Type 0 where
   pub outside : held.conn.in_transaction ≡ false
-  pub schema : IsTrue held.is_sound → HasCleanDisk (state g held.conn) → (state g held.conn).now.schema ≡ room_schema
+  pub schema : IsTrue held.is_sound → HasCleanDisk (state g held.conn)
+      → (state g held.conn).now.schema ≡ room_schema
   pub shut : held.is_sound ≡ false → (state g held.conn).now.schema ≢ room_schema
 
--- It stands for this well-formed room with these terminals. Of a connection that a fault has shut, the tables tell nothing.
-pub record IsRoom {S : Type 0} (g : Ghosts S) (held : Store S) (terminals : List Terminal) (room : Room) : Type 0 where
+-- It stands for this well-formed room with these terminals. Of a connection that a fault has shut,
+-- the tables tell nothing.
+pub record IsRoom {S : Type 0} (g : Ghosts S) (held : Store S) (terminals : List Terminal)
+    (room : Room) : Type 0 where
   pub formed : IsWellFormed room
   pub fits : AreTerminals room terminals
   pub plan : room.plan ≡ held.plan.areas
-  pub tables : IsTrue (state g held.conn).is_open → Stands (state g held.conn).now.trees (house_of held.plan terminals) room
+  pub tables : IsTrue (state g held.conn).is_open
+      → Stands (state g held.conn).now.trees (house_of held.plan terminals) room
 
 -- What its tables hold is kept: the connection is open, and a stop leaves these tables alone.
 pub record IsKept {S : Type 0} (g : Ghosts S) (held : Store S) : Type 0 where
@@ -38,4 +43,5 @@ StandForOne trees house (room ∷ rooms) = Stands trees house room ⊎ StandForO
 
 -- Whatever tables a stop leaves, they stand for one of these rooms with these terminals.
 abbrev pub LeavesOneOf : {S : Type 0} → Ghosts S → Store S → List Terminal → List Room → Type 0
-LeavesOneOf g held terminals rooms = (db : Trees) → (state g held.conn).may_leave db → StandForOne db (house_of held.plan terminals) rooms
+LeavesOneOf g held terminals rooms = (db : Trees) → (state g held.conn).may_leave db
+    → StandForOne db (house_of held.plan terminals) rooms

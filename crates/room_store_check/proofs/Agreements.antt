@@ -31,16 +31,21 @@ module _ {X : Type 0} (B : Option X → Type 0) where
 
 -- what holds of no vehicle and no row, and of no row without its vehicle
 module _ {V X : Type 0} (A : Option V → Option X → Type 0) where
-  pub joined : A None None → (v : Option V) (x : Option X) → IfSome v (λ v. A (Some v) x) → IfSome x (λ x. is_some v ≡ true) → A v x
+  pub joined : A None None → (v : Option V) (x : Option X) → IfSome v (λ v. A (Some v) x)
+      → IfSome x (λ x. is_some v ≡ true) → A v x
   joined none None None h g = none
   joined none None (Some x) h g = absurd (false≢true g)
   joined none (Some v) x h g = h
 
-  pub has_vehicle : ((x : X) → A None (Some x) → ⊥) → (v : Option V) (x : Option X) → A v x → IfSome x (λ x. is_some v ≡ true)
+  pub has_vehicle : ((x : X) → A None (Some x) → ⊥) → (v : Option V) (x : Option X) → A v x
+      → IfSome x (λ x. is_some v ≡ true)
   has_vehicle alone v None h = tt
   has_vehicle alone None (Some x) h = absurd (alone x h)
   has_vehicle alone (Some v) (Some x) h = refl
 
 -- a test of all rows decides what holds of the row at each key
-pub each : {R K : Type 0} (cmp : K → K → Ordering) (key : R → K) (total : IsTotalOrder cmp) (exact : CmpEqualImpliesEq cmp) (p : R → Bool) (P : K → R → Type 0) (decides : (x : R) → Decides (p x) (P (key x) x)) (xs : List R) → IsKeyed cmp key xs → Decides (list_all p xs) ((k : K) → IfSome (row_at cmp key xs k) (P k))
+pub each : {R K : Type 0} (cmp : K → K → Ordering) (key : R → K) (total : IsTotalOrder cmp)
+    (exact : CmpEqualImpliesEq cmp) (p : R → Bool) (P : K → R → Type 0)
+    (decides : (x : R) → Decides (p x) (P (key x) x)) (xs : List R) → IsKeyed cmp key xs
+    → Decides (list_all p xs) ((k : K) → IfSome (row_at cmp key xs k) (P k))
 each cmp key total exact p P decides xs in_order = (at_each_key cmp key total exact p P decides xs, from_each_key cmp key total exact p P decides xs in_order)

@@ -27,11 +27,13 @@ use Rattle.room_store_check.proofs.Agreements.{each}
 use Rattle.room_store_check.proofs.PassingRows.{passed, passing}
 use Rattle.room_store_check.proofs.RowLaws.{ReportFits, TurnFits, VehicleFits, call_decides, incident_decides, report_decides, three, turn_decides, vehicle_decides}
 
-kept_decides : {B : Type 0} (merged b : Bool) → Decides b B → Decides (merged || b) (merged ≡ false → B)
+kept_decides : {B : Type 0} (merged b : Bool) → Decides b B
+    → Decides (merged || b) (merged ≡ false → B)
 kept_decides true b d = (λ h e. absurd (false≢true (sym e)), λ f. refl)
 kept_decides false b d = (λ h e. d.0 h, λ f. d.1 (f refl))
 
-opens_decides : (i : Incident) (c : Call) → Decides (opens i c) ((c.division ≡ i.division) × (c.incident ≡ i.number) × (c.at ≡ i.opened))
+opens_decides : (i : Incident) (c : Call)
+    → Decides (opens i c) ((c.division ≡ i.division) × (c.incident ≡ i.number) × (c.at ≡ i.opened))
 opens_decides i c = Decides-like _ (λ h. (sym h.0, sym h.1, sym h.2)) (λ h. (sym h.0, sym h.1, sym h.2)) (three _ _ _ (Decides-eqb _ _) (Decides-eqb _ _) (Decides-eqb _ _))
 
 module _ (plan : List Area) (s : DivisionRows) where
@@ -42,25 +44,41 @@ module _ (plan : List Area) (s : DivisionRows) where
   pub record Fits : Type 0 where
     pub have_rows : list_all (has_row s) plan ≡ true
     pub divisions : (d : ℕ) → IfSome (division_at d s) (λ x. has_division plan d ≡ true)
-    pub points : (k : ℕ × ℕ) → IfSome (row_at pair_cmp point_key s.points k) (λ p. has_division plan p.division ≡ true)
+    pub points : (k : ℕ × ℕ) → IfSome (row_at pair_cmp point_key s.points k)
+        (λ p. has_division plan p.division ≡ true)
     pub vehicles : (c : Callsign) → IfSome (vehicle_at c s) (VehicleFits plan s c)
     pub loans : (c : Callsign) → IfSome (loan_at c s) (λ l. is_some (vehicle_at c s) ≡ true)
     pub offers : (c : Callsign) → IfSome (offer_at c s) (λ o. is_some (vehicle_at c s) ≡ true)
-    pub assignments : (c : Callsign) → IfSome (assignment_at c s) (λ a. is_some (vehicle_at c s) ≡ true)
-    pub turns : (k : Callsign × ℕ) → IfSome (row_at numbered_cmp turn_key s.turns k) (TurnFits plan s k)
-    pub reports : (k : Callsign × ℕ) → IfSome (row_at numbered_cmp report_key s.reports k) (ReportFits plan s k)
-    pub calls : (k : ℕ × ℕ) → IfSome (row_at pair_cmp call_key s.calls k) (λ c. CallAgrees r (Some c))
-    pub numbers : (k : ℕ × ℕ) → IfSome (row_at pair_cmp incident_key s.incidents k) (λ i. NumberAgrees r (Some i))
-    pub opened : (k : ℕ × ℕ) → IfSome (row_at pair_cmp incident_key s.incidents k) (λ i. OpenedAgrees r (Some i))
+    pub assignments : (c : Callsign) → IfSome (assignment_at c s)
+        (λ a. is_some (vehicle_at c s) ≡ true)
+    pub turns : (k : Callsign × ℕ) → IfSome (row_at numbered_cmp turn_key s.turns k)
+        (TurnFits plan s k)
+    pub reports : (k : Callsign × ℕ) → IfSome (row_at numbered_cmp report_key s.reports k)
+        (ReportFits plan s k)
+    pub calls : (k : ℕ × ℕ) → IfSome (row_at pair_cmp call_key s.calls k)
+        (λ c. CallAgrees r (Some c))
+    pub numbers : (k : ℕ × ℕ) → IfSome (row_at pair_cmp incident_key s.incidents k)
+        (λ i. NumberAgrees r (Some i))
+    pub opened : (k : ℕ × ℕ) → IfSome (row_at pair_cmp incident_key s.incidents k)
+        (λ i. OpenedAgrees r (Some i))
 
-  pub opened_decides : IsInOrder r → (i : Incident) → Decides (is_opened s i) (OpenedAgrees r (Some i))
+  pub opened_decides : IsInOrder r → (i : Incident)
+      → Decides (is_opened s i) (OpenedAgrees r (Some i))
   opened_decides in_order i = kept_decides (is_merged i.state) _ (
     λ h. let found = passing pair_cmp call_key pairs_total exact_pair (opens i) s.calls in_order.calls h in
-        record { position = found.row.position; serial = found.row.serial; first_call = found.row; there = found.there; same = (opens_decides i found.row).0 found.passes },
+        record {
+          position = found.row.position;
+          serial = found.row.serial;
+          first_call =
+              found.row;
+          there = found.there;
+          same = (opens_decides i found.row).0 found.passes;
+        },
     λ opening. (rw opening.there at (passed {R = Call} {K = ℕ × ℕ} pair_cmp call_key pairs_total exact_pair (opens i) s.calls (opening.position, opening.serial))) ((opens_decides i opening.first_call).1 opening.same),
   )
 
-  pub fits_decides : IsInOrder r → Decides (rows_fit plan s && list_all (is_opened s) s.incidents) Fits
+  pub fits_decides : IsInOrder r → Decides
+      (rows_fit plan s && list_all (is_opened s) s.incidents) Fits
   fits_decides o = Decides-like _
       (λ h. record {
         have_rows = h.0.0.0;

@@ -35,12 +35,14 @@ crew k c = record { token = k; who = Crew c }
 abbrev pub has_crew : Callsign → List Terminal → Bool
 has_crew c ts = list_any (λ t. is_crew c t.who) ts
 
-pub crew_found : (c : Callsign) (ts : List Terminal) → IsKeyed token_cmp terminal_key ts → has_crew c ts ≡ true → (k : Token) × (terminal_at k ts ≡ Some (crew k c))
+pub crew_found : (c : Callsign) (ts : List Terminal) → IsKeyed token_cmp terminal_key ts
+    → has_crew c ts ≡ true → (k : Token) × (terminal_at k ts ≡ Some (crew k c))
 crew_found c ts in_order h =
     let found = passing token_cmp terminal_key callsigns_total exact_callsigns (λ t. is_crew c t.who) ts in_order h in
     (found.row.token, found.there ∙ ap (λ w. Some (record { token = found.row.token; who = w })) (who_is c found.row.who found.passes))
 
-pub crew_there : (c : Callsign) (ts : List Terminal) (k : Token) → terminal_at k ts ≡ Some (crew k c) → has_crew c ts ≡ true
+pub crew_there : (c : Callsign) (ts : List Terminal) (k : Token)
+    → terminal_at k ts ≡ Some (crew k c) → has_crew c ts ≡ true
 crew_there c ts k e = (rw e at (passed {R = Terminal} {K = Token} token_cmp terminal_key callsigns_total exact_callsigns (λ t. is_crew c t.who) ts k)) (its_crew c)
 
 turned : (o : Ordering) → is_eq (ordering_reverse o) ≡ is_eq o
@@ -49,12 +51,15 @@ turned Equal = refl
 turned Greater = refl
 
 -- the crews' vehicles, one by one
-crew_first : (c : Callsign) (w : Who) (xs : List Callsign) → list_any (same_callsign c) (cons_option (crew_of w) xs) ≡ (is_crew c w || list_any (same_callsign c) xs)
+crew_first : (c : Callsign) (w : Who) (xs : List Callsign)
+    → list_any (same_callsign c) (cons_option (crew_of w) xs)
+    ≡ (is_crew c w || list_any (same_callsign c) xs)
 crew_first c (Crew k) xs = ap (λ b. b || list_any (same_callsign c) xs) (ap is_eq (callsigns_total.antisymm c k) ∙ turned (callsign_cmp k c))
 crew_first c (Desk d) xs = refl
 crew_first c (Position p) xs = refl
 
-pub crew_told : (c : Callsign) (ts : List Terminal) → list_any (same_callsign c) (crews_of ts) ≡ has_crew c ts
+pub crew_told : (c : Callsign) (ts : List Terminal)
+    → list_any (same_callsign c) (crews_of ts) ≡ has_crew c ts
 crew_told c [] = refl
 crew_told c (t ∷ ts) = crew_first c t.who (crews_of ts) ∙ ap (λ b. is_crew c t.who || b) (crew_told c ts)
 
@@ -63,7 +68,9 @@ abbrev pub AreApart : List Terminal → Type 0
 AreApart [] = Unit {0}
 AreApart (t ∷ ts) = ((c : Callsign) → is_crew c t.who ≡ true → has_crew c ts ≡ false) × AreApart ts
 
-first_or_later : (c : Callsign) (t : Terminal) (ts : List Terminal) (k : Token) → terminal_at k (t ∷ ts) ≡ Some (crew k c) → ((k ≡ t.token) × (is_crew c t.who ≡ true)) ⊎ (terminal_at k ts ≡ Some (crew k c))
+first_or_later : (c : Callsign) (t : Terminal) (ts : List Terminal) (k : Token)
+    → terminal_at k (t ∷ ts) ≡ Some (crew k c)
+    → ((k ≡ t.token) × (is_crew c t.who ≡ true)) ⊎ (terminal_at k ts ≡ Some (crew k c))
 first_or_later c t ts k = (elim (is_eq (token_cmp k t.token)) as (λ (b : Bool). is_eq (token_cmp k t.token) ≡ b → cond b (Some t) (terminal_at k ts) ≡ Some (crew k c) → ((k ≡ t.token) × (is_crew c t.who ≡ true)) ⊎ (terminal_at k ts ≡ Some (crew k c))) [
   | true ↦ λ q e.
       let same : t ≡ crew k c = cc in
@@ -71,7 +78,8 @@ first_or_later c t ts k = (elim (is_eq (token_cmp k t.token)) as (λ (b : Bool).
   | false ↦ λ q e. inr e
 ]) refl
 
-pub one_crew : (c : Callsign) (ts : List Terminal) → AreApart ts → (j k : Token) → terminal_at j ts ≡ Some (crew j c) → terminal_at k ts ≡ Some (crew k c) → j ≡ k
+pub one_crew : (c : Callsign) (ts : List Terminal) → AreApart ts → (j k : Token)
+    → terminal_at j ts ≡ Some (crew j c) → terminal_at k ts ≡ Some (crew k c) → j ≡ k
 one_crew c [] apart j k e g = cc
 one_crew c (t ∷ ts) apart j k e g = elim (first_or_later c t ts j e) [
   | inl a ↦ elim (first_or_later c t ts k g) [
@@ -87,7 +95,8 @@ one_crew c (t ∷ ts) apart j k e g = elim (first_or_later c t ts j e) [
 abbrev pub IsOneEach : List Terminal → Type 0
 IsOneEach ts = (j k : Token) (c : Callsign) → terminal_at j ts ≡ Some (crew j c) → terminal_at k ts ≡ Some (crew k c) → j ≡ k
 
-pub apart_from_one : (ts : List Terminal) → IsKeyed token_cmp terminal_key ts → IsOneEach ts → AreApart ts
+pub apart_from_one : (ts : List Terminal) → IsKeyed token_cmp terminal_key ts → IsOneEach ts
+    → AreApart ts
 apart_from_one [] in_order one = tt
 apart_from_one (t ∷ ts) in_order one =
     let kept = behind token_cmp terminal_key callsigns_total exact_callsigns t ts in (
@@ -101,35 +110,44 @@ apart_from_one (t ∷ ts) in_order one =
     )
 
 -- ---- the same as distinct vehicles
-none_like : (q : Callsign → Bool) (xs : List Callsign) → AllByRecursion (λ y. q y ≡ false) xs → list_any q xs ≡ false
+none_like : (q : Callsign → Bool) (xs : List Callsign) → AllByRecursion (λ y. q y ≡ false) xs
+    → list_any q xs ≡ false
 none_like q [] h = refl
 none_like q (x ∷ xs) h = rw (h.0, none_like q xs h.1) refl
 
-each_unlike : (q : Callsign → Bool) (xs : List Callsign) → list_any q xs ≡ false → AllByRecursion (λ y. q y ≡ false) xs
+each_unlike : (q : Callsign → Bool) (xs : List Callsign) → list_any q xs ≡ false
+    → AllByRecursion (λ y. q y ≡ false) xs
 each_unlike q [] h = tt
 each_unlike q (x ∷ xs) h =
     let parts = or_parts (q x) (list_any q xs) h in
     (parts.0, each_unlike q xs parts.1)
 
-distinct_first : (w : Who) (xs : List Callsign) → IsDistinct same_callsign (cons_option (crew_of w) xs) → ((c : Callsign) → is_crew c w ≡ true → list_any (same_callsign c) xs ≡ false) × IsDistinct same_callsign xs
+distinct_first : (w : Who) (xs : List Callsign)
+    → IsDistinct same_callsign (cons_option (crew_of w) xs)
+    → ((c : Callsign) → is_crew c w ≡ true → list_any (same_callsign c) xs ≡ false)
+    × IsDistinct same_callsign xs
 unfolding IsDistinct
 distinct_first (Crew k) xs h = (λ c e. subst (λ a. list_any (same_callsign a) xs ≡ false) (exact_callsigns k c ((Equal-is (callsign_cmp k c)).0 e)) (none_like _ xs h.0), h.1)
 distinct_first (Desk d) xs h = (λ c e. absurd (false≢true e), h)
 distinct_first (Position p) xs h = (λ c e. absurd (false≢true e), h)
 
-first_distinct : (w : Who) (xs : List Callsign) → ((c : Callsign) → is_crew c w ≡ true → list_any (same_callsign c) xs ≡ false) → IsDistinct same_callsign xs → IsDistinct same_callsign (cons_option (crew_of w) xs)
+first_distinct : (w : Who) (xs : List Callsign)
+    → ((c : Callsign) → is_crew c w ≡ true → list_any (same_callsign c) xs ≡ false)
+    → IsDistinct same_callsign xs → IsDistinct same_callsign (cons_option (crew_of w) xs)
 unfolding IsDistinct
 first_distinct (Crew k) xs f h = (each_unlike _ xs (f k (its_crew k)), h)
 first_distinct (Desk d) xs f h = h
 first_distinct (Position p) xs f h = h
 
-pub apart_from_distinct : (ts : List Terminal) → IsDistinct same_callsign (crews_of ts) → AreApart ts
+pub apart_from_distinct : (ts : List Terminal) → IsDistinct same_callsign (crews_of ts)
+    → AreApart ts
 apart_from_distinct [] h = tt
 apart_from_distinct (t ∷ ts) h =
     let parts = distinct_first t.who (crews_of ts) h in
     (λ c e. sym (crew_told c ts) ∙ parts.0 c e, apart_from_distinct ts parts.1)
 
-pub distinct_from_apart : (ts : List Terminal) → AreApart ts → IsDistinct same_callsign (crews_of ts)
+pub distinct_from_apart : (ts : List Terminal) → AreApart ts
+    → IsDistinct same_callsign (crews_of ts)
 unfolding IsDistinct
 distinct_from_apart [] h = tt
 distinct_from_apart (t ∷ ts) h = first_distinct t.who (crews_of ts) (λ c e. crew_told c ts ∙ h.0 c e) (distinct_from_apart ts h.1)

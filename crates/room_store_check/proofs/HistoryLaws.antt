@@ -38,7 +38,10 @@ open_kept (Some t) = (elim (is_none t.ended) as (λ (b : Bool). is_none t.ended 
   | false ↦ λ q. refl
 ]) refl
 
-last_kept : (vehicles : List Vehicle) (v : Vehicle) (o : Option Report) → row_at callsign_cmp vehicle_key vehicles v.callsign ≡ Some v → IfSome o (λ x. report_key x ≡ (v.callsign, v.last_report)) → is_some (keep (is_last vehicles) o) ≡ is_some o
+last_kept : (vehicles : List Vehicle) (v : Vehicle) (o : Option Report)
+    → row_at callsign_cmp vehicle_key vehicles v.callsign ≡ Some v
+    → IfSome o (λ x. report_key x ≡ (v.callsign, v.last_report))
+    → is_some (keep (is_last vehicles) o) ≡ is_some o
 last_kept vehicles v None there named = refl
 last_kept vehicles v (Some x) there named =
     ap (λ b. is_some (cond b (Some x) None))
@@ -51,13 +54,15 @@ module _ (plan : List Area) (s : DivisionRows) (o : IsInOrder (room_of plan s)) 
   turn_kept v = ap (λ b. not (is_busy v.status) || (nat_le 1 v.last_order && b))
       (ap is_open (row_filter numbered_cmp turn_key numbered_total (λ t. is_none t.ended) s.turns (v.callsign, v.last_order) o.turns) ∙ open_kept _)
 
-  report_kept : (v : Vehicle) → Among v s.vehicles → has_last_report (kept s) v ≡ has_last_report s v
+  report_kept : (v : Vehicle) → Among v s.vehicles
+      → has_last_report (kept s) v ≡ has_last_report s v
   report_kept v there = ap (λ b. not (nat_le 1 v.last_report) || b)
       (ap is_some (row_filter numbered_cmp report_key numbered_total (is_last s.vehicles) s.reports (v.callsign, v.last_report) o.reports)
       ∙ last_kept s.vehicles v _ (row_among callsign_cmp vehicle_key callsigns_total s.vehicles v o.vehicles there)
       (row_key numbered_cmp report_key numbered_total exact_numbered s.reports (v.callsign, v.last_report)))
 
-  vehicle_kept : (v : Vehicle) → Among v s.vehicles → vehicle_disagreement plan (kept s) v ≡ vehicle_disagreement plan s v
+  vehicle_kept : (v : Vehicle) → Among v s.vehicles
+      → vehicle_disagreement plan (kept s) v ≡ vehicle_disagreement plan s v
   vehicle_kept v there = rw (turn_kept v, report_kept v there) refl
 
   standing_kept : standing_disagreement plan (kept s) ≡ standing_disagreement plan s
@@ -68,7 +73,8 @@ none_or : {X : Type 0} (a b : Option X) → is_none (option_or a b) ≡ (is_none
 none_or None b = refl
 none_or (Some x) b = refl
 
-all_none : {R X : Type 0} (f : R → Option X) (rows : List R) → list_all (λ x. is_none (f x)) rows ≡ is_none (first_of f rows)
+all_none : {R X : Type 0} (f : R → Option X) (rows : List R)
+    → list_all (λ x. is_none (f x)) rows ≡ is_none (first_of f rows)
 all_none f [] = refl
 all_none f (x ∷ xs) = ap (λ b. is_none (f x) && b) (all_none f xs) ∙ sym (none_or (f x) (first_of f xs))
 
@@ -76,7 +82,8 @@ some_or_none : {X : Type 0} (o : Option X) → is_some o ≡ not (is_none o)
 some_or_none None = refl
 some_or_none (Some x) = refl
 
--- nothing is told of the histories nor of the rest exactly where nothing is told of all, one after another
+-- nothing is told of the histories nor of the rest exactly where nothing is told of all, one after
+-- another
 in_turn : {X : Type 0} (standing turn report call incident opening : Option X) →
     ((is_none turn && (is_none report && is_none call)) && is_none (option_or (option_or standing incident) opening))
     ≡ is_none (option_or (option_or (option_or (option_or (option_or standing turn) report) call) incident) opening)
@@ -105,7 +112,9 @@ module _ (layout : Layout) (s : DivisionRows) (o : IsInOrder (room_of layout.are
   abbrev rest : Option Disagreement → Option Disagreement → Option Disagreement
   rest standing opening = option_or (option_or standing (first_of (incident_disagreement s) s.incidents)) opening
 
-  verdict_told : (told : BTreeSet (ℕ × ℕ × ℕ)) → Tell s.calls told → (histories_fit plan s && is_none (kept_disagreement plan (kept s) told)) ≡ is_none (first_disagreement plan s)
+  verdict_told : (told : BTreeSet (ℕ × ℕ × ℕ)) → Tell s.calls told
+      → (histories_fit plan s && is_none (kept_disagreement plan (kept s) told))
+      ≡ is_none (first_disagreement plan s)
   verdict_told told tell =
       ap (λ b. b && is_none (kept_disagreement plan (kept s) told)) histories_told
       ∙ ap (λ a. histories && is_none (rest a (first_of (told_fault told) s.incidents))) (standing_kept plan s o)
@@ -113,7 +122,10 @@ module _ (layout : Layout) (s : DivisionRows) (o : IsInOrder (room_of layout.are
       ∙ in_turn (standing_disagreement plan s) _ _ _ _ (first_of (opening_fault s) s.incidents)
 
   -- histories that fit, and a rest in which nothing is wrong, are a well-formed room
-  pub room_decides : (rows : DivisionRows) (told : BTreeSet (ℕ × ℕ × ℕ)) (fits verdict : Bool) → rows ≡ kept s → Tell s.calls told → fits ≡ histories_fit plan s → verdict ≡ (fits && is_none (kept_disagreement plan rows told)) → Decides verdict (IsWellFormed (room_of plan s))
+  pub room_decides : (rows : DivisionRows) (told : BTreeSet (ℕ × ℕ × ℕ)) (fits verdict : Bool)
+      → rows ≡ kept s → Tell s.calls told → fits ≡ histories_fit plan s
+      → verdict ≡ (fits && is_none (kept_disagreement plan rows told))
+      → Decides verdict (IsWellFormed (room_of plan s))
   room_decides rows told fits verdict same tell fit is =
       let all : verdict ≡ is_none (first_disagreement plan s) =
       is

@@ -31,7 +31,8 @@ or_last true false = refl
 or_last false true = refl
 or_last false false = refl
 
-pub tell_more : (calls : List Call) (c : Call) (old new : BTreeSet (ℕ × ℕ × ℕ)) → Tell calls old → Updates told_cmp old new (told_of c) true → Tell (calls ++ c ∷ []) new
+pub tell_more : (calls : List Call) (c : Call) (old new : BTreeSet (ℕ × ℕ × ℕ)) → Tell calls old
+    → Updates told_cmp old new (told_of c) true → Tell (calls ++ c ∷ []) new
 tell_more calls c old new tell updates x =
     let tells = λ (c : Call). is_eq (told_cmp x (told_of c)) in
     updates.0 x
@@ -60,10 +61,13 @@ told_alike x y =
     ∙ regroup _ _ _ _ _ _ (same_number x.0 y.0) (same_number x.1 y.1) (same_number x.2 y.2)
 
 -- a call told of the incident's opening exactly where it opened it
-told_opening : (i : Incident) (cs : List Call) → list_any (λ c. is_eq (told_cmp (i.division, i.number, i.opened) (told_of c))) cs ≡ list_any (opens i) cs
+told_opening : (i : Incident) (cs : List Call)
+    → list_any (λ c. is_eq (told_cmp (i.division, i.number, i.opened) (told_of c))) cs
+    ≡ list_any (opens i) cs
 told_opening i [] = refl
 told_opening i (c ∷ cs) = rw (told_alike (i.division, i.number, i.opened) (c.division, c.incident, c.at), told_opening i cs) refl
 
 -- so the search by what calls tell is the search among the calls
-pub untold_unopened : (s : DivisionRows) (told : BTreeSet (ℕ × ℕ × ℕ)) → Tell s.calls told → first_of (told_fault told) s.incidents ≡ first_of (opening_fault s) s.incidents
+pub untold_unopened : (s : DivisionRows) (told : BTreeSet (ℕ × ℕ × ℕ)) → Tell s.calls told
+    → first_of (told_fault told) s.incidents ≡ first_of (opening_fault s) s.incidents
 untold_unopened s told tell = first_alike _ _ s.incidents (λ i there. ap (λ b. unless (is_merged i.state || b) (wrong.Incident i.division i.number incident.NoCall)) (tell (i.division, i.number, i.opened) ∙ told_opening i s.calls))

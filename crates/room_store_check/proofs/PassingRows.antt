@@ -12,9 +12,11 @@ use Rattle.room_types_keyed.specs.Keyed.{IsBelowAll, IsKeyed, row_at}
 use Rattle.room_types_keyed.proofs.KeyedLaws.{row_below}
 use Rattle.room_model.proofs.Tests.{or_right}
 
-module _ {R K : Type 0} (cmp : K → K → Ordering) (key : R → K) (total : IsTotalOrder cmp) (exact : CmpEqualImpliesEq cmp) where
+module _ {R K : Type 0} (cmp : K → K → Ordering) (key : R → K) (total : IsTotalOrder cmp)
+    (exact : CmpEqualImpliesEq cmp) where
   -- a row stands behind one of a lower key
-  pub behind : (x : R) (xs : List R) (k : K) (y : R) → IsBelowAll cmp key (key x) xs → row_at cmp key xs k ≡ Some y → row_at cmp key (x ∷ xs) k ≡ Some y
+  pub behind : (x : R) (xs : List R) (k : K) (y : R) → IsBelowAll cmp key (key x) xs
+      → row_at cmp key xs k ≡ Some y → row_at cmp key (x ∷ xs) k ≡ Some y
   behind x xs k y below there = (elim (is_eq (cmp k (key x))) as (λ (b : Bool). is_eq (cmp k (key x)) ≡ b → cond b (Some x) (row_at cmp key xs k) ≡ Some y) [
     | true ↦ λ q.
         let same : k ≡ key x = exact _ _ ((Equal-is (cmp k (key x))).0 q) in
@@ -38,11 +40,14 @@ module _ {R K : Type 0} (cmp : K → K → Ordering) (key : R → K) (total : Is
     ]) refl h
 
     -- and back
-    later : (x : R) (xs : List R) (o : Option R) → IfSome o (λ y. p y ≡ true → list_any p xs ≡ true) → IfSome o (λ y. p y ≡ true → p x || list_any p xs ≡ true)
+    later : (x : R) (xs : List R) (o : Option R)
+        → IfSome o (λ y. p y ≡ true → list_any p xs ≡ true)
+        → IfSome o (λ y. p y ≡ true → p x || list_any p xs ≡ true)
     later x xs None f = tt
     later x xs (Some y) f = λ h. or_right (p x) _ (f h)
 
-    pub passed : (xs : List R) (k : K) → IfSome (row_at cmp key xs k) (λ x. p x ≡ true → list_any p xs ≡ true)
+    pub passed : (xs : List R) (k : K)
+        → IfSome (row_at cmp key xs k) (λ x. p x ≡ true → list_any p xs ≡ true)
     passed [] k = tt
     passed (x ∷ xs) k = (elim (is_eq (cmp k (key x))) as (λ (b : Bool). IfSome (cond b (Some x) (row_at cmp key xs k)) (λ y. p y ≡ true → p x || list_any p xs ≡ true)) [
       | true ↦ λ h. ap (λ b. b || list_any p xs) h

@@ -38,7 +38,8 @@ no_turn None = tt
 no_turn (Some a) = tt
 
 -- ---- the plan
-covered : (f : ℕ → Bool) (areas : List Area) (d : ℕ) → list_all (λ a. f a.division) areas ≡ true → has_division areas d ≡ true → f d ≡ true
+covered : (f : ℕ → Bool) (areas : List Area) (d : ℕ) → list_all (λ a. f a.division) areas ≡ true
+    → has_division areas d ≡ true → f d ≡ true
 covered f [] d h there = absurd (false≢true there)
 covered f (a ∷ areas) d h there =
     let parts = and_parts _ _ h in
@@ -47,7 +48,8 @@ covered f (a ∷ areas) d h there =
       | false ↦ λ other any. covered f areas d parts.1 any
     ]) refl there
 
-covers : (f : ℕ → Bool) (areas : List Area) → ((d : ℕ) → has_division areas d ≡ true → f d ≡ true) → list_all (λ a. f a.division) areas ≡ true
+covers : (f : ℕ → Bool) (areas : List Area) → ((d : ℕ) → has_division areas d ≡ true → f d ≡ true)
+    → list_all (λ a. f a.division) areas ≡ true
 covers f [] h = refl
 covers f (a ∷ areas) h =
     let here : f a.division ≡ true = h a.division (ap (λ b. b || has_division areas a.division) (eq-eqb a.division a.division refl)) in
@@ -67,7 +69,8 @@ module _ (layout : Layout) (s : DivisionRows) where
   r = room_of plan s
 
   -- ---- what they tell is that the room is well-formed
-  turn_joined : (c : Callsign) (n : ℕ) (v : Option Vehicle) (t : Option Turn) → vehicle_at c s ≡ v → turn_at c n s ≡ t → Fits plan s → TurnAgrees v n t
+  turn_joined : (c : Callsign) (n : ℕ) (v : Option Vehicle) (t : Option Turn) → vehicle_at c s ≡ v
+      → turn_at c n s ≡ t → Fits plan s → TurnAgrees v n t
   turn_joined c n None None e g f = tt
   turn_joined c n None (Some t) e g f =
       let h : TurnFits plan s (c, n) t = rw g at (f.turns (c, n)) in
@@ -114,15 +117,18 @@ module _ (layout : Layout) (s : DivisionRows) where
   }
 
   -- ---- and back
-  unended : (v : Vehicle) (n : ℕ) (t : Turn) (ended : Option ℕ) → n ≡ v.last_order → OpenAgrees v n t ended → is_busy v.status ≡ true → is_none ended ≡ true
+  unended : (v : Vehicle) (n : ℕ) (t : Turn) (ended : Option ℕ) → n ≡ v.last_order
+      → OpenAgrees v n t ended → is_busy v.status ≡ true → is_none ended ≡ true
   unended v n t None last h busy = refl
   unended v n t (Some at) last h busy = absurd (false≢true (sym (h last) ∙ busy))
 
-  busy_turn : (v : Vehicle) (n : ℕ) (t : Option Turn) → n ≡ v.last_order → TurnAgrees (Some v) n t → is_busy v.status ≡ true → (1 ≤ n) × (is_open t ≡ true)
+  busy_turn : (v : Vehicle) (n : ℕ) (t : Option Turn) → n ≡ v.last_order → TurnAgrees (Some v) n t
+      → is_busy v.status ≡ true → (1 ≤ n) × (is_open t ≡ true)
   busy_turn v n None last h busy = absurd (false≢true (sym (h last) ∙ busy))
   busy_turn v n (Some t) last h busy = (h.0, unended v n t t.ended last h.2 busy)
 
-  vehicle_of : IsWellFormed r → (c : Callsign) (v : Option Vehicle) → vehicle_at c s ≡ v → IfSome v (VehicleFits plan s c)
+  vehicle_of : IsWellFormed r → (c : Callsign) (v : Option Vehicle) → vehicle_at c s ≡ v
+      → IfSome v (VehicleFits plan s c)
   vehicle_of w c None e = tt
   vehicle_of w c (Some v) e = record {
     home = rw e at (w.plan.homes c);
@@ -135,7 +141,8 @@ module _ (layout : Layout) (s : DivisionRows) where
     post = rw e at (w.posts c);
   }
 
-  turn_of : IsWellFormed r → (c : Callsign) (n : ℕ) (t : Option Turn) → turn_at c n s ≡ t → IfSome t (TurnFits plan s (c, n))
+  turn_of : IsWellFormed r → (c : Callsign) (n : ℕ) (t : Option Turn) → turn_at c n s ≡ t
+      → IfSome t (TurnFits plan s (c, n))
   turn_of w c n None e = tt
   turn_of w c n (Some t) e = record {
     planned = rw e at (w.plan.turns c n);
@@ -144,7 +151,8 @@ module _ (layout : Layout) (s : DivisionRows) where
     active = rw e at (w.active c n);
   }
 
-  report_of : IsWellFormed r → (c : Callsign) (n : ℕ) (x : Option Report) → report_at c n s ≡ x → IfSome x (ReportFits plan s (c, n))
+  report_of : IsWellFormed r → (c : Callsign) (n : ℕ) (x : Option Report) → report_at c n s ≡ x
+      → IfSome x (ReportFits plan s (c, n))
   report_of w c n None e = tt
   report_of w c n (Some x) e = record { planned = rw e at (w.plan.reports c n); numbered = rw e at (w.reports c n) }
 
@@ -165,5 +173,6 @@ module _ (layout : Layout) (s : DivisionRows) where
   }
 
   -- in a room whose rows are in order, the tests decide whether it is well-formed
-  pub well_formed_decides : IsInOrder r → Decides (rows_fit plan s && list_all (is_opened s) s.incidents) (IsWellFormed r)
+  pub well_formed_decides : IsInOrder r
+      → Decides (rows_fit plan s && list_all (is_opened s) s.incidents) (IsWellFormed r)
   well_formed_decides o = Decides-like _ (well_formed o) fitting (fits_decides plan s o)

@@ -77,15 +77,18 @@ module _ (layout : Layout) (s : DivisionRows) where
   r = room_of plan s
 
   -- ---- a vehicle
-  loan_found : (v : Vehicle) (o : Option Loan) → loan_at v.callsign s ≡ o → Finds (loan_fits v o) (IsVehicleFault r v) (loan_fault v o)
+  loan_found : (v : Vehicle) (o : Option Loan) → loan_at v.callsign s ≡ o
+      → Finds (loan_fits v o) (IsVehicleFault r v) (loan_fault v o)
   loan_found v None e = find_unless _ _ _ (λ fails. (e, not_so _ (loan_decides v None) fails))
   loan_found v (Some l) e = find_unless _ _ _ (λ fails. (l, e, not_so _ (loan_decides v (Some l)) fails))
 
-  offer_found : (v : Vehicle) (o : Option Offer) → offer_at v.callsign s ≡ o → Finds (offer_fits plan v o) (IsVehicleFault r v) (offer_fault plan v o)
+  offer_found : (v : Vehicle) (o : Option Offer) → offer_at v.callsign s ≡ o
+      → Finds (offer_fits plan v o) (IsVehicleFault r v) (offer_fault plan v o)
   offer_found v None e = find_unless _ _ _ (λ fails. (e, not_so _ (offer_decides plan v None) fails))
   offer_found v (Some l) e = find_unless _ _ _ (λ fails. (l, e, not_so _ (offer_decides plan v (Some l)) fails))
 
-  assignment_found : (v : Vehicle) (o : Option Assignment) → assignment_at v.callsign s ≡ o → Finds (assignment_fits v o) (IsVehicleFault r v) (assignment_fault v o)
+  assignment_found : (v : Vehicle) (o : Option Assignment) → assignment_at v.callsign s ≡ o
+      → Finds (assignment_fits v o) (IsVehicleFault r v) (assignment_fault v o)
   assignment_found v None e = find_unless _ _ _ (λ fails. (e, not_so _ (assignment_decides v None) fails))
   assignment_found v (Some a) e = find_unless _ _ _ (λ fails. (a, e, not_so _ (assignment_decides v (Some a)) fails))
 
@@ -98,7 +101,8 @@ module _ (layout : Layout) (s : DivisionRows) where
       let parts = or_parts (not (is_busy v.status)) _ fails in
       (twice_not _ parts.0, not_so _ (Decides-and _ _ (at_most _ _) (open_tells _)) parts.1)
 
-  vehicle_found : (v : Vehicle) → Finds (vehicle_fits plan s v) (IsVehicleFault r v) (vehicle_fault plan s v)
+  vehicle_found : (v : Vehicle) → Finds (vehicle_fits plan s v) (IsVehicleFault r v)
+      (vehicle_fault plan s v)
   vehicle_found v = find_like _ (vehicle_fits plan s v) (simp regrouped)
       (find_or (find_or (find_or (find_or (find_or (find_or (find_or
       (find_unless (IsVehicleFault r v) (has_division plan v.home) vehicle.Home (λ fails. fails))
@@ -111,21 +115,26 @@ module _ (layout : Layout) (s : DivisionRows) where
       (find_unless (IsVehicleFault r v) (has_post s v v.post) vehicle.Post (not_so _ (post_decides plan s v v.post))))
 
   -- ---- a turn
-  odd : (v : Vehicle) (t : Turn) (ended : Option ℕ) → vehicle_at t.callsign s ≡ Some v → t.ended ≡ ended → open_fits v t ended ≡ false → IsOddly r t
+  odd : (v : Vehicle) (t : Turn) (ended : Option ℕ) → vehicle_at t.callsign s ≡ Some v
+      → t.ended ≡ ended → open_fits v t ended ≡ false → IsOddly r t
   odd v t ended there is fails =
       let differs : ¬ OpenAgrees v t.order t t.ended = subst (λ e. ¬ OpenAgrees v t.order t e) (sym is) (not_so _ (open_decides plan s v t ended) fails) in
       rw there differs
 
-  open_found : (v : Vehicle) (t : Turn) (ended : Option ℕ) → vehicle_at t.callsign s ≡ Some v → t.ended ≡ ended → Finds (open_fits v t ended) (IsTurnFault r t) (open_fault v t ended)
+  open_found : (v : Vehicle) (t : Turn) (ended : Option ℕ) → vehicle_at t.callsign s ≡ Some v
+      → t.ended ≡ ended → Finds (open_fits v t ended) (IsTurnFault r t) (open_fault v t ended)
   open_found v t None there is = find_unless (IsTurnFault r t) _ _ (λ fails. (is, odd v t None there is fails))
   open_found v t (Some at) there is = find_unless (IsTurnFault r t) _ _ (λ fails. (ap is_some is, odd v t (Some at) there is fails))
 
-  not_given : (v : Vehicle) (t : Turn) → vehicle_at t.callsign s ≡ Some v → nat_le 1 t.order && nat_le t.order v.last_order ≡ false → ¬ WasGiven t.order (vehicle_at t.callsign s)
+  not_given : (v : Vehicle) (t : Turn) → vehicle_at t.callsign s ≡ Some v
+      → nat_le 1 t.order && nat_le t.order v.last_order ≡ false
+      → ¬ WasGiven t.order (vehicle_at t.callsign s)
   not_given v t there fails h =
       let given : WasGiven t.order (Some v) = rw there at h in
       not_so _ (Decides-and _ _ (at_most _ _) (at_most _ _)) fails given
 
-  order_found : (t : Turn) (v : Option Vehicle) → vehicle_at t.callsign s ≡ v → Finds (is_in_turn t v) (IsTurnFault r t) (order_fault t v)
+  order_found : (t : Turn) (v : Option Vehicle) → vehicle_at t.callsign s ≡ v
+      → Finds (is_in_turn t v) (IsTurnFault r t) (order_fault t v)
   order_found t None none = record { told = (refl, λ h. rw none at h) }
   order_found t (Some v) there = find_like _ (is_in_turn t (Some v)) (regrouped (nat_le 1 t.order) (nat_le t.order v.last_order) (open_fits v t t.ended))
       (find_or
@@ -141,20 +150,23 @@ module _ (layout : Layout) (s : DivisionRows) where
       (find_unless (IsTurnFault r t) (is_over s t) turn.NotActive (not_so _ (over_decides plan s t.ended _ (active_decides plan s _)))))
 
   -- ---- a report
-  report_found : (x : Report) → Finds (report_fits plan s x) (IsReportFault r x) (report_fault plan s x)
+  report_found : (x : Report) → Finds (report_fits plan s x) (IsReportFault r x)
+      (report_fault plan s x)
   report_found x = find_or
       (find_unless (IsReportFault r x) (has_division plan x.division) report.Division (λ fails. fails))
       (find_unless (IsReportFault r x) (is_numbered x (vehicle_at x.callsign s)) report.Number (not_so _ (numbered_decides plan s x _)))
 
   -- ---- a call
-  call_found : (c : Call) (i : Option Incident) → incident_at c.division c.incident s ≡ i → Finds (is_of c i) (IsCallFault r c) (call_fault c i)
+  call_found : (c : Call) (i : Option Incident) → incident_at c.division c.incident s ≡ i
+      → Finds (is_of c i) (IsCallFault r c) (call_fault c i)
   call_found c None none = record { told = (refl, none) }
   call_found c (Some i) there = find_or
       (find_unless (IsCallFault r c) (not (is_merged i.state)) call.Merged (λ fails. (i, there, twice_not _ fails)))
       (find_unless (IsCallFault r c) (nat_le i.opened c.at) call.Early (λ fails. (i, there, at_least _ _ fails)))
 
   -- ---- all tables
-  alone : (P : Disagreement → Type 0) (c : Callsign) (what : Disagreement) → (IsOfNone r c → P what) → Finds (has_vehicle s c) P (unless (has_vehicle s c) what)
+  alone : (P : Disagreement → Type 0) (c : Callsign) (what : Disagreement)
+      → (IsOfNone r c → P what) → Finds (has_vehicle s c) P (unless (has_vehicle s c) what)
   alone P c what holds = find_unless P _ _ (λ fails. holds (absent _ fails))
 
   no_row : (a : Area) → Among a plan → has_row s a ≡ false → IsWrong r (wrong.NoDivision a.division)
@@ -177,7 +189,8 @@ module _ (layout : Layout) (s : DivisionRows) where
       (find_first (IsWrong r) (call_fits s) _ s.calls (λ c there. find_more (IsCallFault r c) _ _ _ _ (λ fault holds. record { row = c; there = there; named = refl; holds = holds }) (call_found c _ refl))))
       (find_first (IsWrong r) (incident_fits s) _ s.incidents (λ i there. find_unless _ _ _ (λ fails. record { row = i; there = there; named = refl; holds = not_so _ (incident_decides plan s i) fails }))))
 
-  opening_found : IsInOrder r → Finds (list_all (is_opened s) s.incidents) (IsWrong r) (first_of (opening_fault s) s.incidents)
+  opening_found : IsInOrder r → Finds (list_all (is_opened s) s.incidents) (IsWrong r)
+      (first_of (opening_fault s) s.incidents)
   opening_found o = find_first (IsWrong r) (is_opened s) (opening_fault s) s.incidents (λ i there. find_unless _ _ _ (λ fails. record { row = i; there = there; named = refl; holds = not_so _ (opened_decides plan s o i) fails }))
 
   -- what the search finds of rows in order is told of their room

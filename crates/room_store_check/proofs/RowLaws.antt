@@ -36,7 +36,8 @@ unless : {P Q : Type 0} (p q : Bool) → Decides p P → Decides q Q → Decides
 unless true q d e = (λ h x. e.0 h, λ f. e.1 (f (d.0 refl)))
 unless false q d e = (λ h x. absurd (false≢true (d.1 x)), λ f. refl)
 
-pub three : {P Q R : Type 0} (p q r : Bool) → Decides p P → Decides q Q → Decides r R → Decides (p && (q && r)) (P × Q × R)
+pub three : {P Q R : Type 0} (p q r : Bool) → Decides p P → Decides q Q → Decides r R
+    → Decides (p && (q && r)) (P × Q × R)
 three p q r d e f = Decides-like _ (λ h. (h.0, h.1.0, h.1.1)) (λ h. (h.0, (h.1, h.2))) (Decides-and _ _ d (Decides-and _ _ e f))
 
 -- ---- a vehicle
@@ -44,14 +45,16 @@ pub loan_decides : (v : Vehicle) (l : Option Loan) → Decides (loan_fits v l) (
 loan_decides v None = Decides-eqb _ _
 loan_decides v (Some l) = three _ _ _ (Decides-eqb _ _) (Decides-eqb _ _) (Decides-not _ (Decides-eqb _ _))
 
-pub offer_decides : (plan : List Area) (v : Vehicle) (o : Option Offer) → Decides (offer_fits plan v o) (OfferAgrees plan (Some v) o)
+pub offer_decides : (plan : List Area) (v : Vehicle) (o : Option Offer)
+    → Decides (offer_fits plan v o) (OfferAgrees plan (Some v) o)
 offer_decides plan v None = idle _
 offer_decides plan v (Some o) = Decides-like _
     (λ h. (h.0, h.1.0, h.1.1.0, h.1.1.1.0, h.1.1.1.1))
     (λ h. (h.0, (h.1, (h.2, (h.3, h.4)))))
     (Decides-and _ _ (itself _) (Decides-and _ _ (Decides-eqb _ _) (Decides-and _ _ (Decides-eqb _ _) (Decides-and _ _ (Decides-not _ (Decides-eqb _ _)) (itself _)))))
 
-pub assignment_decides : (v : Vehicle) (a : Option Assignment) → Decides (assignment_fits v a) (AssignmentAgrees (Some v) a)
+pub assignment_decides : (v : Vehicle) (a : Option Assignment)
+    → Decides (assignment_fits v a) (AssignmentAgrees (Some v) a)
 assignment_decides v None = idle _
 assignment_decides v (Some a) = three _ _ _ (itself _) (Decides-eqb _ _) (Decides-eqb _ _)
 
@@ -68,7 +71,8 @@ module _ (plan : List Area) (s : DivisionRows) where
     pub loan : LoanAgrees (Some v) (loan_at c s)
     pub offer : OfferAgrees plan (Some v) (offer_at c s)
     pub assignment : AssignmentAgrees (Some v) (assignment_at c s)
-    pub turn : is_busy v.status ≡ true → (1 ≤ v.last_order) × (is_open (turn_at c v.last_order s) ≡ true)
+    pub turn : is_busy v.status ≡ true
+        → (1 ≤ v.last_order) × (is_open (turn_at c v.last_order s) ≡ true)
     pub report : LastAgrees r (Some v)
     pub post : PostAgrees r (Some v)
 
@@ -85,15 +89,18 @@ module _ (plan : List Area) (s : DivisionRows) where
       (Decides-and _ _ (Decides-or _ _ (none_sent _) (itself _)) (post_decides v v.post))))))))
 
   -- ---- a turn
-  pub open_decides : (v : Vehicle) (t : Turn) (ended : Option ℕ) → Decides (open_fits v t ended) (OpenAgrees v t.order t ended)
+  pub open_decides : (v : Vehicle) (t : Turn) (ended : Option ℕ)
+      → Decides (open_fits v t ended) (OpenAgrees v t.order t ended)
   open_decides v t None = three _ _ _ (Decides-eqb _ _) (Decides-eqb _ _) (itself _)
   open_decides v t (Some at) = unless _ _ (Decides-eqb _ _) (idle _)
 
-  in_turn_decides : (t : Turn) (v : Option Vehicle) → Decides (is_in_turn t v) (TurnAgrees v t.order (Some t))
+  in_turn_decides : (t : Turn) (v : Option Vehicle)
+      → Decides (is_in_turn t v) (TurnAgrees v t.order (Some t))
   in_turn_decides t None = (λ h. false≢true h, λ h. absurd h)
   in_turn_decides t (Some v) = three _ _ _ (at_most _ _) (at_most _ _) (open_decides v t t.ended)
 
-  pub as_assigned_decides : (t : Turn) (a : Option Assignment) → Decides (is_as_assigned t a) (SameIncident a (Some t))
+  pub as_assigned_decides : (t : Turn) (a : Option Assignment)
+      → Decides (is_as_assigned t a) (SameIncident a (Some t))
   as_assigned_decides t None = (λ h. tt, λ h. refl)
   as_assigned_decides t (Some a) = unless _ _ (Decides-eqb _ _) (Decides-eqb _ _)
 
@@ -101,7 +108,8 @@ module _ (plan : List Area) (s : DivisionRows) where
   active_decides None = (λ h. false≢true h, λ h. absurd h)
   active_decides (Some i) = itself _
 
-  pub over_decides : {B : Type 0} (ended : Option ℕ) (b : Bool) → Decides b B → Decides (is_some ended || b) (ended ≡ None → B)
+  pub over_decides : {B : Type 0} (ended : Option ℕ) (b : Bool) → Decides b B
+      → Decides (is_some ended || b) (ended ≡ None → B)
   over_decides None b d = (λ h e. d.0 h, λ f. d.1 (f refl))
   over_decides (Some at) b d = (λ h e. cc, λ f. refl)
 
@@ -118,7 +126,8 @@ module _ (plan : List Area) (s : DivisionRows) where
       (Decides-and _ _ (itself _) (Decides-and _ _ (in_turn_decides t _) (Decides-and _ _ (as_assigned_decides t _) (over_decides t.ended _ (active_decides _)))))
 
   -- ---- a report
-  pub numbered_decides : (x : Report) (v : Option Vehicle) → Decides (is_numbered x v) (ReportAgrees v x.number (Some x))
+  pub numbered_decides : (x : Report) (v : Option Vehicle)
+      → Decides (is_numbered x v) (ReportAgrees v x.number (Some x))
   numbered_decides x None = (λ h. false≢true h, λ h. absurd h)
   numbered_decides x (Some v) = Decides-and _ _ (at_most _ _) (at_most _ _)
 
@@ -126,7 +135,8 @@ module _ (plan : List Area) (s : DivisionRows) where
     pub planned : has_division plan x.division ≡ true
     pub numbered : ReportAgrees (vehicle_at k.0 s) k.1 (Some x)
 
-  pub report_decides : (x : Report) → Decides (report_fits plan s x) (ReportFits (x.callsign, x.number) x)
+  pub report_decides : (x : Report)
+      → Decides (report_fits plan s x) (ReportFits (x.callsign, x.number) x)
   report_decides x = Decides-like _ (λ h. record { planned = h.0; numbered = h.1 }) (λ h. (h.planned, h.numbered)) (Decides-and _ _ (itself _) (numbered_decides x _))
 
   -- ---- a call and an incident
@@ -137,9 +147,11 @@ module _ (plan : List Area) (s : DivisionRows) where
   pub call_decides : (c : Call) → Decides (call_fits s c) (CallAgrees r (Some c))
   call_decides c = of_decides c _
 
-  given_decides : (i : Incident) (d : Option Division) → Decides (is_given i d) ((1 ≤ i.number) × IsGiven i.number d)
+  given_decides : (i : Incident) (d : Option Division)
+      → Decides (is_given i d) ((1 ≤ i.number) × IsGiven i.number d)
   given_decides i None = (λ h. absurd (false≢true h), λ h. absurd h.1)
   given_decides i (Some d) = Decides-and _ _ (at_most _ _) (at_most _ _)
 
-  pub incident_decides : (i : Incident) → Decides (incident_fits s i) ((1 ≤ i.number) × IsGiven i.number (division_at i.division s))
+  pub incident_decides : (i : Incident)
+      → Decides (incident_fits s i) ((1 ≤ i.number) × IsGiven i.number (division_at i.division s))
   incident_decides i = given_decides i _

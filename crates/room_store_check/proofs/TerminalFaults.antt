@@ -38,7 +38,8 @@ use Rattle.room_store_check.proofs.RowFaults.{absent}
 use Rattle.room_store_check.proofs.TerminalLaws.{apart_decides, terminals_decide}
 
 -- ---- a crew's terminal
-pub none_told : (r : Room) (ts : List Terminal) (o : Option TerminalFault) (none : Bool) → is_some o ≡ not none → TellsOf r ts o → Decides none (AreTerminals r ts)
+pub none_told : (r : Room) (ts : List Terminal) (o : Option TerminalFault) (none : Bool)
+    → is_some o ≡ not none → TellsOf r ts o → Decides none (AreTerminals r ts)
 none_told r ts None true e h = (λ q. h, λ w. refl)
 none_told r ts None false e h = absurd (false≢true e)
 none_told r ts (Some x) true e h = absurd (false≢true (sym e))
@@ -54,7 +55,8 @@ crew_there c (t ∷ ts) h = (elim (is_crew c t.who) as (λ (b : Bool). is_crew c
   | false ↦ λ q any. behind (Crew c) t ts (crew_there c ts any)
 ]) refl h
 
-has_it : (c : Callsign) (ts : List Terminal) (t : Terminal) → Among t ts → t.who ≡ Crew c → has_crew c ts ≡ true
+has_it : (c : Callsign) (ts : List Terminal) (t : Terminal) → Among t ts → t.who ≡ Crew c
+    → has_crew c ts ≡ true
 has_it c [] t there is = absurd there
 has_it c (x ∷ xs) t (inl same) is = ap (λ b. b || has_crew c xs) (ap (λ (u : Terminal). is_crew c u.who) (sym same) ∙ ap (is_crew c) is ∙ its_crew c)
 has_it c (x ∷ xs) t (inr later) is = or_right (is_crew c x.who) _ (has_it c xs t later is)
@@ -74,24 +76,29 @@ abbrev Searched : List Terminal → Option TerminalFault → Type 0
 Searched ts None = AreApart ts
 Searched ts (Some x) = IsTwice ts x
 
-later_twice : (t : Terminal) (ts : List Terminal) (x : TerminalFault) → IsTwice ts x → IsTwice (t ∷ ts) x
+later_twice : (t : Terminal) (ts : List Terminal) (x : TerminalFault) → IsTwice ts x
+    → IsTwice (t ∷ ts) x
 later_twice t ts (wrong.TwoCrews c) h = inr h
 later_twice t ts wrong.Token h = h
 later_twice t ts (wrong.NoCrew c) h = h
 later_twice t ts (wrong.Crew c) h = h
 later_twice t ts (wrong.Desk d) h = h
 
-searched_later : (t : Terminal) (ts : List Terminal) → ((c : Callsign) → is_crew c t.who ≡ true → has_crew c ts ≡ false) → (o : Option TerminalFault) → Searched ts o → Searched (t ∷ ts) o
+searched_later : (t : Terminal) (ts : List Terminal)
+    → ((c : Callsign) → is_crew c t.who ≡ true → has_crew c ts ≡ false)
+    → (o : Option TerminalFault) → Searched ts o → Searched (t ∷ ts) o
 searched_later t ts alone None h = (alone, h)
 searched_later t ts alone (Some x) h = later_twice t ts x h
 
-alone : (c : Callsign) (t : Terminal) (ts : List Terminal) → t.who ≡ Crew c → has_crew c ts ≡ false → (k : Callsign) → is_crew k t.who ≡ true → has_crew k ts ≡ false
+alone : (c : Callsign) (t : Terminal) (ts : List Terminal) → t.who ≡ Crew c → has_crew c ts ≡ false
+    → (k : Callsign) → is_crew k t.who ≡ true → has_crew k ts ≡ false
 alone c t ts is none k e =
     let its = who_is k t.who e in
     let same : c ≡ k = cc in
     subst (λ a. has_crew a ts ≡ false) same none
 
-first_searched : (t : Terminal) (ts : List Terminal) (w : Who) → t.who ≡ w → (o : Option TerminalFault) → Searched ts o → Searched (t ∷ ts) (option_or (crew_again w ts) o)
+first_searched : (t : Terminal) (ts : List Terminal) (w : Who) → t.who ≡ w
+    → (o : Option TerminalFault) → Searched ts o → Searched (t ∷ ts) (option_or (crew_again w ts) o)
 first_searched t ts (Crew c) is o h = (elim (has_crew c ts) as (λ (b : Bool). has_crew c ts ≡ b → Searched (t ∷ ts) (option_or (cond (not b) None (Some (wrong.TwoCrews c))) o)) [
   | true ↦ λ q. inl (is, crew_there c ts q)
   | false ↦ λ q. searched_later t ts (alone c t ts is q) o h
@@ -104,7 +111,8 @@ searched [] = tt
 searched (t ∷ ts) = first_searched t ts t.who refl (second_crew ts) (searched ts)
 
 -- ---- a vehicle is there
-there_at : (xs : List Vehicle) (x : Vehicle) → Among x xs → is_some (row_at callsign_cmp vehicle_key xs x.callsign) ≡ true
+there_at : (xs : List Vehicle) (x : Vehicle) → Among x xs
+    → is_some (row_at callsign_cmp vehicle_key xs x.callsign) ≡ true
 there_at [] x there = absurd there
 there_at (y ∷ ys) x (inl same) =
     let tied : callsign_cmp x.callsign y.callsign ≡ Equal = subst (λ (u : Vehicle). callsign_cmp x.callsign u.callsign ≡ Equal) same (tied_itself callsigns_total x.callsign) in
@@ -114,14 +122,19 @@ there_at (y ∷ ys) x (inr later) = (elim (is_eq (callsign_cmp x.callsign y.call
   | false ↦ there_at ys x later
 ])
 
-pub unordered : (r : Room) (ts : List Terminal) → ¬ IsKeyed token_cmp terminal_key ts → TellsOf r ts (Some wrong.Token)
+pub unordered : (r : Room) (ts : List Terminal) → ¬ IsKeyed token_cmp terminal_key ts
+    → TellsOf r ts (Some wrong.Token)
 unordered r ts apart = (apart, λ a. apart a.keyed)
 
-tells : (r : Room) (ts : List Terminal) (fits : Bool) (o : Option TerminalFault) → Decides fits (AreTerminals r ts) → Finds fits (IsMisfit r ts) o → TellsOf r ts o
+tells : (r : Room) (ts : List Terminal) (fits : Bool) (o : Option TerminalFault)
+    → Decides fits (AreTerminals r ts) → Finds fits (IsMisfit r ts) o → TellsOf r ts o
 tells r ts fits None d h = d.0 h.told
 tells r ts fits (Some x) d h = (h.told.1, not_so fits d h.told.0)
 
-module _ (plan : List Area) (s : DivisionRows) (ts : List Terminal) (crews : BTreeSet Callsign) (in_order : IsKeyed token_cmp terminal_key ts) (vehicles : IsKeyed callsign_cmp vehicle_key s.vehicles) (of_terminals : IsFromIterResult callsign_cmp (crews_of ts) crews) where
+module _ (plan : List Area) (s : DivisionRows) (ts : List Terminal) (crews : BTreeSet Callsign)
+    (in_order : IsKeyed token_cmp terminal_key ts)
+    (vehicles : IsKeyed callsign_cmp vehicle_key s.vehicles)
+    (of_terminals : IsFromIterResult callsign_cmp (crews_of ts) crews) where
   abbrev Misfit : TerminalFault → Type 0
   Misfit = IsMisfit (room_of plan s) ts
 
@@ -148,7 +161,8 @@ module _ (plan : List Area) (s : DivisionRows) (ts : List Terminal) (crews : BTr
   crewless : (c : Callsign) → contains callsign_cmp crews c ≡ false → ¬ HasTerminal (Crew c) ts
   crewless c fails = no_crew c ts (sym (crew_told c ts) ∙ sym (of_terminals.0 c) ∙ fails)
 
-  subject_found : (t : Terminal) → Among t ts → (w : Who) → t.who ≡ w → Finds (has_subject plan s w) Misfit (subject_fault plan s w)
+  subject_found : (t : Terminal) → Among t ts → (w : Who) → t.who ≡ w
+      → Finds (has_subject plan s w) Misfit (subject_fault plan s w)
   subject_found t there (Crew c) is = find_unless Misfit _ _ (λ fails. (record { terminal = t; there = there; is = is }, absent _ fails))
   subject_found t there (Desk d) is = find_unless Misfit _ _ (λ fails. (record { terminal = t; there = there; is = is }, fails))
   subject_found t there (Position p) is = record { told = refl }

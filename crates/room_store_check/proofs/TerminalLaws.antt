@@ -26,7 +26,10 @@ use Rattle.room_store_check.specs.Crews.{crews_fit, crews_of, has_subject}
 use Rattle.room_store_check.proofs.Agreements.{each, told}
 use Rattle.room_store_check.proofs.CrewLaws.{AreApart, apart_from_distinct, apart_from_one, crew_found, crew_there, crew_told, distinct_from_apart, one_crew}
 
-module _ (plan : List Area) (s : DivisionRows) (ts : List Terminal) (crews : BTreeSet Callsign) (in_order : IsKeyed token_cmp terminal_key ts) (vehicles : IsKeyed callsign_cmp vehicle_key s.vehicles) (of_terminals : IsFromIterResult callsign_cmp (crews_of ts) crews) where
+module _ (plan : List Area) (s : DivisionRows) (ts : List Terminal) (crews : BTreeSet Callsign)
+    (in_order : IsKeyed token_cmp terminal_key ts)
+    (vehicles : IsKeyed callsign_cmp vehicle_key s.vehicles)
+    (of_terminals : IsFromIterResult callsign_cmp (crews_of ts) crews) where
   -- what the tests tell
   record Fits : Type 0 where
     apart : AreApart ts
@@ -59,16 +62,20 @@ module _ (plan : List Area) (s : DivisionRows) (ts : List Terminal) (crews : BTr
     desks = λ k d e. rw e at (f.subjects k);
   }
 
-  subject_of : AreTerminals (room_of plan s) ts → (k : Token) (w : Who) → terminal_at k ts ≡ Some (record { token = k; who = w }) → has_subject plan s w ≡ true
+  subject_of : AreTerminals (room_of plan s) ts → (k : Token) (w : Who)
+      → terminal_at k ts ≡ Some (record { token = k; who = w }) → has_subject plan s w ≡ true
   subject_of a k (Crew c) e = a.crews k c e
   subject_of a k (Desk d) e = a.desks k d e
   subject_of a k (Position p) e = refl
 
-  subject_at : AreTerminals (room_of plan s) ts → (k : Token) (o : Option Terminal) → terminal_at k ts ≡ o → IfSome o (λ t. t.token ≡ k) → IfSome o (λ t. has_subject plan s t.who ≡ true)
+  subject_at : AreTerminals (room_of plan s) ts → (k : Token) (o : Option Terminal)
+      → terminal_at k ts ≡ o → IfSome o (λ t. t.token ≡ k)
+      → IfSome o (λ t. has_subject plan s t.who ≡ true)
   subject_at a k None e named = tt
   subject_at a k (Some t) e named = subject_of a k t.who (e ∙ ap (λ n. Some (record { token = n; who = t.who })) named)
 
-  crewed_at : AreTerminals (room_of plan s) ts → (c : Callsign) (o : Option Vehicle) → vehicle_at c s ≡ o → IfSome o (λ v. contains callsign_cmp crews c ≡ true)
+  crewed_at : AreTerminals (room_of plan s) ts → (c : Callsign) (o : Option Vehicle)
+      → vehicle_at c s ≡ o → IfSome o (λ v. contains callsign_cmp crews c ≡ true)
   crewed_at a c None e = tt
   crewed_at a c (Some v) e =
       let found = a.has_crew c (ap is_some e) in

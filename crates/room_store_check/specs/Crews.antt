@@ -1,4 +1,5 @@
--- The crews among terminals, and whether a terminal's subject is there, as tests; and what a search tells of them.
+-- The crews among terminals, and whether a terminal's subject is there, as tests; and what a search
+-- tells of them.
 use Rattle.std.specs.BTreeSet.{BTreeSet, btree_set_len, contains}
 use Rattle.std.specs.List.{filter_map, list_all, list_any}
 use Rattle.std.specs.Option.{option_or}
@@ -63,7 +64,8 @@ subject_fault plan s (Crew c) = unless (has_vehicle s c) (wrong.Crew c)
 subject_fault plan s (Desk d) = unless (has_division plan d) (wrong.Desk d)
 subject_fault plan s (Position p) = None
 
-abbrev pub terminals_fault : List Area → DivisionRows → List Terminal → BTreeSet Callsign → Option TerminalFault
+abbrev pub terminals_fault : List Area → DivisionRows → List Terminal → BTreeSet Callsign
+    → Option TerminalFault
 terminals_fault plan s ts crews = option_or (option_or
     (two_crews ts crews)
     (first_of (uncrewed crews) s.vehicles))

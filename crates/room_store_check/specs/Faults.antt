@@ -75,7 +75,8 @@ vehicle_fault plan s v =
     (unless (has_post s v v.post) vehicle.Post)
 
 abbrev pub vehicle_disagreement : List Area → DivisionRows → Vehicle → Option Disagreement
-vehicle_disagreement plan s v = option_map (wrong.Vehicle v.callsign v.status) (vehicle_fault plan s v)
+vehicle_disagreement plan s v =
+    option_map (wrong.Vehicle v.callsign v.status) (vehicle_fault plan s v)
 
 -- ---- what stands beside them
 abbrev pub loan_disagreement : DivisionRows → Loan → Option Disagreement
@@ -125,17 +126,21 @@ call_fault c (Some i) = option_or
     (unless (nat_le i.opened c.at) call.Early)
 
 abbrev pub call_disagreement : DivisionRows → Call → Option Disagreement
-call_disagreement s c = option_map (wrong.Call c.position c.serial) (call_fault c (incident_at c.division c.incident s))
+call_disagreement s c =
+    option_map (wrong.Call c.position c.serial) (call_fault c (incident_at c.division c.incident s))
 
 abbrev pub incident_disagreement : DivisionRows → Incident → Option Disagreement
-incident_disagreement s i = unless (is_given i (division_at i.division s)) (wrong.Incident i.division i.number incident.Number)
+incident_disagreement s i = unless (is_given i (division_at i.division s))
+    (wrong.Incident i.division i.number incident.Number)
 
 abbrev pub opening_fault : DivisionRows → Incident → Option Disagreement
 opening_fault s i = unless (is_opened s i) (wrong.Incident i.division i.number incident.NoCall)
 
 -- the same by what the calls tell
 abbrev pub told_fault : BTreeSet (ℕ × ℕ × ℕ) → Incident → Option Disagreement
-told_fault told i = unless (is_merged i.state || contains told_cmp told (i.division, i.number, i.opened)) (wrong.Incident i.division i.number incident.NoCall)
+told_fault told i = unless (is_merged i.state
+    || contains told_cmp told (i.division, i.number, i.opened))
+    (wrong.Incident i.division i.number incident.NoCall)
 
 -- ---- all tables, one after another
 -- divisions and points, and vehicles with what stands beside them
@@ -161,4 +166,5 @@ rows_disagreement plan s =
 
 -- what is wrong first
 abbrev pub first_disagreement : List Area → DivisionRows → Option Disagreement
-first_disagreement plan s = option_or (rows_disagreement plan s) (first_of (opening_fault s) s.incidents)
+first_disagreement plan s =
+    option_or (rows_disagreement plan s) (first_of (opening_fault s) s.incidents)

@@ -47,7 +47,9 @@ loan_fits v (Some l) = l.lender == v.home && (l.borrower == v.holder && not (v.h
 -- offered exactly where an offer says so
 abbrev pub offer_fits : List Area → Vehicle → Option Offer → Bool
 offer_fits plan v None = not (is_offered v.status)
-offer_fits plan v (Some o) = is_offered v.status && (o.lender == v.holder && (o.lender == v.home && (not (o.borrower == o.lender) && has_division plan o.borrower)))
+offer_fits plan v (Some o) = is_offered v.status
+    && (o.lender == v.holder && (o.lender == v.home
+    && (not (o.borrower == o.lender) && has_division plan o.borrower)))
 
 -- busy exactly where it is assigned
 abbrev pub assignment_fits : Vehicle → Option Assignment → Bool
@@ -61,7 +63,8 @@ is_open (Some t) = is_none t.ended
 
 -- a busy vehicle has the turn of its last order, which is open
 abbrev pub has_open_turn : DivisionRows → Vehicle → Bool
-has_open_turn s v = not (is_busy v.status) || (nat_le 1 v.last_order && is_open (turn_at v.callsign v.last_order s))
+has_open_turn s v =
+    not (is_busy v.status) || (nat_le 1 v.last_order && is_open (turn_at v.callsign v.last_order s))
 
 -- the last report is there, where there is any
 abbrev pub has_last_report : DivisionRows → Vehicle → Bool

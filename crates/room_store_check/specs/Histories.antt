@@ -23,9 +23,15 @@ has_last_number x (Some v) = x.number == v.last_report
 abbrev pub is_last : List Vehicle → Report → Bool
 is_last vehicles x = has_last_number x (row_at callsign_cmp vehicle_key vehicles x.callsign)
 
--- What the rest of a room is judged by: of turns those that are open, of reports the last of each vehicle, of calls none.
+-- What the rest of a room is judged by: of turns those that are open, of reports the last of each
+-- vehicle, of calls none.
 abbrev pub kept : DivisionRows → DivisionRows
-kept s = record s { calls = []; turns = filter (λ t. is_none t.ended) s.turns; reports = filter (is_last s.vehicles) s.reports }
+kept s = record s {
+  calls = [];
+  turns = filter (λ t. is_none t.ended) s.turns;
+  reports = filter
+      (is_last s.vehicles) s.reports;
+}
 
 -- every turn, report and call agrees with the rows that are kept
 abbrev pub histories_fit : List Area → DivisionRows → Bool
@@ -36,7 +42,8 @@ histories_fit plan s =
 
 -- the set has just what these calls tell
 abbrev pub Tell : List Call → BTreeSet (ℕ × ℕ × ℕ) → Type 0
-Tell calls told = (x : ℕ × ℕ × ℕ) → contains told_cmp told x ≡ list_any (λ c. is_eq (told_cmp x (told_of c))) calls
+Tell calls told = (x : ℕ × ℕ × ℕ)
+    → contains told_cmp told x ≡ list_any (λ c. is_eq (told_cmp x (told_of c))) calls
 
 -- what is wrong first with the rows that are kept, but for the turns, reports and calls of them
 abbrev pub kept_disagreement : List Area → DivisionRows → BTreeSet (ℕ × ℕ × ℕ) → Option Disagreement

@@ -28,7 +28,8 @@ HasTwoCrews c (t ∷ ts) = ((t.who ≡ Crew c) × HasTerminal (Crew c) ts) ⊎ H
 abbrev pub IsMisfit : Room → List Terminal → TerminalFault → Type 0
 IsMisfit r ts wrong.Token = ¬ IsKeyed token_cmp terminal_key ts
 IsMisfit r ts (wrong.TwoCrews c) = HasTwoCrews c ts
-IsMisfit r ts (wrong.NoCrew c) = (is_some (row_at callsign_cmp vehicle_key r.vehicles c) ≡ true) × ¬ HasTerminal (Crew c) ts
+IsMisfit r ts (wrong.NoCrew c) =
+    (is_some (row_at callsign_cmp vehicle_key r.vehicles c) ≡ true) × ¬ HasTerminal (Crew c) ts
 IsMisfit r ts (wrong.Crew c) = HasTerminal (Crew c) ts × IsOfNone r c
 IsMisfit r ts (wrong.Desk d) = HasTerminal (Desk d) ts × (has_division r.plan d ≡ false)
 

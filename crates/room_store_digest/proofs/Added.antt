@@ -23,7 +23,8 @@ module _ {a b c : Sha256} where
   adds_both {s = s} {t = t} one two = record { holds = λ before h. subst (Holds256 c) (append_assoc before s t) (two.holds (before ++ s) (one.holds before h)) }
 
   -- some of what is left was added
-  pub less_left : {all s t left : List ℕ} → left ≡ s ++ t → Adding a b all left → Adds b c s → Adding a c all t
+  pub less_left : {all s t left : List ℕ} → left ≡ s ++ t → Adding a b all left → Adds b c s
+      → Adding a c all t
   less_left {s = s} {t = t} is it next = record {
     done = it.done ++ s;
     parts = append_assoc it.done s t ∙ ap (λ l. it.done ++ l) (sym is) ∙ it.parts;
@@ -31,7 +32,8 @@ module _ {a b c : Sha256} where
   }
 
   -- all that is left was added
-  pub last_added : {all left s : List ℕ} → left ≡ s → Adding a b all left → Adds b c s → Adds a c all
+  pub last_added : {all left s : List ℕ} → left ≡ s → Adding a b all left → Adds b c s
+      → Adds a c all
   last_added is it next = subst (Adds a c) (ap (λ l. it.done ++ l) (sym is) ∙ it.parts) (adds_both it.added next)
 
   -- one after another

@@ -39,11 +39,13 @@ text_or_none : (o : Option (List ℕ)) → IsStored (or_null Text o)
 text_or_none None = tt
 text_or_none (Some t) = tt
 
-all_stored : {X : Type 0} (row : X → Row) → ((x : X) → AllByRecursion IsStored (row x)) → (xs : List X) → AllByRecursion (AllByRecursion IsStored) (map row xs)
+all_stored : {X : Type 0} (row : X → Row) → ((x : X) → AllByRecursion IsStored (row x))
+    → (xs : List X) → AllByRecursion (AllByRecursion IsStored) (map row xs)
 all_stored row each [] = tt
 all_stored row each (x ∷ xs) = (each x, all_stored row each xs)
 
-tables_stored : (terminals : List Terminal) (room : Room) → AllByRecursion (AllByRecursion (AllByRecursion IsStored)) (tables_of terminals room)
+tables_stored : (terminals : List Terminal) (room : Room)
+    → AllByRecursion (AllByRecursion (AllByRecursion IsStored)) (tables_of terminals room)
 tables_stored terminals room = (
   all_stored area_row (λ x. (tt, (tt, (tt, (tt, (tt, (tt, tt))))))) (numbered 1 room.plan),
   (
@@ -85,7 +87,8 @@ tables_stored terminals room = (
 -- ---- rows that are the same
 
 -- lists of rows are the same where they are written the same
-written : {X K : Type 0} {order : K → K → Ordering} {key : X → K} {row : X → Row} {places : List ℕ} → IsFaithful order key row places → (xs ys : List X) → map row xs ≡ map row ys → xs ≡ ys
+written : {X K : Type 0} {order : K → K → Ordering} {key : X → K} {row : X → Row} {places : List ℕ}
+    → IsFaithful order key row places → (xs ys : List X) → map row xs ≡ map row ys → xs ≡ ys
 written is [] [] e = refl
 written is [] (y ∷ ys) e = absurd (cc)
 written is (x ∷ xs) [] e = absurd (cc)
@@ -95,12 +98,14 @@ written {row = row} is (x ∷ xs) (y ∷ ys) e =
     let first = sym (is.read_back x) ∙ ap is.read head ∙ is.read_back y in
     λ i. first i ∷ written is xs ys tail i
 
-module _ (terminals others : List Terminal) (room another : Room) (s t : List ℕ) (e : digest_text terminals room ++ s ≡ digest_text others another ++ t) where
+module _ (terminals others : List Terminal) (room another : Room) (s t : List ℕ)
+    (e : digest_text terminals room ++ s ≡ digest_text others another ++ t) where
   same_tables : (tables_of terminals room ≡ tables_of others another) × (s ≡ t)
   unfolding digest_text
   same_tables = each_told (AllByRecursion (AllByRecursion IsStored)) table_text table_told (tables_of terminals room) (tables_of others another) s t (tables_stored terminals room) (tables_stored others another) refl e
 
-  at : (k : ℕ) → slice_index_or (tables_of terminals room) k [] ≡ slice_index_or (tables_of others another) k []
+  at : (k : ℕ) → slice_index_or (tables_of terminals room) k []
+      ≡ slice_index_or (tables_of others another) k []
   at k = ap (λ tables. slice_index_or tables k []) same_tables.0
 
   pub same_terminals : terminals ≡ others
@@ -123,7 +128,8 @@ module _ (terminals others : List Terminal) (room another : Room) (s t : List �
 
 -- ---- the texts of two rooms
 
-module _ (terminals others : List Terminal) (room another : Room) (e : digest_text terminals room ≡ digest_text others another) where
+module _ (terminals others : List Terminal) (room another : Room)
+    (e : digest_text terminals room ≡ digest_text others another) where
   ended : digest_text terminals room ++ [] ≡ digest_text others another ++ []
   ended = ap (λ l. l ++ []) e
 

@@ -19,7 +19,9 @@ use Rattle.room_store_digest.specs.Texts.{table_text}
 use Rattle.room_store_digest.proofs.Added.{Adding, all_left, less_left, none_left}
 
 -- what a text shows is the table that it reads
-pub shown_is : (text : List ℕ) (old new : State) (shown rows : List Row) → old.now.schema ≡ room_schema → Shown text [] old new shown → ReadsTable text old.now.trees rows → shown ≡ rows
+pub shown_is : (text : List ℕ) (old new : State) (shown rows : List Row)
+    → old.now.schema ≡ room_schema → Shown text [] old new shown
+    → ReadsTable text old.now.trees rows → shown ≡ rows
 shown_is text old new shown rows has shows it =
     let every : Row → Bool = λ r. true in
     selected room_schema text it.tree it.key it.more [] it.selects old new [] shown has shows rows every it.stands (λ r. refl) ∙ filter_all every rows (all_of _ (λ r. refl) rows)
@@ -37,16 +39,19 @@ module _ {S : Type 0} {g : Ghosts S} {a b : Held S} {reads : ℕ} where
       let early : HasCleanDisk (state g a) = omega (arith, it.survives.clean) in
       ap (λ db. db.schema) (it.ok clean).0.now_is ∙ room early
 
-  pub trees_stay : SoFar g a reads b → HasCleanDisk (state g b) → (state g b).now.trees ≡ (state g a).now.trees
+  pub trees_stay : SoFar g a reads b → HasCleanDisk (state g b)
+      → (state g b).now.trees ≡ (state g a).now.trees
   trees_stay (inl none) clean = ap (λ h. (state g h).now.trees) none.1
   trees_stay (inr it) clean = ap (λ db. db.trees) (it.ok clean).0.now_is
 
-  pub read_through : {T E : Type 0} {x : T} → 0 < reads → SoFar g a reads b → ReadsOnly {T = T} {E = E} g a b (Ok x)
+  pub read_through : {T E : Type 0} {x : T} → 0 < reads → SoFar g a reads b
+      → ReadsOnly {T = T} {E = E} g a b (Ok x)
   read_through some (inl none) = absurd (omega arith)
   read_through some (inr it) = told it
 
 module _ {S : Type 0} {g : Ghosts S} {a b c : Held S} {reads : ℕ} where
-  pub one_more : {T E : Type 0} {x : T} → SoFar g a reads b → ReadsOnly {T = T} {E = E} g b c (Ok x) → SoFar g a (reads + 1) c
+  pub one_more : {T E : Type 0} {x : T} → SoFar g a reads b
+      → ReadsOnly {T = T} {E = E} g b c (Ok x) → SoFar g a (reads + 1) c
   one_more (inl none) next = inr (subst (λ h. Looked g h c) none.1 (looked next))
   one_more (inr it) next = inr (and it next)
 
@@ -57,10 +62,14 @@ abbrev pub Left : List (List ℕ) → Trees → Sha256 → Sha256 → List ℕ �
 Left texts trees old now all = (tables : List (List Row)) × ReadEach texts trees tables × Adding old now all (flat_map table_text tables)
 
 module _ (trees : Trees) where
-  pub left_all : (a : Sha256) (texts : List (List ℕ)) (tables : List (List Row)) → ReadEach texts trees tables → Left texts trees a a (flat_map table_text tables)
+  pub left_all : (a : Sha256) (texts : List (List ℕ)) (tables : List (List Row))
+      → ReadEach texts trees tables → Left texts trees a a (flat_map table_text tables)
   left_all a texts tables h = (tables, h, all_left)
 
-  pub left_next : {a b c : Sha256} {all : List ℕ} (text : List ℕ) (texts : List (List ℕ)) → Left (text ∷ texts) trees a b all → ((rows : List Row) → ReadsTable text trees rows → Adds b c (table_text rows)) → Left texts trees a c all
+  pub left_next : {a b c : Sha256} {all : List ℕ} (text : List ℕ) (texts : List (List ℕ))
+      → Left (text ∷ texts) trees a b all
+      → ((rows : List Row) → ReadsTable text trees rows → Adds b c (table_text rows))
+      → Left texts trees a c all
   left_next text texts ([], reads, adding) next = absurd reads
   left_next text texts (rows ∷ tables, reads, adding) next = (tables, reads.1, less_left refl adding (next rows reads.0))
 

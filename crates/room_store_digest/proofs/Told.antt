@@ -26,13 +26,15 @@ module _ (n m : ℕ) (s t : List ℕ) (e : number_text n ++ s ≡ number_text m 
       let first : n ≡ 128 + m % 128 = cc in
       omega arith
 
-  both_go_on : 128 ≤ n → 128 ≤ m → (n % 128 ≡ m % 128) × (number_text (n / 128) ++ s ≡ number_text (m / 128) ++ t)
+  both_go_on : 128 ≤ n → 128 ≤ m → (n % 128 ≡ m % 128)
+      × (number_text (n / 128) ++ s ≡ number_text (m / 128) ++ t)
   both_go_on f g =
       let same : (128 + n % 128) ∷ (number_text (n / 128) ++ s) ≡ (128 + m % 128) ∷ (number_text (m / 128) ++ t) = ap (λ l. l ++ s) (sym (number_goes_on n f)) ∙ e ∙ ap (λ l. l ++ t) (number_goes_on m g) in
       let first : 128 + n % 128 ≡ 128 + m % 128 = cc in
       (omega arith, cc)
 
-number_from : (most n m : ℕ) (s t : List ℕ) → n ≤ most → number_text n ++ s ≡ number_text m ++ t → (n ≡ m) × (s ≡ t)
+number_from : (most n m : ℕ) (s t : List ℕ) → n ≤ most → number_text n ++ s ≡ number_text m ++ t
+    → (n ≡ m) × (s ≡ t)
 number_from zero n m s t h e = elim (cases_lt m 128) [
   | inl g ↦ both_end n m s t e (omega arith) g
   | inr g ↦ absurd (one_ends n m s t e (omega arith) g)
@@ -48,13 +50,15 @@ number_from (suc most) n m s t h e = elim (cases_lt n 128) [
   ]
 ]
 
-pub number_told : (n m : ℕ) (s t : List ℕ) → number_text n ++ s ≡ number_text m ++ t → (n ≡ m) × (s ≡ t)
+pub number_told : (n m : ℕ) (s t : List ℕ) → number_text n ++ s ≡ number_text m ++ t
+    → (n ≡ m) × (s ≡ t)
 number_told n m s t e = number_from n n m s t (omega arith) e
 
 -- ---- lists
 
 module _ {X : Type 0} (Is : X → Type 0) (text : X → List ℕ) (told : IsTold Is text) where
-  pub each_told : (xs ys : List X) (s t : List ℕ) → AllByRecursion Is xs → AllByRecursion Is ys → length xs ≡ length ys → flat_map text xs ++ s ≡ flat_map text ys ++ t → (xs ≡ ys) × (s ≡ t)
+  pub each_told : (xs ys : List X) (s t : List ℕ) → AllByRecursion Is xs → AllByRecursion Is ys
+      → length xs ≡ length ys → flat_map text xs ++ s ≡ flat_map text ys ++ t → (xs ≡ ys) × (s ≡ t)
   each_told [] [] s t f g same e = (refl, e)
   each_told [] (y ∷ ys) s t f g same e = absurd (omega (arith, same))
   each_told (x ∷ xs) [] s t f g same e = absurd (omega (arith, same))
@@ -93,7 +97,8 @@ bytes_told (x ∷ a) (y ∷ b) s t same e =
     let rest = bytes_told a b s t (omega (arith, same)) tail in
     (λ i. head i ∷ rest.0 i, rest.1)
 
-sized_told : (a b s t : List ℕ) → (number_text (length a) ++ a) ++ s ≡ (number_text (length b) ++ b) ++ t → (a ≡ b) × (s ≡ t)
+sized_told : (a b s t : List ℕ) → (number_text (length a) ++ a)
+    ++ s ≡ (number_text (length b) ++ b) ++ t → (a ≡ b) × (s ≡ t)
 sized_told a b s t e =
     let first = number_told (length a) (length b) (a ++ s) (b ++ t) (sym (append_assoc (number_text (length a)) a s) ∙ e ∙ append_assoc (number_text (length b)) b t) in
     bytes_told a b s t first.0 first.1

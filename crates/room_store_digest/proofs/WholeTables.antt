@@ -46,8 +46,11 @@ pub whole_known : AllByRecursion IsKnown (map (λ text. text.now) WHOLE_TABLES)
 whole_known = (all_areas_means.plain, (all_terminals_means.plain, (all_divisions_means.plain, (all_incidents_means.plain, (all_calls_means.plain, (all_vehicles_means.plain, (all_turns_means.plain, (all_assignments_means.plain, (all_points_means.plain, (all_loans_means.plain, (all_reports_means.plain, (all_offers_means.plain, tt))))))))))))
 
 -- the text of a whole table reads what the table stands for
-reads_whole : {X K : Type 0} {order : K → K → Ordering} {key : X → K} {row : X → Row} {table : Table} {rows : House → Room → List X} → IsHeld order key row table rows → (text : List ℕ) → Selects room_schema text table.tree (places table) table.primary []
-    → (trees : Trees) (xs : List X) → StandsFor trees table row xs → ReadsTable text trees (map row xs)
+reads_whole : {X K : Type 0} {order : K → K → Ordering} {key : X → K} {row : X → Row}
+    {table : Table} {rows : House → Room → List X} → IsHeld order key row table rows
+    → (text : List ℕ) → Selects room_schema text table.tree (places table) table.primary []
+    → (trees : Trees) (xs : List X) → StandsFor trees table row xs
+    → ReadsTable text trees (map row xs)
 reads_whole {row = row} {table = table} is text selects trees xs stands = record {
   tree = table.tree;
   key = table.primary;
@@ -57,7 +60,8 @@ reads_whole {row = row} {table = table} is text selects trees xs stands = record
 }
 
 -- the texts of all tables read what they stand for
-pub whole_read : (trees : Trees) (house : House) (room : Room) → Stands trees house room → ReadEach (map (λ text. text.now) WHOLE_TABLES) trees (tables_of house.terminals room)
+pub whole_read : (trees : Trees) (house : House) (room : Room) → Stands trees house room
+    → ReadEach (map (λ text. text.now) WHOLE_TABLES) trees (tables_of house.terminals room)
 whole_read trees house room h = (
   reads_whole areas_held ALL_AREAS.now all_areas_means trees (numbered 1 room.plan) h.areas,
   (

@@ -25,4 +25,5 @@ abbrev pub ReadEach : List (List ℕ) → Trees → List (List Row) → Type 0
 ReadEach [] trees [] = ⊤
 ReadEach [] trees (rows ∷ tables) = ⊥
 ReadEach (text ∷ texts) trees [] = ⊥
-ReadEach (text ∷ texts) trees (rows ∷ tables) = ReadsTable text trees rows × ReadEach texts trees tables
+ReadEach (text ∷ texts) trees (rows ∷ tables) =
+    ReadsTable text trees rows × ReadEach texts trees tables

@@ -20,7 +20,8 @@ use Rattle.room_tables_rows.specs.Terminals.{terminal_row}
 use Rattle.room_tables_rows.specs.Turns.{turn_row}
 use Rattle.room_tables_rows.specs.Vehicles.{vehicle_row}
 
--- a number in groups of seven bits, so many at most before the last; each but the last has 128 added
+-- a number in groups of seven bits, so many at most before the last; each but the last has 128
+-- added
 abbrev pub groups : ℕ → ℕ → List ℕ
 groups zero n = n ∷ []
 groups (suc more) n = if nat_le 128 n then (128 + n % 128) ∷ groups more (n / 128) else n ∷ []
@@ -29,7 +30,8 @@ groups (suc more) n = if nat_le 128 n then (128 + n % 128) ∷ groups more (n / 
 unfoldable pub number_text : ℕ → List ℕ
 number_text n = groups n n
 
--- a value: its kind, and what it holds; of a text and a blob the length stands before them. No row of a room holds a real number.
+-- a value: its kind, and what it holds; of a text and a blob the length stands before them. No row
+-- of a room holds a real number.
 abbrev pub value_text : Value → List ℕ
 value_text Null = 0 ∷ []
 value_text (Int (pos n)) = 1 ∷ number_text n

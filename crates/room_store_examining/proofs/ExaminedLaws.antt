@@ -21,7 +21,9 @@ use Rattle.room_store_opening.specs.declared.taking.Tables.TheVariants.{Unindexe
 use Rattle.room_store_judging.specs.declared.faults.TakeFault.{TakeFault}
 use Rattle.room_store_judging.specs.declared.faults.TakeFault.TheVariants.{Memory, NotARoom, Storage}
 
-pub weighed : (now : Database) (plan : Layout) (rows : DivisionRows) (terminals : List Terminal) → Stands now.trees (house_of plan terminals) (room_of plan.areas rows) → (e : Wrong) → Weighs plan.areas rows terminals e → Explains now e
+pub weighed : (now : Database) (plan : Layout) (rows : DivisionRows) (terminals : List Terminal)
+    → Stands now.trees (house_of plan terminals) (room_of plan.areas rows) → (e : Wrong)
+    → Weighs plan.areas rows terminals e → Explains now e
 weighed now plan rows terminals stands (wrong.Rows x) h = (plan, record { rows = rows; terminals = terminals; stands = stands; says = h })
 weighed now plan rows terminals stands (wrong.Terminals x) h = (plan, record { rows = rows; terminals = terminals; stands = stands; says = h })
 weighed now plan rows terminals stands wrong.Memory h = tt
@@ -30,7 +32,8 @@ weighed now plan rows terminals stands wrong.OldRoom h = absurd h
 weighed now plan rows terminals stands wrong.Tables h = absurd h
 weighed now plan rows terminals stands wrong.NoPlan h = absurd h
 
-pub read_fault : (now : Database) (e : TakeFault) → (e ≡ NotARoom → ¬ HoldsRoom now.trees) → Explains now (wrong_of e)
+pub read_fault : (now : Database) (e : TakeFault) → (e ≡ NotARoom → ¬ HoldsRoom now.trees)
+    → Explains now (wrong_of e)
 read_fault now NotARoom none = none refl
 read_fault now Memory none = tt
 read_fault now Storage none = tt
@@ -40,6 +43,8 @@ failed now fault.Memory = tt
 failed now fault.Storage = tt
 
 -- tables of this version stand for what a room's tables do
-pub stands_new : (tables : Tables) (trees : Trees) (house : House) (room : Room) → (tables ≡ Whole) ⊎ (tables ≡ Unindexed) → StandsBy tables trees house room → Stands trees house room
+pub stands_new : (tables : Tables) (trees : Trees) (house : House) (room : Room)
+    → (tables ≡ Whole) ⊎ (tables ≡ Unindexed) → StandsBy tables trees house room
+    → Stands trees house room
 stands_new tables trees house room (inl is) h = subst (λ t. StandsBy t trees house room) is h
 stands_new tables trees house room (inr is) h = subst (λ t. StandsBy t trees house room) is h

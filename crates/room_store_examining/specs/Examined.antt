@@ -33,7 +33,8 @@ wrong_of fault.Memory = wrong.Memory
 wrong_of fault.Storage = wrong.Storage
 
 -- The tables stand for this plan, and for some rows and terminals of which this holds.
-pub record HoldsRows (trees : Trees) (plan : Layout) (Says : DivisionRows → List Terminal → Type 0) : Type 0 where
+pub record HoldsRows (trees : Trees) (plan : Layout)
+    (Says : DivisionRows → List Terminal → Type 0) : Type 0 where
   pub rows : DivisionRows
   pub terminals : List Terminal
   pub stands : Stands trees (house_of plan terminals) (room_of plan.areas rows)
@@ -56,7 +57,8 @@ DisagreeIn plan rows x = IsWrong (room_of plan rows) x × (first_disagreement pl
 
 -- they are a well-formed room, and the terminals don't fit it, for this
 abbrev pub MisfitFor : List Area → DivisionRows → List Terminal → TerminalFault → Type 0
-MisfitFor plan rows terminals x = IsWellFormed (room_of plan rows) × IsMisfit (room_of plan rows) terminals x
+MisfitFor plan rows terminals x =
+    IsWellFormed (room_of plan rows) × IsMisfit (room_of plan rows) terminals x
 
 -- what is wrong with rows and terminals that were read
 abbrev pub Weighs : List Area → DivisionRows → List Terminal → Wrong → Type 0
@@ -70,7 +72,9 @@ abbrev pub Explains : Database → Wrong → Type 0
 Explains now wrong.OldRoom = IsOldRoom now
 Explains now wrong.Tables = ¬ HasTables now.schema
 Explains now wrong.NoPlan = ¬ HoldsRoom now.trees
-Explains now (wrong.Rows x) = (plan : Layout) × HoldsRows now.trees plan (λ rows terminals. DisagreeIn plan.areas rows x)
-Explains now (wrong.Terminals x) = (plan : Layout) × HoldsRows now.trees plan (λ rows terminals. MisfitFor plan.areas rows terminals x)
+Explains now (wrong.Rows x) =
+    (plan : Layout) × HoldsRows now.trees plan (λ rows terminals. DisagreeIn plan.areas rows x)
+Explains now (wrong.Terminals x) = (plan : Layout)
+    × HoldsRows now.trees plan (λ rows terminals. MisfitFor plan.areas rows terminals x)
 Explains now wrong.Memory = Unit {0}
 Explains now wrong.Storage = Unit {0}

@@ -29,13 +29,16 @@ none_ok (Ok x) P is = absurd cc
 none_ok (Err e) P is = tt
 
 -- and a fault of the database tells of no room
-pub not_told : {T : Type 0} (r : Result T TakeFault) (fault : Fault) (P : Type 0) → IsErrAnd r (λ why. why ≡ take_fault fault) → IfErr r (λ e. e ≡ NotARoom → P)
+pub not_told : {T : Type 0} (r : Result T TakeFault) (fault : Fault) (P : Type 0)
+    → IsErrAnd r (λ why. why ≡ take_fault fault) → IfErr r (λ e. e ≡ NotARoom → P)
 not_told (Ok x) fault P is = tt
 not_told (Err e) faults.Memory P is = λ none. cc
 not_told (Err e) faults.Storage P is = λ none. cc
 
 -- a room that some tables hold is the one that they were read as
-pub held_is : (trees : Trees) (plan : Layout) (terminals : List Terminal) (room : Room) → Stands trees (house_of plan terminals) room → HoldsRoom trees → IsWellFormed room × AreTerminals room terminals
+pub held_is : (trees : Trees) (plan : Layout) (terminals : List Terminal) (room : Room)
+    → Stands trees (house_of plan terminals) room → HoldsRoom trees
+    → IsWellFormed room × AreTerminals room terminals
 held_is trees plan terminals room stands h =
     let same = one_room trees (house_of h.layout h.terminals) (house_of plan terminals) h.room room h.stands stands in
     let house = one_house trees (house_of h.layout h.terminals) (house_of plan terminals) h.room room h.stands stands in
@@ -43,7 +46,9 @@ held_is trees plan terminals room stands h =
     (subst IsWellFormed same h.formed, subst (λ r. AreTerminals r terminals) same (subst (AreTerminals h.room) theirs h.fits))
 
 -- a house and rows that tables hold are the room that the tables stand for
-pub stands_with : (trees : Trees) (layout : Layout) (terminals : List Terminal) (x : DivisionRows) → HasHouse trees layout.areas layout.zone terminals → HasRows trees x → Stands trees (house_of layout terminals) (room_of layout.areas x)
+pub stands_with : (trees : Trees) (layout : Layout) (terminals : List Terminal) (x : DivisionRows)
+    → HasHouse trees layout.areas layout.zone terminals → HasRows trees x
+    → Stands trees (house_of layout terminals) (room_of layout.areas x)
 stands_with trees layout terminals x house rows = record {
   meta = house.meta;
   areas = house.areas_are;

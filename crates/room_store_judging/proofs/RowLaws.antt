@@ -1,4 +1,5 @@
--- Rows of one table after another, read in a transaction: each is read where those before went well.
+-- Rows of one table after another, read in a transaction: each is read where those before went
+-- well.
 use Rattle.std.proofs.Common.{Err, List, Ok, Result, ap, arith, refl, subst, sym, ◌∙◌, ◌≡◌}
 use Rattle.std.specs.Prelude.{OnOk}
 use Rattle.sqlite.specs.Effect.{Database}
@@ -34,35 +35,44 @@ use Rattle.room_store_judging.specs.Holding.{HasRows, ReadsNext}
 -- ---- one read: it found rows, it failed, or one before it had failed
 
 module _ {S T : Type 0} {g : Ghosts S} {a b : Held S} {before : Result (Unit {0}) Fault} where
-  pub next_found : {Is : Trees → Type 0} {x : Unit {0}} {rows : T} → before ≡ Ok x → ReadsInside {T = T} {E = Fault} g a b (Ok rows) → (HasCleanDisk (state g b) → Is (state g a).now.trees) → ReadsNext g a b before before Is
+  pub next_found : {Is : Trees → Type 0} {x : Unit {0}} {rows : T} → before ≡ Ok x
+      → ReadsInside {T = T} {E = Fault} g a b (Ok rows)
+      → (HasCleanDisk (state g b) → Is (state g a).now.trees) → ReadsNext g a b before before Is
   next_found {Is = Is} is reads found =
       subst (λ r. ReadsNext g a b r r Is) (sym is) (record { found = found; reads = told_inside _ reads; stays = tt })
 
-  pub next_failed : {Is : Trees → Type 0} {x : Unit {0}} {e : Fault} → before ≡ Ok x → ReadsInside {T = T} {E = Fault} g a b (Err e) → ReadsNext g a b before (Err e) Is
+  pub next_failed : {Is : Trees → Type 0} {x : Unit {0}} {e : Fault} → before ≡ Ok x
+      → ReadsInside {T = T} {E = Fault} g a b (Err e) → ReadsNext g a b before (Err e) Is
   next_failed {Is = Is} {e = e} is reads =
       subst (λ r. ReadsNext g a b r (Err e) Is) (sym is) (record { found = λ clean. tt; reads = fails_inside refl reads; stays = tt })
 
-  pub room_after : {x : Unit {0}} {rows : T} → before ≡ Ok x → ReadsInside {T = T} {E = Fault} g a b (Ok rows) → OnOk before (HasRoomSchema g a) → OnOk before (HasRoomSchema g b)
+  pub room_after : {x : Unit {0}} {rows : T} → before ≡ Ok x
+      → ReadsInside {T = T} {E = Fault} g a b (Ok rows) → OnOk before (HasRoomSchema g a)
+      → OnOk before (HasRoomSchema g b)
   room_after is reads room = subst (λ r. OnOk r (HasRoomSchema g b)) (sym is) (λ clean.
       let early : HasCleanDisk (state g a) = omega (arith, reads.survives.clean) in
       ap (λ (db : Database). db.schema) (reads.ok clean).0.now_is ∙ subst (λ r. OnOk r (HasRoomSchema g a)) is room early)
 
-pub next_none : {S : Type 0} {g : Ghosts S} {a : Held S} {before : Result (Unit {0}) Fault} {Is : Trees → Type 0} {e : Fault} → before ≡ Err e → ReadsNext g a a before before Is
+pub next_none : {S : Type 0} {g : Ghosts S} {a : Held S} {before : Result (Unit {0}) Fault}
+    {Is : Trees → Type 0} {e : Fault} → before ≡ Err e → ReadsNext g a a before before Is
 next_none {g = g} {a = a} {Is = Is} is =
     subst (λ r. ReadsNext g a a r r Is) (sym is) (record { found = λ clean. tt; reads = tt; stays = (refl, refl) })
 
 -- the reads so far, and what they found
-pub record ReadSoFar {S : Type 0} (g : Ghosts S) (first last : Held S) (done : Result (Unit {0}) Fault) (P : Type 0) : Type 0 where
+pub record ReadSoFar {S : Type 0} (g : Ghosts S) (first last : Held S)
+    (done : Result (Unit {0}) Fault) (P : Type 0) : Type 0 where
   pub reads : ReadsInside g first last done
   pub found : HasCleanDisk (state g last) → OnOk done P
 
 module _ {S : Type 0} {g : Ghosts S} where
-  pub first_read : {a b : Held S} {after : Result (Unit {0}) Fault} {Is : Trees → Type 0} → ReadsNext g a b (Ok tt) after Is → ReadSoFar g a b after (Is (state g a).now.trees)
+  pub first_read : {a b : Held S} {after : Result (Unit {0}) Fault} {Is : Trees → Type 0}
+      → ReadsNext g a b (Ok tt) after Is → ReadSoFar g a b after (Is (state g a).now.trees)
   first_read next = record { reads = next.reads; found = next.found }
 
   module _ {a b c : Held S} {P : Type 0} {Is : Trees → Type 0} where
     -- by what became of those before
-    one_more : (before after : Result (Unit {0}) Fault) → ReadSoFar g a b before P → ReadsNext g b c before after Is → ReadSoFar g a c after (P × Is (state g a).now.trees)
+    one_more : (before after : Result (Unit {0}) Fault) → ReadSoFar g a b before P
+        → ReadsNext g b c before after Is → ReadSoFar g a c after (P × Is (state g a).now.trees)
     one_more (Ok x) after so_far next = record {
       reads = inside_then so_far.reads after next.reads;
       found = λ clean.
@@ -74,11 +84,13 @@ module _ {S : Type 0} {g : Ghosts S} where
       found = λ clean. subst (λ r. OnOk r (P × Is (state g a).now.trees)) (sym next.stays.1) tt;
     }
 
-    pub and_read : {before after : Result (Unit {0}) Fault} → ReadSoFar g a b before P → ReadsNext g b c before after Is → ReadSoFar g a c after (P × Is (state g a).now.trees)
+    pub and_read : {before after : Result (Unit {0}) Fault} → ReadSoFar g a b before P
+        → ReadsNext g b c before after Is → ReadSoFar g a c after (P × Is (state g a).now.trees)
     and_read so_far next = one_more _ _ so_far next
 
   -- what became of them
-  pub became : {a b : Held S} {P : Type 0} {done known : Result (Unit {0}) Fault} → done ≡ known → ReadSoFar g a b done P → ReadSoFar g a b known P
+  pub became : {a b : Held S} {P : Type 0} {done known : Result (Unit {0}) Fault} → done ≡ known
+      → ReadSoFar g a b done P → ReadSoFar g a b known P
   became {a = a} {b = b} {P = P} is so_far = subst (λ r. ReadSoFar g a b r P) is so_far
 
 module _ (trees : Trees) (x : DivisionRows) (all : AreAllNumbered trees) where
@@ -86,7 +98,14 @@ module _ (trees : Trees) (x : DivisionRows) (all : AreAllNumbered trees) where
   Holds table cells rows = AreNumbered (trees table.tree) → StandsFor trees table cells rows
 
   -- what was found in the tables, one after another, are the rows
-  pub found_rows : ((((((((Holds reports_table report_row x.reports × Holds divisions_table division_row x.divisions) × Holds incidents_table incident_row x.incidents) × Holds calls_table call_row x.calls) × Holds vehicles_table vehicle_row x.vehicles) × Holds turns_table turn_row x.turns) × Holds assignments_table assignment_row x.assignments) × Holds points_table point_row x.points) × Holds loans_table loan_row x.loans) × Holds offers_table offer_row x.offers → HasRows trees x
+  pub found_rows : ((((((((Holds reports_table report_row x.reports
+      × Holds divisions_table division_row x.divisions)
+      × Holds incidents_table incident_row x.incidents) × Holds calls_table call_row x.calls)
+      × Holds vehicles_table vehicle_row x.vehicles) × Holds turns_table turn_row x.turns)
+      × Holds assignments_table assignment_row x.assignments)
+      × Holds points_table point_row x.points)
+      × Holds loans_table loan_row x.loans)
+      × Holds offers_table offer_row x.offers → HasRows trees x
   found_rows held = record {
     divisions = held.0.0.0.0.0.0.0.0.1 all.1.1.1.0;
     incidents = held.0.0.0.0.0.0.0.1 all.1.1.1.1.0;

@@ -41,14 +41,18 @@ module _ {S T E : Type 0} {g : Ghosts S} {a b : Held S} {r : Result T E} where
   pub inside_of : ReadsOnly g a b r → ReadsInside g a b r
   inside_of h = record { ok = h.ok; err = h.err; survives = h.survives }
 
-  pub outside_of : (a.in_transaction ≡ false → b.in_transaction ≡ false) → ReadsInside g a b r → ReadsOnly g a b r
+  pub outside_of : (a.in_transaction ≡ false → b.in_transaction ≡ false) → ReadsInside g a b r
+      → ReadsOnly g a b r
   outside_of mode h = record { ok = h.ok; err = h.err; mode = mode; survives = h.survives }
 
 -- it writes nothing
-pub reads_nothing : {S T E : Type 0} (g : Ghosts S) (a b : Held S) (r : Result T E) → (IsTrue (state g a).is_open → (state g a).now ≡ (state g a).committed) → ReadsOnly g a b r → WritesNothing (state g a) (state g b)
+pub reads_nothing : {S T E : Type 0} (g : Ghosts S) (a b : Held S) (r : Result T E)
+    → (IsTrue (state g a).is_open → (state g a).now ≡ (state g a).committed) → ReadsOnly g a b r
+    → WritesNothing (state g a) (state g b)
 reads_nothing g a b r settled h = record { left = λ clean. left (kept_by r h clean); survives = h.survives }
   where
-    kept_by : {T E : Type 0} (r : Result T E) → ReadsOnly g a b r → HasCleanDisk (state g b) → Keeps (state g a) (state g b)
+    kept_by : {T E : Type 0} (r : Result T E) → ReadsOnly g a b r → HasCleanDisk (state g b)
+        → Keeps (state g a) (state g b)
     kept_by (Ok x) h clean = inl (h.ok clean)
     kept_by (Err e) h clean = h.err clean
 
@@ -57,7 +61,8 @@ reads_nothing g a b r settled h = record { left = λ clean. left (kept_by r h cl
     left (inr back) = record { was_open = back.was_open; now_is = λ is_open. (back.undone is_open).0 ∙ sym (settled (back.was_open is_open)); committed_is = λ is_open. (back.undone is_open).1 }
 
 -- a read in a transaction commits nothing
-pub reads_commit : {S T E : Type 0} {g : Ghosts S} {a b : Held S} (r : Result T E) → ReadsInside g a b r → CommitsNothing g a b
+pub reads_commit : {S T E : Type 0} {g : Ghosts S} {a b : Held S} (r : Result T E)
+    → ReadsInside g a b r → CommitsNothing g a b
 reads_commit (Ok x) h = record { kept = λ clean. keeps_commit _ _ (inl (h.ok clean)); survives = h.survives }
 reads_commit (Err e) h = record { kept = λ clean. keeps_commit _ _ (h.err clean); survives = h.survives }
 
@@ -66,7 +71,8 @@ pub none_done : {S : Type 0} (g : Ghosts S) (a : Held S) → WritesNothing (stat
 none_done g a = record { left = λ clean. record { was_open = λ is_open. is_open; now_is = λ is_open. refl; committed_is = λ is_open. refl }; survives = unchanged_survives g a (λ _. ⊥) }
 
 -- nor by two calls that write nothing
-pub nothing_then : (old mid new : State) → WritesNothing old mid → WritesNothing mid new → WritesNothing old new
+pub nothing_then : (old mid new : State) → WritesNothing old mid → WritesNothing mid new
+    → WritesNothing old new
 nothing_then old mid new one two = record {
   left = λ clean.
       let early : HasCleanDisk mid = omega (arith, two.survives.clean) in
@@ -82,13 +88,18 @@ nothing_then old mid new one two = record {
 
 -- ---- rows
 -- rows that took all rows of a table are these
-pub all_taken : {X K : Type 0} {order : K → K → Ordering} {key : X → K} {row : X → Row} {of_room : Room → List X} {table : Table} {trees : Trees} {first taken : List X} → first ≡ []
-    → ((rows : List X) × AreAll order key row of_room table trees rows × (first ≡ [] → taken ≡ rows)) → AreAll order key row of_room table trees taken
+pub all_taken : {X K : Type 0} {order : K → K → Ordering} {key : X → K} {row : X → Row}
+    {of_room : Room → List X} {table : Table} {trees : Trees} {first taken : List X} → first ≡ []
+    → ((rows : List X) × AreAll order key row of_room table trees rows
+    × (first ≡ [] → taken ≡ rows)) → AreAll order key row of_room table trees taken
 all_taken {order = order} {key = key} {row = row} {of_room = of_room} {table = table} {trees = trees} none h = subst (AreAll order key row of_room table trees) (sym (h.2 none)) h.1
 
 module _ (trees : Trees) (x : DivisionRows) where
   -- what was found in the tables, one after another, are the rows beside the history
-  pub found_beside : x.calls ≡ [] → (((((AreDivisions trees x.divisions × AreIncidents trees x.incidents) × AreVehicles trees x.vehicles) × AreAssignments trees x.assignments) × ArePoints trees x.points) × AreLoans trees x.loans) × AreOffers trees x.offers → AreBeside trees x
+  pub found_beside : x.calls ≡ [] → (((((AreDivisions trees x.divisions
+      × AreIncidents trees x.incidents) × AreVehicles trees x.vehicles)
+      × AreAssignments trees x.assignments) × ArePoints trees x.points)
+      × AreLoans trees x.loans) × AreOffers trees x.offers → AreBeside trees x
   found_beside none found = record {
     divisions = found.0.0.0.0.0.0;
     incidents = found.0.0.0.0.0.1;
@@ -131,7 +142,9 @@ module _ (trees : Trees) (x : DivisionRows) where
   }
 
   -- with the history they are the rows of all tables
-  pub rows_with : (plan : List Area) (history : KeptHistory) → AreBeside trees x → (h : IsHistory trees plan x history) → AreRows trees (record x { turns = h.turns; reports = h.reports; calls = h.calls })
+  pub rows_with : (plan : List Area) (history : KeptHistory) → AreBeside trees x
+      → (h : IsHistory trees plan x history)
+      → AreRows trees (record x { turns = h.turns; reports = h.reports; calls = h.calls })
   rows_with plan history beside h = record {
     divisions = beside.divisions;
     incidents = beside.incidents;
@@ -154,7 +167,10 @@ pub all_agree : (a b c x y z : Bool) → a ≡ x → b ≡ y → c ≡ z → (a 
 all_agree a b c x y z p q r = both_first a b c ∙ (λ i. p i && (q i && r i))
 
 -- what is kept of the history, put beside the other rows, is what is kept of them all
-pub kept_with : (plan : List Area) (x : DivisionRows) (history : KeptHistory) (trees : Trees) → x.calls ≡ [] → (h : IsHistory trees plan x history) → record x { turns = history.turns; reports = history.reports } ≡ kept (record x { turns = h.turns; reports = h.reports; calls = h.calls })
+pub kept_with : (plan : List Area) (x : DivisionRows) (history : KeptHistory) (trees : Trees)
+    → x.calls ≡ [] → (h : IsHistory trees plan x history)
+    → record x { turns = history.turns; reports = history.reports }
+    ≡ kept (record x { turns = h.turns; reports = h.reports; calls = h.calls })
 kept_with plan x history trees none h i = record {
   divisions = x.divisions;
   incidents = x.incidents;
@@ -169,11 +185,30 @@ kept_with plan x history trees none h i = record {
 }
 
 -- and it is told of them
-pub judged_with : (plan : List Area) (x : DivisionRows) (history : KeptHistory) (trees : Trees) → AreBeside trees x → IsHistory trees plan x history → HasJudged trees plan (record { rows = record x { turns = history.turns; reports = history.reports }; openings = history.openings; do_agree = history.do_agree })
+pub judged_with : (plan : List Area) (x : DivisionRows) (history : KeptHistory) (trees : Trees)
+    → AreBeside trees x → IsHistory trees plan x history
+    → HasJudged trees plan (record {
+      rows = record x
+          { turns = history.turns; reports = history.reports };
+      openings =
+          history.openings;
+      do_agree = history.do_agree;
+    })
 judged_with plan x history trees beside h =
     let all = record x { turns = h.turns; reports = h.reports; calls = h.calls } in
     let are = rows_with trees x plan history beside h in
-    record { rows = all; are = are; is_judged = record { in_order = rows_in_order trees all plan are; kept_are = kept_with plan x history trees beside.no_calls h; told = h.told; agree = h.agree } }
+    record {
+      rows = all;
+      are = are;
+      is_judged =
+          record {
+            in_order = rows_in_order trees all plan are;
+            kept_are =
+                kept_with plan x history trees beside.no_calls h;
+            told = h.told;
+            agree = h.agree;
+          };
+    }
 
 -- ---- rooms
 -- terminals ask for vehicles alone
@@ -181,13 +216,18 @@ module _ (plan : List Area) (x : DivisionRows) (terminals : List Terminal) where
   fit_all : AreTerminals (room_of plan (kept x)) terminals → AreTerminals (room_of plan x) terminals
   fit_all h = record { keyed = h.keyed; has_crew = h.has_crew; one_crew = h.one_crew; crews = h.crews; desks = h.desks }
 
-  fit_kept : AreTerminals (room_of plan x) terminals → AreTerminals (room_of plan (kept x)) terminals
+  fit_kept : AreTerminals (room_of plan x) terminals
+      → AreTerminals (room_of plan (kept x)) terminals
   fit_kept h = record { keyed = h.keyed; has_crew = h.has_crew; one_crew = h.one_crew; crews = h.crews; desks = h.desks }
 
 -- both tests tell whether the room is well-formed and the terminals fit it
-pub sound_told : (plan : List Area) (terminals : List Terminal) (judged : JudgedRows) (formed fit : Bool)
-    → ((x : DivisionRows) → IsInOrder (room_of plan x) → judged.rows ≡ kept x → Tell x.calls judged.openings → judged.do_agree ≡ histories_fit plan x → (IsTrue formed ↔ IsWellFormed (room_of plan x)))
-    → (IsTrue fit ↔ AreTerminals (room_of plan judged.rows) terminals) → TellsSound plan terminals judged (formed && fit)
+pub sound_told : (plan : List Area) (terminals : List Terminal) (judged : JudgedRows)
+    (formed fit : Bool)
+    → ((x : DivisionRows) → IsInOrder (room_of plan x) → judged.rows ≡ kept x
+    → Tell x.calls judged.openings → judged.do_agree ≡ histories_fit plan x
+    → (IsTrue formed ↔ IsWellFormed (room_of plan x)))
+    → (IsTrue fit ↔ AreTerminals (room_of plan judged.rows) terminals)
+    → TellsSound plan terminals judged (formed && fit)
 sound_told plan terminals judged formed fit well fits x h =
     let one = well x h.in_order h.kept_are h.told h.agree in
     let two = subst (λ rows. IsTrue fit ↔ AreTerminals (room_of plan rows) terminals) h.kept_are fits in (
@@ -199,8 +239,11 @@ sound_told plan terminals judged formed fit well fits x h =
 pub held_numbered : (trees : Trees) → HoldsRoom trees → AreAllNumbered trees
 held_numbered trees holds = let h = holds.stands in search rules
 
--- What was judged after the house was read. The tables are as they were, since the connection is open still.
-module _ (old mid : State) (same : IsTrue mid.is_open → mid.now ≡ old.now) (layout : Layout) (terminals : List Terminal) (house : AreAllNumbered old.now.trees → HasHouse old.now.trees layout.areas layout.zone terminals) (judged : JudgedRows)
+-- What was judged after the house was read. The tables are as they were, since the connection is
+-- open still.
+module _ (old mid : State) (same : IsTrue mid.is_open → mid.now ≡ old.now) (layout : Layout)
+    (terminals : List Terminal) (house : AreAllNumbered old.now.trees
+    → HasHouse old.now.trees layout.areas layout.zone terminals) (judged : JudgedRows)
     (found : IsFound mid layout.areas judged) where
   abbrev rows : DivisionRows
   rows = found.judged_are.rows

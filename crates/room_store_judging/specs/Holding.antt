@@ -50,9 +50,12 @@ HoldsRoom trees = Holds (Stands trees)
 
 -- The tables stand for a well-formed room of this plan, with terminals that fit it.
 abbrev pub IsPlanOf : Trees → Layout → Type 0
-IsPlanOf trees plan = (terminals : List Terminal) × (room : Room) × IsWellFormed room × AreTerminals room terminals × (room.plan ≡ plan.areas) × Stands trees (house_of plan terminals) room
+IsPlanOf trees plan = (terminals : List Terminal) × (room : Room) × IsWellFormed room
+    × AreTerminals room terminals × (room.plan ≡ plan.areas)
+    × Stands trees (house_of plan terminals) room
 
--- The call wrote nothing: all is as it was, unless the connection is shut, and a stop leaves what it could before.
+-- The call wrote nothing: all is as it was, unless the connection is shut, and a stop leaves what
+-- it could before.
 pub record WritesNothing (old new : State) : Type 0 where
   pub left : HasCleanDisk new → Leaves old new
   pub survives : Survives old new (λ _. ⊥)
@@ -78,13 +81,16 @@ pub record HasRows (trees : Trees) (x : DivisionRows) : Type 0 where
   pub reports : StandsFor trees reports_table report_row x.reports
 
 -- the tables of the plan, the zone and the terminals do
-pub record HasHouse (trees : Trees) (areas : List Area) (zone : List ℕ) (terminals : List Terminal) : Type 0 where
+pub record HasHouse (trees : Trees) (areas : List Area) (zone : List ℕ)
+    (terminals : List Terminal) : Type 0 where
   pub meta : StandsFor trees meta_table meta_row (zone ∷ [])
   pub areas_are : StandsFor trees areas_table area_row (numbered 1 areas)
   pub terminals_are : StandsFor trees terminals_table terminal_row terminals
 
--- The next of some reads in a transaction: one where all before it went well, and none where not. `Is` holds of the tables where it went well.
-pub record ReadsNext {S : Type 0} (g : Ghosts S) (old new : Held S) (before after : Result (Unit {0}) Fault) (Is : Trees → Type 0) : Type 0 where
+-- The next of some reads in a transaction: one where all before it went well, and none where not.
+-- `Is` holds of the tables where it went well.
+pub record ReadsNext {S : Type 0} (g : Ghosts S) (old new : Held S)
+    (before after : Result (Unit {0}) Fault) (Is : Trees → Type 0) : Type 0 where
   pub found : HasCleanDisk (state g new) → OnOk after (Is (state g old).now.trees)
   pub reads : OnOk before (ReadsInside g old new after)
   pub stays : OnErr before ((new ≡ old) × (after ≡ before))

@@ -57,7 +57,8 @@ abbrev pub AreTurns : Trees → List Turn → Type 0
 AreTurns = AreAll numbered_cmp turn_key turn_row (λ r. r.turns) turns_table
 
 abbrev pub AreAssignments : Trees → List Assignment → Type 0
-AreAssignments = AreAll callsign_cmp assignment_key assignment_row (λ r. r.assignments) assignments_table
+AreAssignments =
+    AreAll callsign_cmp assignment_key assignment_row (λ r. r.assignments) assignments_table
 
 abbrev pub ArePoints : Trees → List Point → Type 0
 ArePoints = AreAll pair_cmp point_key point_row (λ r. r.points) points_table
@@ -97,8 +98,10 @@ pub record AreRows (trees : Trees) (x : DivisionRows) : Type 0 where
   pub reports : AreReports trees x.reports
 
 -- ---- what is told of them
--- The tables have turns, reports and calls, of which this is kept, and it is told whether each agrees with the rows beside them.
-pub record IsHistory (trees : Trees) (plan : List Area) (x : DivisionRows) (history : KeptHistory) : Type 0 where
+-- The tables have turns, reports and calls, of which this is kept, and it is told whether each
+-- agrees with the rows beside them.
+pub record IsHistory (trees : Trees) (plan : List Area) (x : DivisionRows)
+    (history : KeptHistory) : Type 0 where
   pub turns : List Turn
   pub reports : List Report
   pub calls : List Call
@@ -131,7 +134,9 @@ pub record IsFound (at : State) (plan : List Area) (judged : JudgedRows) : Type 
   pub numbered : AreAllNumbered at.now.trees
   pub judged_are : HasJudged at.now.trees plan judged
 
--- It is told whether the rows, whichever were judged so, make a well-formed room that these terminals fit.
+-- It is told whether the rows, whichever were judged so, make a well-formed room that these
+-- terminals fit.
 abbrev pub TellsSound : List Area → List Terminal → JudgedRows → Bool → Type 0
 TellsSound plan terminals judged sound =
-    (x : DivisionRows) → IsJudged plan x judged → (IsTrue sound ↔ (IsWellFormed (room_of plan x) × AreTerminals (room_of plan x) terminals))
+    (x : DivisionRows) → IsJudged plan x judged
+    → (IsTrue sound ↔ (IsWellFormed (room_of plan x) × AreTerminals (room_of plan x) terminals))

@@ -25,7 +25,8 @@ use Rattle.room_store_opening.specs.declared.taking.Tables.TheVariants.{First, F
 
 module _ (old new : Trees) where
   -- tables that keep their rows stand for the same room
-  pub rows_kept : KeepsRows room_tables old new → (house : House) (room : Room) → Stands old house room → Stands new house room
+  pub rows_kept : KeepsRows room_tables old new → (house : House) (room : Room)
+      → Stands old house room → Stands new house room
   rows_kept k house room h = record {
     meta = holds_still _ _ _ _ _ k.0 h.meta;
     areas = holds_still _ _ _ _ _ k.1.0 h.areas;
@@ -50,13 +51,20 @@ keeps_none (t ∷ ts) trees = (refl, keeps_none ts trees)
 pub all_rows : (before after : Database) → after ≡ before → KeepsAllRows before after
 all_rows before after same = subst (KeepsAllRows before) (sym same) (record { tables = refl; rows = keeps_none before.schema.tables before.trees })
 
-rows_indexed : (before after : Database) → before.schema ≡ tables_schema → after.schema ≡ room_schema → KeepsRows room_tables before.trees after.trees → KeepsAllRows before after
+rows_indexed : (before after : Database) → before.schema ≡ tables_schema
+    → after.schema ≡ room_schema → KeepsRows room_tables before.trees after.trees
+    → KeepsAllRows before after
 rows_indexed before after alone made rows =
     let tables = ap (λ (s : Schema). s.tables) alone in
-    record { tables = ap (λ (s : Schema). s.tables) made ∙ sym tables; rows = subst (λ ts. KeepsRows ts before.trees after.trees) (sym tables) rows }
+    record {
+      tables = ap (λ (s : Schema). s.tables) made ∙ sym tables;
+      rows = subst (λ ts. KeepsRows ts before.trees after.trees) (sym tables) rows;
+    }
 
 -- tables that keep all rows, and are a room's afterwards, stand for what they stood for
-pub stands_before : (before after : Database) → after.schema ≡ room_schema → KeepsAllRows before after → (house : House) (room : Room) → Stands before.trees house room → Stands after.trees house room
+pub stands_before : (before after : Database) → after.schema ≡ room_schema
+    → KeepsAllRows before after → (house : House) (room : Room) → Stands before.trees house room
+    → Stands after.trees house room
 stands_before before after is kept =
     rows_kept before.trees after.trees (subst (λ ts. KeepsRows ts before.trees after.trees) (sym kept.tables ∙ ap (λ (s : Schema). s.tables) is) kept.rows)
 
@@ -74,10 +82,21 @@ module _ (old new : State) where
   }
 
   -- a file that is taken with a room's tables is opened
-  pub takes_opens : (tables : Tables) → old.now.schema ≡ schema_of tables → (tables ≡ Whole) ⊎ (tables ≡ Unindexed) → (IsTrue old.is_open → old.now ≡ old.committed) → Takes tables old new → Opens old new
+  pub takes_opens : (tables : Tables) → old.now.schema ≡ schema_of tables
+      → (tables ≡ Whole) ⊎ (tables ≡ Unindexed) → (IsTrue old.is_open → old.now ≡ old.committed)
+      → Takes tables old new → Opens old new
   takes_opens Whole has is settled it =
       let now : new.now ≡ old.now = same_database new.now old.now (it.schema ∙ sym has) it.becomes in
-      record { settled = it.settled; schema = it.schema; kept = left_opens (record { was_open = λ _. it.was_open; now_is = λ _. now; committed_is = λ _. it.settled.committed ∙ now ∙ settled it.was_open }) }
+      record {
+        settled = it.settled;
+        schema = it.schema;
+        kept = left_opens (record {
+          was_open = λ _. it.was_open;
+          now_is = λ _. now;
+          committed_is =
+              λ _. it.settled.committed ∙ now ∙ settled it.was_open;
+        });
+      }
   takes_opens Unindexed has is settled it =
       let rows = rows_indexed old.now new.now has it.schema it.becomes in
       record {
@@ -94,21 +113,26 @@ module _ (old new : State) where
   takes_opens FirstUnindexed has is settled it = absurd (elim is [ inl e ↦ (let x = e in cc) | inr e ↦ (let x = e in cc) ])
 
   -- and one that is taken with the first version's is moved
-  pub takes_moves : (tables : Tables) → old.now.schema ≡ schema_of tables → (tables ≡ First) ⊎ (tables ≡ FirstUnindexed) → Takes tables old new → Moves old new
+  pub takes_moves : (tables : Tables) → old.now.schema ≡ schema_of tables
+      → (tables ≡ First) ⊎ (tables ≡ FirstUnindexed) → Takes tables old new → Moves old new
   takes_moves Whole has is it = absurd (elim is [ inl e ↦ (let x = e in cc) | inr e ↦ (let x = e in cc) ])
   takes_moves Unindexed has is it = absurd (elim is [ inl e ↦ (let x = e in cc) | inr e ↦ (let x = e in cc) ])
   takes_moves First has is it = record { settled = it.settled; schema = it.schema; moved = record { first = inl has; moved = it.becomes } }
   takes_moves FirstUnindexed has is it = record { settled = it.settled; schema = it.schema; moved = record { first = inr has; moved = it.becomes } }
 
 -- what a stop may leave of a file that is opened
-pub may_be_indexed : (tables : Tables) (before : Database) (trees : Trees) → before.schema ≡ schema_of tables → (tables ≡ Whole) ⊎ (tables ≡ Unindexed) → MayBecome tables before.trees trees → MayBeIndexed before trees
+pub may_be_indexed : (tables : Tables) (before : Database) (trees : Trees)
+    → before.schema ≡ schema_of tables → (tables ≡ Whole) ⊎ (tables ≡ Unindexed)
+    → MayBecome tables before.trees trees → MayBeIndexed before trees
 may_be_indexed Whole before trees has is none = absurd none
 may_be_indexed Unindexed before trees has is rows = record { alone = has; rows = subst (λ ts. KeepsRows ts before.trees trees) (sym (ap (λ (s : Schema). s.tables) has)) rows }
 may_be_indexed First before trees has is b = absurd (elim is [ inl e ↦ (let x = e in cc) | inr e ↦ (let x = e in cc) ])
 may_be_indexed FirstUnindexed before trees has is b = absurd (elim is [ inl e ↦ (let x = e in cc) | inr e ↦ (let x = e in cc) ])
 
 -- and of one that is moved
-pub may_be_moved : (tables : Tables) (before : Database) (trees : Trees) → before.schema ≡ schema_of tables → (tables ≡ First) ⊎ (tables ≡ FirstUnindexed) → MayBecome tables before.trees trees → MayBeMoved before trees
+pub may_be_moved : (tables : Tables) (before : Database) (trees : Trees)
+    → before.schema ≡ schema_of tables → (tables ≡ First) ⊎ (tables ≡ FirstUnindexed)
+    → MayBecome tables before.trees trees → MayBeMoved before trees
 may_be_moved Whole before trees has is b = absurd (elim is [ inl e ↦ (let x = e in cc) | inr e ↦ (let x = e in cc) ])
 may_be_moved Unindexed before trees has is b = absurd (elim is [ inl e ↦ (let x = e in cc) | inr e ↦ (let x = e in cc) ])
 may_be_moved First before trees has is b = record { first = inl has; moved = b }
@@ -138,5 +162,6 @@ module _ (old mid new : State) where
   moves_before same it = record { settled = it.settled; schema = it.schema; moved = subst (λ (db : Database). MayBeMoved db new.now.trees) same it.moved }
 
   -- after one look and another the tables are as they were
-  pub looked_on : WritesNothing mid new → (HasCleanDisk mid → mid.now ≡ old.now) → (HasCleanDisk new → new.now ≡ mid.now) → HasCleanDisk new → new.now ≡ old.now
+  pub looked_on : WritesNothing mid new → (HasCleanDisk mid → mid.now ≡ old.now)
+      → (HasCleanDisk new → new.now ≡ mid.now) → HasCleanDisk new → new.now ≡ old.now
   looked_on nothing one two clean = let early : HasCleanDisk mid = omega (arith, nothing.survives.clean) in two clean ∙ one early

@@ -1,4 +1,5 @@
--- Tables that are taken: what they become holds the room that they held, and what an end of the transaction leaves.
+-- Tables that are taken: what they become holds the room that they held, and what an end of the
+-- transaction leaves.
 use Rattle.std.proofs.Common.{Err, IsTrue, List, Ok, Result, [], ap, arith, inl, inr, refl, subst, sym, ◌∙◌, ◌∷◌, ◌≡◌, ◌⊎◌}
 use Rattle.std.proofs.lemmas.Bool.{eqb-false}
 use Rattle.std.specs.Prelude.{IfErr, IfOk, IsOk, OnErr, OnOk, ◌≢◌}
@@ -37,7 +38,8 @@ use Rattle.room_store_opening.specs.declared.taking.Tables.{Tables}
 use Rattle.room_store_opening.specs.declared.taking.Tables.TheVariants.{First, FirstUnindexed, Unindexed, Whole}
 
 -- the last table was made, and then the version told: a room of the first version is moved
-pub is_moved : (old : Trees) (mid new : State) → AddsLast old mid.now.trees → Renews mid new → IsMoved old new.now.trees
+pub is_moved : (old : Trees) (mid new : State) → AddsLast old mid.now.trees → Renews mid new
+    → IsMoved old new.now.trees
 is_moved old mid new adds renews =
     let only = renews.only.tables in
     let rows = adds.rows in
@@ -47,36 +49,44 @@ is_moved old mid new adds renews =
     }
 
 -- what is held by some is held by others that stand for the same
-holds_more : {P Q : House → Room → Type 0} → ((house : House) (room : Room) → P house room → Q house room) → Holds P → Holds Q
+holds_more : {P Q : House → Room → Type 0}
+    → ((house : House) (room : Room) → P house room → Q house room) → Holds P → Holds Q
 holds_more more h = record { layout = h.layout; terminals = h.terminals; room = h.room; planned = h.planned; stands = more _ _ h.stands; formed = h.formed; fits = h.fits }
 
-pub becomes_holds : (tables : Tables) (old new : Trees) → Becomes tables old new → HoldsBy tables old → HoldsRoom new
+pub becomes_holds : (tables : Tables) (old new : Trees) → Becomes tables old new
+    → HoldsBy tables old → HoldsRoom new
 becomes_holds Whole old new same h = subst HoldsRoom (sym same) h
 becomes_holds Unindexed old new rows h = holds_more (rows_kept old new rows) h
 becomes_holds First old new moved h = holds_more (λ house room. (moved.stands house room).0) h
 becomes_holds FirstUnindexed old new moved h = holds_more (λ house room. (moved.stands house room).0) h
 
 -- and what the others stand for, the first ones did
-keeps_back : (tables : List Table) (old new : Trees) → KeepsRows tables old new → KeepsRows tables new old
+keeps_back : (tables : List Table) (old new : Trees) → KeepsRows tables old new
+    → KeepsRows tables new old
 keeps_back [] old new rows = tt
 keeps_back (t ∷ ts) old new rows = (sym rows.0, keeps_back ts old new rows.1)
 
-pub becomes_back : (tables : Tables) (old new : Trees) → Becomes tables old new → (house : House) (room : Room) → Stands new house room → StandsBy tables old house room
+pub becomes_back : (tables : Tables) (old new : Trees) → Becomes tables old new
+    → (house : House) (room : Room) → Stands new house room → StandsBy tables old house room
 becomes_back Whole old new same house room h = subst (λ trees. Stands trees house room) same h
 becomes_back Unindexed old new rows house room h = rows_kept new old (keeps_back room_tables old new rows) house room h
 becomes_back First old new moved house room h = (moved.stands house room).1 h
 becomes_back FirstUnindexed old new moved house room h = (moved.stands house room).1 h
 
 -- What a commit may leave, a stop could leave before, where nothing lacked.
-pub may_become : (tables : Tables) (old : State) (db : Trees) → (IsTrue old.is_open → old.may_leave old.committed.trees) → (IsTrue old.is_open → old.now ≡ old.committed)
-    → IsTrue old.is_open → Becomes tables old.now.trees db → old.may_leave db ⊎ MayBecome tables old.now.trees db
+pub may_become : (tables : Tables) (old : State) (db : Trees)
+    → (IsTrue old.is_open → old.may_leave old.committed.trees)
+    → (IsTrue old.is_open → old.now ≡ old.committed)
+    → IsTrue old.is_open → Becomes tables old.now.trees db
+    → old.may_leave db ⊎ MayBecome tables old.now.trees db
 may_become Whole old db stays settled is_open same = inl (subst old.may_leave (sym (same ∙ (λ i. (settled is_open i).trees))) (stays is_open))
 may_become Unindexed old db stays settled is_open b = inr b
 may_become First old db stays settled is_open b = inr b
 may_become FirstUnindexed old db stays settled is_open b = inr b
 
 -- what a stop leaves is less than was said
-pub survives_less : (old new : State) (P Q : Trees → Type 0) → ((db : Trees) → P db → old.may_leave db ⊎ Q db) → Survives old new P → Survives old new Q
+pub survives_less : (old new : State) (P Q : Trees → Type 0)
+    → ((db : Trees) → P db → old.may_leave db ⊎ Q db) → Survives old new P → Survives old new Q
 survives_less old new P Q less s = record {
   clean = s.clean;
   shield = s.shield;
@@ -89,25 +99,30 @@ survives_less old new P Q less s = record {
 -- ---- what was found, and how it ended
 
 -- what holds of what was found, by what became of the file
-pub ok_holds : {T E : Type 0} (r : Result T E) (P Q : T → Type 0) (R : Type 0) → OnOk r R → IfOk r P → ((x : T) → R → P x → Q x) → IfOk r Q
+pub ok_holds : {T E : Type 0} (r : Result T E) (P Q : T → Type 0) (R : Type 0) → OnOk r R
+    → IfOk r P → ((x : T) → R → P x → Q x) → IfOk r Q
 ok_holds (Ok x) P Q R became holds by = by x became holds
 ok_holds (Err e) P Q R became holds by = tt
 
-pub found_ok : {T E : Type 0} (r found : Result T E) → IfOk r (λ x. found ≡ Ok x) → OnOk r (IsOk found)
+pub found_ok : {T E : Type 0} (r found : Result T E) → IfOk r (λ x. found ≡ Ok x)
+    → OnOk r (IsOk found)
 found_ok (Ok x) found is = subst IsOk (sym is) refl
 found_ok (Err e) found is = tt
 
 -- what holds of what was found holds of what is told, after an end that went well
-pub found_holds : {T E : Type 0} (r found : Result T E) (P Q : T → Type 0) (R : Type 0) → IfOk r (λ x. found ≡ Ok x) → OnOk r R → IfOk found P → ((x : T) → R → P x → Q x) → IfOk r Q
+pub found_holds : {T E : Type 0} (r found : Result T E) (P Q : T → Type 0) (R : Type 0)
+    → IfOk r (λ x. found ≡ Ok x) → OnOk r R → IfOk found P → ((x : T) → R → P x → Q x) → IfOk r Q
 found_holds (Ok x) found P Q R is ended holds by = by x ended (subst (λ f. IfOk f P) is holds)
 found_holds (Err e) found P Q R is ended holds by = tt
 
 -- what holds of the fault that was found
-pub refused : {T E : Type 0} (found : Result T E) (e : E) (P : E → Type 0) → found ≡ Err e → IfErr found P → P e
+pub refused : {T E : Type 0} (found : Result T E) (e : E) (P : E → Type 0) → found ≡ Err e
+    → IfErr found P → P e
 refused found e P is h = subst (λ f. IfErr f P) is h
 
 -- what holds of each fault
-pub both_errs : {T E : Type 0} (r : Result T E) (P Q R : E → Type 0) → IfErr r P → IfErr r Q → ((e : E) → P e → Q e → R e) → IfErr r R
+pub both_errs : {T E : Type 0} (r : Result T E) (P Q R : E → Type 0) → IfErr r P → IfErr r Q
+    → ((e : E) → P e → Q e → R e) → IfErr r R
 both_errs (Ok x) P Q R p q f = tt
 both_errs (Err e) P Q R p q f = f e p q
 
@@ -121,19 +136,25 @@ pub any_fault : {T E : Type 0} (r : Result T E) (P : E → Type 0) → ((e : E) 
 any_fault (Ok x) P p = tt
 any_fault (Err e) P p = p e
 
-pub none_moved : {T : Type 0} (r : Result T MigrateFault) (fault : Fault) → IsErrAnd r (λ why. why ≡ migrate_fault (take_fault fault)) → IfErr r (λ e. (e ≢ migrated.NotOld) × (e ≢ migrated.NotARoom))
+pub none_moved : {T : Type 0} (r : Result T MigrateFault) (fault : Fault)
+    → IsErrAnd r (λ why. why ≡ migrate_fault (take_fault fault))
+    → IfErr r (λ e. (e ≢ migrated.NotOld) × (e ≢ migrated.NotARoom))
 none_moved (Ok x) fault is = tt
 none_moved (Err e) faults.Memory is = (λ old. cc, λ none. cc)
 none_moved (Err e) faults.Storage is = (λ old. cc, λ none. cc)
 
-pub none_opened : {T : Type 0} (r : Result T OpenFault) (fault : Fault) → IsErrAnd r (λ why. why ≡ open_fault (take_fault fault)) → IfErr r (λ e. (e ≢ opened.OldRoom) × (e ≢ opened.NotARoom))
+pub none_opened : {T : Type 0} (r : Result T OpenFault) (fault : Fault)
+    → IsErrAnd r (λ why. why ≡ open_fault (take_fault fault))
+    → IfErr r (λ e. (e ≢ opened.OldRoom) × (e ≢ opened.NotARoom))
 none_opened (Ok x) fault is = tt
 none_opened (Err e) faults.Memory is = (λ old. cc, λ none. cc)
 none_opened (Err e) faults.Storage is = (λ old. cc, λ none. cc)
 
 -- ---- whole tables, which are looked at
 
-pub looked_takes : (tables : Tables) → tables ≡ Whole → (old new : State) → old.now.schema ≡ schema_of tables → (IsTrue old.is_open → old.now ≡ old.committed) → Leaves old new → IsTrue new.is_open → Takes tables old new
+pub looked_takes : (tables : Tables) → tables ≡ Whole → (old new : State)
+    → old.now.schema ≡ schema_of tables → (IsTrue old.is_open → old.now ≡ old.committed)
+    → Leaves old new → IsTrue new.is_open → Takes tables old new
 looked_takes tables is old new has settled left is_open = record {
   was_open = left.was_open is_open;
   settled = record { is_open = is_open; committed = left.committed_is is_open ∙ sym (settled (left.was_open is_open)) ∙ sym (left.now_is is_open) };
@@ -144,16 +165,19 @@ looked_takes tables is old new has settled left is_open = record {
 -- ---- in which versions, and how a fault is told
 
 -- tables of the first version that hold a room tell their version
-pub first_is_old : (now : Database) → HasFirstTables now.schema → HoldsFirstRoom now.trees → IsRoomOf 1 now
+pub first_is_old : (now : Database) → HasFirstTables now.schema → HoldsFirstRoom now.trees
+    → IsRoomOf 1 now
 first_is_old now has h =
     let begins : BeginsAsRoom now.schema = elim has [ inl is ↦ subst BeginsAsRoom (sym is) (refl, refl) | inr is ↦ subst BeginsAsRoom (sym is) (refl, refl) ] in
     (begins, tells_held 1 h.layout.zone now.trees h.stands.meta)
 
-pub holds_new : (tables : Tables) (trees : Trees) → (tables ≡ Whole) ⊎ (tables ≡ Unindexed) → HoldsRoom trees → HoldsBy tables trees
+pub holds_new : (tables : Tables) (trees : Trees) → (tables ≡ Whole) ⊎ (tables ≡ Unindexed)
+    → HoldsRoom trees → HoldsBy tables trees
 holds_new tables trees (inl is) h = rw is h
 holds_new tables trees (inr is) h = rw is h
 
-pub holds_first : (tables : Tables) (trees : Trees) → (tables ≡ First) ⊎ (tables ≡ FirstUnindexed) → HoldsFirstRoom trees → HoldsBy tables trees
+pub holds_first : (tables : Tables) (trees : Trees) → (tables ≡ First) ⊎ (tables ≡ FirstUnindexed)
+    → HoldsFirstRoom trees → HoldsBy tables trees
 holds_first tables trees (inl is) h = rw is h
 holds_first tables trees (inr is) h = rw is h
 
@@ -168,12 +192,14 @@ told_moved Memory is = cc
 told_moved Storage is = cc
 
 -- what told the version may be followed by more
-pub renewed_on : {S T E : Type 0} (g : Ghosts S) (a b : Held S) (r : Result T E) → (HasCleanDisk (state g b) → OnOk r (Renews (state g a) (state g b))) → OnOk r (MayWrite g b)
+pub renewed_on : {S T E : Type 0} (g : Ghosts S) (a b : Held S) (r : Result T E)
+    → (HasCleanDisk (state g b) → OnOk r (Renews (state g a) (state g b))) → OnOk r (MayWrite g b)
 renewed_on g a b (Ok x) made = record { room = λ clean. (made clean).schema; inside = λ clean. (made clean).inside.mode }
 renewed_on g a b (Err e) made = tt
 
 -- what may be followed by writes may be after a read
-pub may_write_on : {S T E : Type 0} (g : Ghosts S) (a b : Held S) (r : Result T E) → MayWrite g a → ReadsInside g a b r → OnOk r (MayWrite g b)
+pub may_write_on : {S T E : Type 0} (g : Ghosts S) (a b : Held S) (r : Result T E) → MayWrite g a
+    → ReadsInside g a b r → OnOk r (MayWrite g b)
 may_write_on g a b (Ok x) may reads = record {
   room = λ clean. let early : HasCleanDisk (state g a) = omega (arith, reads.survives.clean) in ap (λ (db : Database). db.schema) (reads.ok clean).0.now_is ∙ may.room early;
   inside = λ clean. let early : HasCleanDisk (state g a) = omega (arith, reads.survives.clean) in (reads.ok clean).0.mode ∙ may.inside early;

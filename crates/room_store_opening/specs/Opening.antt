@@ -42,12 +42,14 @@ pub record KeepsAllRows (before after : Database) : Type 0 where
   pub tables : after.schema.tables ≡ before.schema.tables
   pub rows : KeepsRows before.schema.tables before.trees after.trees
 
--- A stop may leave such tables while the indexes are made of a file that has a room's tables alone: they have all the rows that they had.
+-- A stop may leave such tables while the indexes are made of a file that has a room's tables alone:
+-- they have all the rows that they had.
 pub record MayBeIndexed (before : Database) (trees : Trees) : Type 0 where
   pub alone : before.schema ≡ tables_schema
   pub rows : KeepsRows before.schema.tables before.trees trees
 
--- Tables of the first version became those of a room: the rows of all but `meta` stayed, and they stand for what they stood for, and for nothing else.
+-- Tables of the first version became those of a room: the rows of all but `meta` stayed, and they
+-- stand for what they stood for, and for nothing else.
 pub record IsMoved (old new : Trees) : Type 0 where
   pub rows : KeepsRows (drop 1 first_tables) old new
   pub stands : (house : House) (room : Room) → StandsInFirst old house room ↔ Stands new house room
@@ -57,7 +59,7 @@ pub record MayBeMoved (before : Database) (trees : Trees) : Type 0 where
   pub first : HasFirstTables before.schema
   pub moved : IsMoved before.trees trees
 
--- ---- of the tables that a file has: what their schema is, what they become, what they stand for, and when they hold a room
+-- ---- the tables of a file: their schema, what they become and stand for, when they hold a room
 
 abbrev pub schema_of : Tables → Schema
 schema_of Whole = room_schema
@@ -94,7 +96,8 @@ pub record Takes (tables : Tables) (old new : State) : Type 0 where
   pub schema : new.now.schema ≡ room_schema
   pub becomes : Becomes tables old.now.trees new.now.trees
 
--- What opening a file does to it, unless the connection is shut: all rows of all tables stay, and where it has not just a room's tables without their indexes, nothing is written.
+-- What opening a file does to it, unless the connection is shut: all rows of all tables stay, and
+-- where it has not just a room's tables without their indexes, nothing is written.
 pub record KeepsFile (old new : State) : Type 0 where
   pub was_open : IsTrue new.is_open → IsTrue old.is_open
   pub rows : IsTrue new.is_open → KeepsAllRows old.now new.now

@@ -12,7 +12,10 @@ use Rattle.room_store_reads.proofs.RoomReads.{or_none}
 use Rattle.room_types.specs.declared.asks.Ask.TheVariants as ask
 
 one_of : (o : Outcome) (cleared own : Bool)
-    → outcome_number o == 1 && (not cleared && own) || (outcome_number o == 2 && (not cleared && own) || (outcome_number o == 3 && (not cleared && own) || (outcome_number o == 4 && (not cleared && own) || false)))
+    → outcome_number o == 1 && (not cleared && own)
+    || (outcome_number o == 2 && (not cleared && own)
+    || (outcome_number o == 3 && (not cleared && own)
+    || (outcome_number o == 4 && (not cleared && own) || false)))
     ≡ own && (not (is_normal o) && not cleared)
 one_of Normal c true = refl
 one_of Normal c false = refl
@@ -34,17 +37,22 @@ one_of Stale false true = refl
 one_of Stale false false = refl
 
 -- the four outcomes are all but the normal one
-pub exceptional : (d : ℕ) (x : Report) → any (λ o. outcome_number x.outcome == outcome_number o && (not x.cleared && x.division == d)) (Skipped ∷ Wrong ∷ Late ∷ Stale ∷ []) ≡ (x.division == d) && (not (is_normal x.outcome) && not x.cleared)
+pub exceptional : (d : ℕ) (x : Report)
+    → any (λ o. outcome_number x.outcome == outcome_number o && (not x.cleared && x.division == d))
+    (Skipped ∷ Wrong ∷ Late ∷ Stale ∷ []) ≡ (x.division == d)
+    && (not (is_normal x.outcome) && not x.cleared)
 exceptional d x = one_of x.outcome x.cleared (x.division == d)
 
 abbrev pub is_exception : Report → Bool
 is_exception x = not (is_normal x.outcome) && not x.cleared
 
 -- where the exceptions are read, no report is named
-pub shown_report : (a : Ask) (x : Report) → reads_exceptions a ≡ true → is_exception x ≡ reads_report a x
+pub shown_report : (a : Ask) (x : Report) → reads_exceptions a ≡ true
+    → is_exception x ≡ reads_report a x
 shown_report ask.Queue x h = sym (or_none (is_exception x))
 shown_report a x h = cc
 
 -- elsewhere the named one alone is read
-pub named_only : (a : Ask) (x : Report) → reads_exceptions a ≡ false → reads_report a x ≡ names_report a x.callsign x.number
+pub named_only : (a : Ask) (x : Report) → reads_exceptions a ≡ false
+    → reads_report a x ≡ names_report a x.callsign x.number
 named_only a x h = ap (λ b. b && is_exception x || names_report a x.callsign x.number) h

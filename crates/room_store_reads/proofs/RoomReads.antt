@@ -9,21 +9,25 @@ use Rattle.room_types.specs.Texts.{Callsign}
 use Rattle.room_store_reads.specs.Reading.{any}
 
 -- tests that agree pass the same rows
-pub filter_as : {X : Type 0} (p q : X → Bool) (xs : List X) → ((x : X) → p x ≡ q x) → filter p xs ≡ filter q xs
+pub filter_as : {X : Type 0} (p q : X → Bool) (xs : List X) → ((x : X) → p x ≡ q x)
+    → filter p xs ≡ filter q xs
 filter_as p q xs e i = filter (λ x. e x i) xs
 
 pub filter_none : {X : Type 0} (xs : List X) → filter (λ (x : X). false) xs ≡ []
 filter_none [] = refl
 filter_none (x ∷ xs) = filter_none xs
 
-cond_and : {X : Type 0} (a b : Bool) (p q : X → Bool) (x : X) (xs : List X) → a ≡ p x → b ≡ q x → filter (λ y. p y && q y) xs ≡ filter q (filter p xs)
-    → cond (a && b) (x ∷ filter (λ y. p y && q y) xs) (filter (λ y. p y && q y) xs) ≡ filter q (cond a (x ∷ filter p xs) (filter p xs))
+cond_and : {X : Type 0} (a b : Bool) (p q : X → Bool) (x : X) (xs : List X) → a ≡ p x → b ≡ q x
+    → filter (λ y. p y && q y) xs ≡ filter q (filter p xs)
+    → cond (a && b) (x ∷ filter (λ y. p y && q y) xs) (filter (λ y. p y && q y) xs)
+    ≡ filter q (cond a (x ∷ filter p xs) (filter p xs))
 cond_and true true p q x xs e f h = rw (← f, h) refl
 cond_and true false p q x xs e f h = rw (← f, h) refl
 cond_and false b p q x xs e f h = h
 
 -- the rows that pass both tests are those of the first that pass the second
-pub filter_and : {X : Type 0} (p q : X → Bool) (xs : List X) → filter (λ x. p x && q x) xs ≡ filter q (filter p xs)
+pub filter_and : {X : Type 0} (p q : X → Bool) (xs : List X)
+    → filter (λ x. p x && q x) xs ≡ filter q (filter p xs)
 filter_and p q [] = refl
 filter_and p q (x ∷ xs) = cond_and (p x) (q x) p q x xs refl refl (filter_and p q xs)
 
@@ -39,7 +43,8 @@ pair_is d n a b = is_eq-then (nat_cmp d a) (nat_cmp n b) ∙ (λ i. turned_numbe
 pub pair_turned : (d n a b : ℕ) → is_eq (pair_cmp (d, n) (a, b)) ≡ (a == d) && (b == n)
 pair_turned d n a b = is_eq-then (nat_cmp d a) (nat_cmp n b) ∙ (λ i. turned_number d a i && turned_number n b i)
 
-pub numbered_is : (c e : Callsign) (n m : ℕ) → is_eq (numbered_cmp (c, n) (e, m)) ≡ same_callsign c e && (n == m)
+pub numbered_is : (c e : Callsign) (n m : ℕ)
+    → is_eq (numbered_cmp (c, n) (e, m)) ≡ same_callsign c e && (n == m)
 numbered_is c e n m = is_eq-then (callsign_cmp c e) (nat_cmp n m) ∙ (λ i. is_eq (callsign_cmp c e) && same_number n m i)
 
 pub and_swapped : (a b : Bool) → a && b ≡ b && a
@@ -88,7 +93,8 @@ and_across false true c = refl
 and_across false false c = refl
 
 -- no row passes a test that is never met
-pub filter_never : {X : Type 0} (p q : X → Bool) (xs : List X) → ((x : X) → q x ≡ false) → filter (λ x. p x && q x) xs ≡ []
+pub filter_never : {X : Type 0} (p q : X → Bool) (xs : List X) → ((x : X) → q x ≡ false)
+    → filter (λ x. p x && q x) xs ≡ []
 filter_never p q xs e = filter_as _ (λ x. false) xs (λ x. ap (λ b. p x && b) (e x) ∙ and_none (p x)) ∙ filter_none xs
 
 -- a division owns its own row
@@ -108,6 +114,7 @@ filter_all [] = refl
 filter_all (x ∷ xs) = ap (λ ys. x ∷ ys) (filter_all xs)
 
 -- one item more is looked at
-pub any_last : {K : Type 0} (p : K → Bool) (k : K) (ks : List K) → any p (ks ++ k ∷ []) ≡ any p ks || p k
+pub any_last : {K : Type 0} (p : K → Bool) (k : K) (ks : List K)
+    → any p (ks ++ k ∷ []) ≡ any p ks || p k
 any_last p k [] = or_none (p k)
 any_last p k (j ∷ ks) = ap (λ b. p j || b) (any_last p k ks) ∙ or_assoc (p j) (any p ks) (p k)

@@ -13,10 +13,12 @@ use Rattle.room_store_reads.specs.declared.crews.Sent.{Sent}
 abbrev pub HasVehicle : Vehicle → Room → Type 0
 HasVehicle v room = row_at callsign_cmp vehicle_key room.vehicles v.callsign ≡ Some v
 
--- what the vehicle is sent to: its assignment, and the turn of its last order where that is not ended
+-- what the vehicle is sent to: its assignment, and the turn of its last order where that is not
+-- ended
 pub record IsSent (v : Vehicle) (room : Room) (x : Sent) : Type 0 where
   pub assignment : row_at callsign_cmp assignment_key room.assignments v.callsign ≡ x.assignment
-  pub turn : keep (λ t. is_none t.ended) (row_at numbered_cmp turn_key room.turns (v.callsign, v.last_order)) ≡ x.turn
+  pub turn : keep (λ t. is_none t.ended)
+      (row_at numbered_cmp turn_key room.turns (v.callsign, v.last_order)) ≡ x.turn
 
 -- the vehicle's rows; none where the room has no such vehicle
 abbrev pub IsCrewOf : Callsign → ℕ → Room → Option CrewRows → Type 0

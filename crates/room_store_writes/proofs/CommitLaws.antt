@@ -33,45 +33,64 @@ ok_then (Ok x) P Q f p = f p
 ok_then (Err e) P Q f p = tt
 
 -- what changed a room's tables in a transaction may be followed by more
-pub may_on : {S T E : Type 0} (g : Ghosts S) (a b : Held S) (house_after : House → House) (room_after : Room → Room) (r : Result T E)
-    → (HasCleanDisk (state g b) → OnOk r (Changes (state g a) (state g b) house_after room_after)) → OnOk r (MayWrite g b)
+pub may_on : {S T E : Type 0} (g : Ghosts S) (a b : Held S) (house_after : House → House)
+    (room_after : Room → Room) (r : Result T E)
+    → (HasCleanDisk (state g b) → OnOk r (Changes (state g a) (state g b) house_after room_after))
+    → OnOk r (MayWrite g b)
 may_on g a b house_after room_after (Ok x) made = record { room = λ clean. (made clean).schema; inside = λ clean. (made clean).inside.mode }
 may_on g a b house_after room_after (Err e) made = tt
 
-module _ {S T E : Type 0} (g : Ghosts S) (a b : Held S) (house_after : House → House) (room_after : Room → Room) (r : Result T E)
+module _ {S T E : Type 0} (g : Ghosts S) (a b : Held S) (house_after : House → House)
+    (room_after : Room → Room) (r : Result T E)
     (made : HasCleanDisk (state g b) → OnOk r (Changes (state g a) (state g b) house_after room_after)) where
   -- what changed them commits nothing
   pub put_commits : WritesInside g a b r → CommitsNothing g a b
   put_commits wrote = write_commits r wrote (λ clean. ok_then r _ _ (λ (is : Changes (state g a) (state g b) house_after room_after). is.inside) (made clean))
 
 -- nor does the next area
-pub area_commits : {S T E : Type 0} (g : Ghosts S) (a b : Held S) (at : ℕ) (area : Area) (r : Result T E)
-    → (HasCleanDisk (state g b) → OnOk r (AppendsArea (state g a) (state g b) at area)) → WritesInside g a b r → CommitsNothing g a b
+pub area_commits : {S T E : Type 0} (g : Ghosts S) (a b : Held S) (at : ℕ) (area : Area)
+    (r : Result T E)
+    → (HasCleanDisk (state g b) → OnOk r (AppendsArea (state g a) (state g b) at area))
+    → WritesInside g a b r → CommitsNothing g a b
 area_commits g a b at area r made wrote = write_commits r wrote (λ clean. ok_then r _ _ (λ (is : AppendsArea (state g a) (state g b) at area). is.inside) (made clean))
 
 -- what holds where both went well
-pub ok_both : {T E A B : Type 0} (r : Result T E) (done : Result A B) (P Q R : Type 0) → OnOk r (IsOk done) → OnOk r P → OnOk done Q → (IsOk done → P → Q → R) → OnOk r R
+pub ok_both : {T E A B : Type 0} (r : Result T E) (done : Result A B) (P Q R : Type 0)
+    → OnOk r (IsOk done) → OnOk r P → OnOk done Q → (IsOk done → P → Q → R) → OnOk r R
 ok_both (Ok x) done P Q R is p q f = f is p (when_ok done Q is q)
 ok_both (Err e) done P Q R is p q f = tt
 
 -- Where nothing was done, a stop leaves what it could before.
-pub unchanged_survives : {S : Type 0} (g : Ghosts S) (held : Held S) (P : Trees → Type 0) → Survives (state g held) (state g held) P
+pub unchanged_survives : {S : Type 0} (g : Ghosts S) (held : Held S) (P : Trees → Type 0)
+    → Survives (state g held) (state g held) P
 unchanged_survives g held P =
     let none : CommitsNothing g held held = commits_none in
     let same = none.survives in
-    record { clean = same.clean; shield = same.shield; counts = same.counts; limit = same.limit; closes = same.closes; crash = λ clean db left. inl left }
+    record {
+      clean = same.clean;
+      shield = same.shield;
+      counts = same.counts;
+      limit = same.limit;
+      closes = same.closes;
+      crash = λ clean db left. inl left;
+    }
 
 module _ {S : Type 0} (g : Ghosts S) (old last end : Held S) where
   -- A stop leaves what was before, or what was committed.
-  pub ended_survives : {A B : Type 0} (done : Result A B) (P : Trees → Type 0) → Survives (state g (record old { in_transaction = true })) (state g last) (λ _. ⊥)
-      → Survives (state g last) (state g end) (λ db. IsOk done × (db ≡ (state g last).now.trees)) → (HasCleanDisk (state g last) → OnOk done (P (state g last).now.trees)) → Survives (state g old) (state g end) P
+  pub ended_survives : {A B : Type 0} (done : Result A B) (P : Trees → Type 0)
+      → Survives (state g (record old { in_transaction = true })) (state g last) (λ _. ⊥)
+      → Survives (state g last) (state g end) (λ db. IsOk done × (db ≡ (state g last).now.trees))
+      → (HasCleanDisk (state g last) → OnOk done (P (state g last).now.trees))
+      → Survives (state g old) (state g end) P
   ended_survives done P inside ended holds =
       survives_then (state g old) (state g last) (state g end) _ _ P (λ _ db none. absurd none)
       (λ clean db is. let early : HasCleanDisk (state g last) = omega (arith, ended.clean) in subst P (sym is.1) (when_ok done (P (state g last).now.trees) is.0 (holds early)))
       (survives_begin g old (state g last) _ inside) ended
 
-  pub undone_leaves : KeepsCommit (state g (record old { in_transaction = true })) (state g last) → IsRolledBack (state g last) (state g end)
-      → (IsTrue (state g old).is_open → (state g old).now ≡ (state g old).committed) → Leaves (state g old) (state g end)
+  pub undone_leaves : KeepsCommit (state g (record old { in_transaction = true })) (state g last)
+      → IsRolledBack (state g last) (state g end)
+      → (IsTrue (state g old).is_open → (state g old).now ≡ (state g old).committed)
+      → Leaves (state g old) (state g end)
   undone_leaves kept back settled = record {
     was_open = λ is_open. kept.was_open (back.was_open is_open);
     now_is = λ is_open. (back.undone is_open).0 ∙ kept.committed (back.was_open is_open) ∙ sym (settled (kept.was_open (back.was_open is_open)));
@@ -79,13 +98,20 @@ module _ {S : Type 0} (g : Ghosts S) (old last end : Held S) where
   }
 
 -- A transaction, from `old` to `end`: all that was done in it is committed, or nothing.
-pub record IsWhole {S A B : Type 0} (g : Ghosts S) (old end : Held S) (result : Result A B) (P : Trees → Trees → Type 0) : Type 0 where
-  pub ok : HasCleanDisk (state g end) → OnOk result (HasCleanDisk (state g old) × IsSettled (state g end) × ((state g end).now.schema ≡ room_schema) × P (state g old).now.trees (state g end).now.trees)
+pub record IsWhole {S A B : Type 0} (g : Ghosts S) (old end : Held S) (result : Result A B)
+    (P : Trees → Trees → Type 0) : Type 0 where
+  pub ok : HasCleanDisk (state g end)
+      → OnOk result (HasCleanDisk (state g old) × IsSettled (state g end)
+      × ((state g end).now.schema ≡ room_schema)
+      × P (state g old).now.trees (state g end).now.trees)
   pub err : HasCleanDisk (state g end) → OnErr result (Leaves (state g old) (state g end))
   pub survives : Survives (state g old) (state g end) (P (state g old).now.trees)
 
--- It is, where what was done left `last`, and `end` commits that where it went well, and undoes it where not.
-module _ {S A B C D : Type 0} (g : Ghosts S) (old begun last end : Held S) (done : Result A B) (result : Result C D) (P : Trees → Trees → Type 0) (begins : begun ≡ record old { in_transaction = true })
+-- It is, where what was done left `last`, and `end` commits that where it went well, and undoes it
+-- where not.
+module _ {S A B C D : Type 0} (g : Ghosts S) (old begun last end : Held S) (done : Result A B)
+    (result : Result C D) (P : Trees → Trees → Type 0)
+    (begins : begun ≡ record old { in_transaction = true })
     (settled : HasCleanDisk (state g old) → IsTrue (state g old).is_open → (state g old).now ≡ (state g old).committed) (inside : CommitsNothing g begun last)
     (made : HasCleanDisk (state g last) → OnOk done (((state g last).now.schema ≡ room_schema) × P (state g begun).now.trees (state g last).now.trees))
     (well : OnOk result (IsOk done)) (committed : HasCleanDisk (state g end) → OnOk result (Shows (state g last) (state g end) (state g last).now (state g last).now false))
@@ -99,7 +125,8 @@ module _ {S A B C D : Type 0} (g : Ghosts S) (old begun last end : Held S) (done
   old_clean : HasCleanDisk (state g end) → HasCleanDisk (state g old)
   old_clean clean = let early = last_clean clean in omega (arith, kept.survives.clean)
 
-  from_old : P (state g begun).now.trees (state g last).now.trees → P (state g old).now.trees (state g last).now.trees
+  from_old : P (state g begun).now.trees (state g last).now.trees
+      → P (state g old).now.trees (state g last).now.trees
   from_old = subst (λ h. P (state g h).now.trees (state g last).now.trees) begins
 
   pub is_whole : IsWhole g old end result P
@@ -114,16 +141,20 @@ module _ {S A B C D : Type 0} (g : Ghosts S) (old begun last end : Held S) (done
     survives = ended_survives g old last end done (P (state g old).now.trees) kept.survives ended (λ clean. on_ok_weaker done (λ all. from_old all.1) (made clean));
   }
 
--- The tables stand for a room that these changes, the last ones, take to the room that all of them make.
+-- The tables stand for a room that these changes, the last ones, take to the room that all of them
+-- make.
 abbrev pub StandsBefore : List Change → House → Trees → Room → Type 0
 StandsBefore left house db after = (mid : Room) × Stands db house mid × (apply mid left ≡ after)
 
 -- one of them is made
-pub nearer : (left more : List Change) (change : Change) (house : House) (db next : Trees) (after : Room) → left ≡ change ∷ more
-    → ((room : Room) → Stands db house room → Stands next house (apply_one room change)) → StandsBefore left house db after → StandsBefore more house next after
+pub nearer : (left more : List Change) (change : Change) (house : House) (db next : Trees)
+    (after : Room) → left ≡ change ∷ more
+    → ((room : Room) → Stands db house room → Stands next house (apply_one room change))
+    → StandsBefore left house db after → StandsBefore more house next after
 nearer left more change house db next after is made before =
     (apply_one before.0 change, made before.0 before.1, sym (ap (apply before.0) is) ∙ before.2)
 
 -- all are made
-pub there : (left : List Change) (house : House) (db : Trees) (after : Room) → left ≡ [] → StandsBefore left house db after → Stands db house after
+pub there : (left : List Change) (house : House) (db : Trees) (after : Room) → left ≡ []
+    → StandsBefore left house db after → Stands db house after
 there left house db after none before = subst (Stands db house) (sym (ap (apply before.0) none) ∙ before.2) before.1

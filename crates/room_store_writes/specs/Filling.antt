@@ -47,7 +47,8 @@ abbrev pub StandsNew : Layout → List Terminal → Trees → Type 0
 StandsNew plan ts trees = Stands trees (house_of plan (in_order ts)) (new_room plan)
 
 -- The tables of an open connection are the new room's, and this is committed.
-pub record Begins {S : Type 0} (g : Ghosts S) (conn : Held S) (plan : Layout) (ts : List Terminal) : Type 0 where
+pub record Begins {S : Type 0} (g : Ghosts S) (conn : Held S) (plan : Layout)
+    (ts : List Terminal) : Type 0 where
   pub settled : IsSettled (state g conn)
   pub schema : (state g conn).now.schema ≡ room_schema
   pub stands : StandsNew plan ts (state g conn).now.trees

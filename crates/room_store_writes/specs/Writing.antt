@@ -10,7 +10,8 @@ use Rattle.room_tables.specs.Stands.{House, Stands}
 pub record MakesAll (old new : State) (changes : List Change) : Type 0 where
   pub inside : IsTrue new.in_transaction
   pub schema : new.now.schema ≡ room_schema
-  pub stands : (house : House) (room : Room) → Stands old.now.trees house room → Stands new.now.trees house (apply room changes)
+  pub stands : (house : House) (room : Room) → Stands old.now.trees house room
+      → Stands new.now.trees house (apply room changes)
 
 -- The tables of a connection that is open and in no transaction are as they were committed.
 pub record IsSettled (at : State) : Type 0 where
@@ -18,11 +19,13 @@ pub record IsSettled (at : State) : Type 0 where
   pub committed : at.committed ≡ at.now
 
 -- From the tables of certain rooms came those of the rooms after, and this is committed.
-pub record Commits (old new : State) (IsOld : House → Room → Type 0) (room_after : Room → Room) : Type 0 where
+pub record Commits (old new : State) (IsOld : House → Room → Type 0)
+    (room_after : Room → Room) : Type 0 where
   pub was_open : IsTrue old.is_open
   pub settled : IsSettled new
   pub schema : new.now.schema ≡ room_schema
-  pub stands : (house : House) (room : Room) → IsOld house room → Stands new.now.trees house (room_after room)
+  pub stands : (house : House) (room : Room) → IsOld house room
+      → Stands new.now.trees house (room_after room)
 
 -- All is as it was, unless the connection is shut.
 pub record Leaves (old new : State) : Type 0 where

@@ -12,7 +12,8 @@ use Rattle.room_tables_rows.specs.Writes.{Renews}
 
 module _ {S : Type 0} {g : Ghosts S} {a b c : Held S} {T E U F : Type 0} {x : T} where
   -- a read after another, which succeeds or fails
-  pub inside_then : ReadsInside {T = T} {E = E} g a b (Ok x) → (r : Result U F) → ReadsInside g b c r → ReadsInside g a c r
+  pub inside_then : ReadsInside {T = T} {E = E} g a b (Ok x) → (r : Result U F)
+      → ReadsInside g b c r → ReadsInside g a c r
   inside_then before (Ok y) next = record {
     ok = λ clean. let early = was_clean next.survives clean in unchanged_then _ _ _ (before.ok early) (next.ok clean);
     err = λ clean. tt;

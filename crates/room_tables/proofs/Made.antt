@@ -22,11 +22,15 @@ use Rattle.room_tables_rows.proofs.ReportsTable.{reports_are}
 use Rattle.room_tables.specs.Running.{IsStatement, Ran}
 
 module _ {old new : State} {text : List ℕ} {params : Row} (it : Ran text params old new) where
-  module _ {X K : Type 0} {order : K → K → Ordering} {key : X → K} {row : X → Row} {key_row : K → Row} {table : Table} {rows : Room → List X} {put : X → Change} {texts : Texts} (is : IsTable order key row key_row table rows put texts) where
+  module _ {X K : Type 0} {order : K → K → Ordering} {key : X → K} {row : X → Row}
+      {key_row : K → Row} {table : Table} {rows : Room → List X} {put : X → Change} {texts : Texts}
+      (is : IsTable order key row key_row table rows put texts) where
     pub puts : (x : X) → (text ≡ texts.put) × (params ≡ row x) → Makes old new (put x)
     puts x same = put_makes is x old new it.count it.room it.inside (rw (same.0, same.1) at it.ran)
 
-    pub drops : {drop : K → Change} {drop_text : List ℕ} → IsDropped order key row key_row table rows drop drop_text → (k : K) → (text ≡ drop_text) × (params ≡ key_row k) → Makes old new (drop k)
+    pub drops : {drop : K → Change} {drop_text : List ℕ}
+        → IsDropped order key row key_row table rows drop drop_text → (k : K)
+        → (text ≡ drop_text) × (params ≡ key_row k) → Makes old new (drop k)
     drops dropped k same = drop_makes is _ _ dropped k old new it.count it.room it.inside (rw (same.0, same.1) at it.ran)
 
   pub makes : (made : Change) → IsStatement text params made → Makes old new made

@@ -6,9 +6,11 @@ use Rattle.room_model.specs.Room.{Room}
 use Rattle.room_tables_rows.specs.Stands.{House, Stands}
 
 -- a read leaves the room
-pub kept : (old new : State) → IsUnchanged old new → (house : House) (room : Room) → Stands old.now.trees house room → Stands new.now.trees house room
+pub kept : (old new : State) → IsUnchanged old new → (house : House) (room : Room)
+    → Stands old.now.trees house room → Stands new.now.trees house room
 kept old new same house room h = subst (λ db. Stands db.trees house room) (sym same.0.now_is) h
 
 -- a disk that is clean after a call was clean before it
-pub was_clean : {old new : State} {Commits : Trees → Type 0} → Survives old new Commits → HasCleanDisk new → HasCleanDisk old
+pub was_clean : {old new : State} {Commits : Trees → Type 0} → Survives old new Commits
+    → HasCleanDisk new → HasCleanDisk old
 was_clean survives clean = omega (arith, survives.clean)

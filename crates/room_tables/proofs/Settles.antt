@@ -25,11 +25,16 @@ abbrev pub IsFound : Trees → Callsign → Option Vehicle → Type 0
 IsFound trees callsign found = (house : House) (room : Room) → Stands trees house room → found ≡ row_at callsign_cmp vehicle_key room.vehicles callsign
 
 -- what a selection by the callsign shows
-pub found_by : (old mid : State) (callsign : Callsign) (found : Option Vehicle) → old.now.schema ≡ room_schema → Shown VEHICLE_AT.now (text_cells callsign) old mid (map vehicle_row (listed found)) → IsFound old.now.trees callsign found
+pub found_by : (old mid : State) (callsign : Callsign) (found : Option Vehicle)
+    → old.now.schema ≡ room_schema → Shown VEHICLE_AT.now (text_cells callsign) old mid
+    (map vehicle_row (listed found)) → IsFound old.now.trees callsign found
 found_by old mid callsign found has shown = row_of_key vehicles_are.is_held VEHICLE_AT.now (text_cells callsign) callsign (vehicles_are.selects_at callsign) old mid found has shown
 
 module _ (old mid : State) (callsign : Callsign) (division : ℕ) (same : IsUnchanged old mid) where
-  pub settles_found : (vehicle : Vehicle) (new : State) → IsFound old.now.trees callsign (Some vehicle) → Makes mid new (PutVehicle (record vehicle { holder = division; status = Available })) → Makes old new (Settle callsign division)
+  pub settles_found : (vehicle : Vehicle) (new : State)
+      → IsFound old.now.trees callsign (Some vehicle)
+      → Makes mid new (PutVehicle (record vehicle { holder = division; status = Available }))
+      → Makes old new (Settle callsign division)
   settles_found vehicle new found put = record {
     inside = record { was_open = same.0.was_open; is_open = put.inside.is_open; now_is = put.inside.now_is; committed_is = put.inside.committed_is ∙ same.0.committed_is; mode = put.inside.mode };
     schema = put.schema;
@@ -37,7 +42,8 @@ module _ (old mid : State) (callsign : Callsign) (division : ℕ) (same : IsUnch
         subst (λ at. Stands new.now.trees house (record room { vehicles = settled at division room.vehicles })) (found house room h) (put.stands house room (kept old mid same house room h));
   }
 
-  pub settles_none : old.in_transaction ≡ true → old.now.schema ≡ room_schema → IsFound old.now.trees callsign None → Makes old mid (Settle callsign division)
+  pub settles_none : old.in_transaction ≡ true → old.now.schema ≡ room_schema
+      → IsFound old.now.trees callsign None → Makes old mid (Settle callsign division)
   settles_none inside has none = record {
     inside = record { was_open = same.0.was_open; is_open = same.0.is_open; now_is = λ i. mid.now; committed_is = same.0.committed_is; mode = same.0.mode ∙ inside };
     schema = subst (λ db. db.schema ≡ room_schema) (sym same.0.now_is) has;

@@ -21,32 +21,41 @@ IfStorage IsSo Storage = IsSo
 module _ (text : List ℕ) (params : Row) (old new : State) where
   -- The query failed, and not for want of memory; or what it showed is none of what is read.
   abbrev pub FailsToRead : (List Row → Type 0) → Type 0
-  FailsToRead AreNone = ((e : Error) × FailsToQuery text params old new e × (fault_of e ≡ Storage)) ⊎ ((shown : List Row) × Shown text params old new shown × AreNone shown)
+  FailsToRead AreNone = ((e : Error) × FailsToQuery text params old new e × (fault_of e ≡ Storage))
+      ⊎ ((shown : List Row) × Shown text params old new shown × AreNone shown)
 
   -- The statement failed, and not for want of memory.
   abbrev pub FailsToWrite : Type 0
   FailsToWrite = (e : Error) × ExecutesInside 0 text params old new (Err e) × (fault_of e ≡ Storage)
 
 -- why a read failed: storage is told for one of these causes
-abbrev pub TellsWhy : {S T : Type 0} → Ghosts S → Held S → Held S → Result T Fault → List ℕ → Row → (List Row → Type 0) → Type 0
+abbrev pub TellsWhy : {S T : Type 0} → Ghosts S → Held S → Held S → Result T Fault → List ℕ → Row
+    → (List Row → Type 0) → Type 0
 TellsWhy g old new result text params AreNone =
-    HasCleanDisk (state g new) → IfErr result (IfStorage (FailsToRead text params (state g old) (state g new) AreNone))
+    HasCleanDisk (state g new) → IfErr result
+    (IfStorage (FailsToRead text params (state g old) (state g new) AreNone))
 
 -- why a write failed: storage is told for this cause
-abbrev pub TellsWhyUnwritten : {S T : Type 0} → Ghosts S → Held S → Held S → Result T Fault → List ℕ → Row → Type 0
+abbrev pub TellsWhyUnwritten : {S T : Type 0} → Ghosts S → Held S → Held S → Result T Fault
+    → List ℕ → Row → Type 0
 TellsWhyUnwritten g old new result text params =
-    HasCleanDisk (state g new) → IfErr result (IfStorage (FailsToWrite text params (state g old) (state g new)))
+    HasCleanDisk (state g new) → IfErr result
+    (IfStorage (FailsToWrite text params (state g old) (state g new)))
 
 -- one of them is none of the table's rows
 abbrev pub HasStranger : (Row → Bool) → List Row → Type 0
-HasStranger is_row shown = (before : List Row) × (r : Row) × (after : List Row) × (before ++ r ∷ after ≡ shown) × (is_row r ≡ false)
+HasStranger is_row shown = (before : List Row) × (r : Row) × (after : List Row)
+    × (before ++ r ∷ after ≡ shown) × (is_row r ≡ false)
 
 -- they begin with rows whose keys don't rise
-abbrev pub AreOutOfOrder : {X K : Type 0} → (K → K → Ordering) → (X → K) → (X → Row) → List Row → Type 0
-AreOutOfOrder {X} order key row shown = (xs : List X) × (after : List Row) × (map row xs ++ after ≡ shown) × ¬ (IsKeyed order key xs)
+abbrev pub AreOutOfOrder : {X K : Type 0} → (K → K → Ordering) → (X → K) → (X → Row) → List Row
+    → Type 0
+AreOutOfOrder {X} order key row shown =
+    (xs : List X) × (after : List Row) × (map row xs ++ after ≡ shown) × ¬ (IsKeyed order key xs)
 
 -- they are no rows of the table in the order of their keys
-abbrev pub AreNoRows : {X K : Type 0} → (Row → Bool) → (K → K → Ordering) → (X → K) → (X → Row) → List Row → Type 0
+abbrev pub AreNoRows : {X K : Type 0} → (Row → Bool) → (K → K → Ordering) → (X → K) → (X → Row)
+    → List Row → Type 0
 AreNoRows is_row order key row shown = HasStranger is_row shown ⊎ AreOutOfOrder order key row shown
 
 -- one is no row of the table, or there are more than one
@@ -59,7 +68,8 @@ AreNotJustOne is_row shown = HasStranger is_row shown ⊎ ¬ (length shown ≡ 1
 
 -- an area has another number than its place
 abbrev pub HasMisnumbered : List Row → Type 0
-HasMisnumbered shown = (before : List Row) × (area : ℕ × Area) × (after : List Row) × (before ++ area_row area ∷ after ≡ shown) × ¬ (area.0 ≡ suc (length before))
+HasMisnumbered shown = (before : List Row) × (area : ℕ × Area) × (after : List Row)
+    × (before ++ area_row area ∷ after ≡ shown) × ¬ (area.0 ≡ suc (length before))
 
 -- they are not the areas of a plan, numbered from 1 on
 abbrev pub AreNoPlan : List Row → Type 0

@@ -7,11 +7,17 @@ use Rattle.room_model.specs.Room.{Room}
 use Rattle.room_tables_rows.specs.Stands.{House, Stands}
 
 -- of whichever room the tables stand for, and of what was read, this is so
-abbrev pub Finds : {S T E : Type 0} → Ghosts S → Held S → Held S → Result T E → (Room → T → Type 0) → Type 0
+abbrev pub Finds : {S T E : Type 0} → Ghosts S → Held S → Held S → Result T E → (Room → T → Type 0)
+    → Type 0
 Finds g old new result IsFound =
-    HasCleanDisk (state g new) → IfOk result (λ x. (house : House) (room : Room) → Stands (state g old).now.trees house room → IsFound room x)
+    HasCleanDisk (state g new) → IfOk result
+    (λ x. (house : House) (room : Room) → Stands (state g old).now.trees house room
+    → IsFound room x)
 
 -- of whichever house the tables stand for, and of what was read, this is so
-abbrev pub FindsInHouse : {S T E : Type 0} → Ghosts S → Held S → Held S → Result T E → (House → T → Type 0) → Type 0
+abbrev pub FindsInHouse : {S T E : Type 0} → Ghosts S → Held S → Held S → Result T E
+    → (House → T → Type 0) → Type 0
 FindsInHouse g old new result IsFound =
-    HasCleanDisk (state g new) → IfOk result (λ x. (house : House) (room : Room) → Stands (state g old).now.trees house room → IsFound house x)
+    HasCleanDisk (state g new) → IfOk result
+    (λ x. (house : House) (room : Room) → Stands (state g old).now.trees house room
+    → IsFound house x)

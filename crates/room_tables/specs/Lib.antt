@@ -1,5 +1,5 @@
--- Whether the tables number their rows, and what a fault tells; and, for callers, which room the tables stand for and what writes make of it.
--- whether all rows are numbered
+-- Whether the tables number their rows, and what a fault tells; and, for callers, which room the
+-- tables stand for and what writes make of it. whether all rows are numbered
 pub mod Numbering
 -- what is found of a room
 pub mod Finding

@@ -21,7 +21,8 @@ abbrev pub last_rowid : Value → List Row → Value
 last_rowid v [] = v
 last_rowid v (r ∷ rows) = last_rowid (rowid r) rows
 
--- what is told of the rowids that were shown so far: they rise, and this was the last; or they don't
+-- what is told of the rowids that were shown so far: they rise, and this was the last; or they
+-- don't
 abbrev pub TellsRise : List Row → Bool → Option ℤ → Type 0
 TellsRise shown true last = RowidsRise shown × (or_null Int last ≡ last_rowid Null shown)
 TellsRise shown false last = ¬ (RowidsRise shown)

@@ -39,17 +39,22 @@ pub record Ran (text : List ℕ) (params : Row) (old new : State) : Type 0 where
 
 -- this text, with these values, makes the change
 abbrev pub IsStatement : List ℕ → Row → Change → Type 0
-IsStatement text params (change.PutDivision row) = (text ≡ PUT_DIVISION.now) × (params ≡ division_row row)
-IsStatement text params (change.PutIncident row) = (text ≡ PUT_INCIDENT.now) × (params ≡ incident_row row)
+IsStatement text params (change.PutDivision row) =
+    (text ≡ PUT_DIVISION.now) × (params ≡ division_row row)
+IsStatement text params (change.PutIncident row) =
+    (text ≡ PUT_INCIDENT.now) × (params ≡ incident_row row)
 IsStatement text params (change.PutCall row) = (text ≡ PUT_CALL.now) × (params ≡ call_row row)
-IsStatement text params (change.PutVehicle row) = (text ≡ PUT_VEHICLE.now) × (params ≡ vehicle_row row)
+IsStatement text params (change.PutVehicle row) =
+    (text ≡ PUT_VEHICLE.now) × (params ≡ vehicle_row row)
 IsStatement text params (change.PutTurn row) = (text ≡ PUT_TURN.now) × (params ≡ turn_row row)
-IsStatement text params (change.PutAssignment row) = (text ≡ PUT_ASSIGNMENT.now) × (params ≡ assignment_row row)
+IsStatement text params (change.PutAssignment row) =
+    (text ≡ PUT_ASSIGNMENT.now) × (params ≡ assignment_row row)
 IsStatement text params (change.PutPoint row) = (text ≡ PUT_POINT.now) × (params ≡ point_row row)
 IsStatement text params (change.PutLoan row) = (text ≡ PUT_LOAN.now) × (params ≡ loan_row row)
 IsStatement text params (change.PutOffer row) = (text ≡ PUT_OFFER.now) × (params ≡ offer_row row)
 IsStatement text params (change.PutReport row) = (text ≡ PUT_REPORT.now) × (params ≡ report_row row)
-IsStatement text params (change.DropAssignment key) = (text ≡ DROP_ASSIGNMENT.now) × (params ≡ text_cells key)
+IsStatement text params (change.DropAssignment key) =
+    (text ≡ DROP_ASSIGNMENT.now) × (params ≡ text_cells key)
 IsStatement text params (change.DropLoan key) = (text ≡ DROP_LOAN.now) × (params ≡ text_cells key)
 IsStatement text params (change.DropOffer key) = (text ≡ DROP_OFFER.now) × (params ≡ text_cells key)
 IsStatement text params (change.Settle callsign division) = ⊥

@@ -17,11 +17,13 @@ last_of [] = None
 last_of (x ∷ []) = Some x
 last_of (x ∷ y ∷ xs) = last_of (y ∷ xs)
 
-module _ {X K T : Type 0} (is_row : Row → Bool) (order : K → K → Ordering) (key : X → K) (row : X → Row) (takes : T → List X → T → Type 0) where
+module _ {X K T : Type 0} (is_row : Row → Bool) (order : K → K → Ordering) (key : X → K)
+    (row : X → Row) (takes : T → List X → T → Type 0) where
   -- What was shown so far are the table's rows in the order of their keys, and all were taken;
   -- or memory was wanting, or they are no such rows.
   abbrev pub AreTaken : T → List Row → T → Option X → Result (Unit {0}) Fault → Type 0
-  AreTaken first shown now last (Ok done) = (rows : List X) × (map row rows ≡ shown) × IsKeyed order key rows × (last ≡ last_of rows) × takes first rows now
+  AreTaken first shown now last (Ok done) = (rows : List X) × (map row rows ≡ shown)
+      × IsKeyed order key rows × (last ≡ last_of rows) × takes first rows now
   AreTaken first shown now last (Err fault) = IfStorage (AreNoRows is_row order key row shown) fault
 
   -- the same of what was shown in all, and of the result
@@ -31,7 +33,8 @@ module _ {X K T : Type 0} (is_row : Row → Bool) (order : K → K → Ordering)
 
 -- The rows, in the order of their keys, are those of the room that the tables stand for, whichever
 -- it is; and they are what the table stands for, if its rowids differ.
-pub record AreAll {X K : Type 0} (order : K → K → Ordering) (key : X → K) (row : X → Row) (of_room : Room → List X) (table : Table) (trees : Trees) (rows : List X) : Type 0 where
+pub record AreAll {X K : Type 0} (order : K → K → Ordering) (key : X → K) (row : X → Row)
+    (of_room : Room → List X) (table : Table) (trees : Trees) (rows : List X) : Type 0 where
   pub keyed : IsKeyed order key rows
   pub stands : AreNumbered (trees table.tree) → StandsFor trees table row rows
   pub of_any : (house : House) (room : Room) → Stands trees house room → rows ≡ of_room room

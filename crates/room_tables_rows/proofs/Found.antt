@@ -16,7 +16,9 @@ unfolding first
 first-listed None = refl
 first-listed (Some x) = refl
 
-pub found_at : {X K : Type 0} (cmp : K → K → Ordering) (key : X → K) (k : K) (xs : List X) (found : Option X) → listed found ≡ filter (λ x. is_eq (cmp k (key x))) xs → found ≡ row_at cmp key xs k
+pub found_at : {X K : Type 0} (cmp : K → K → Ordering) (key : X → K) (k : K) (xs : List X)
+    (found : Option X) → listed found ≡ filter (λ x. is_eq (cmp k (key x))) xs
+    → found ≡ row_at cmp key xs k
 unfolding first
 found_at cmp key k xs found is = sym (first-listed found) ∙ ap first is ∙ go xs
   where
@@ -30,12 +32,14 @@ is_less Equal e = cc
 is_less Greater e = cc
 
 module _ {X K : Type 0} (cmp : K → K → Ordering) (key : X → K) (total : IsTotalOrder cmp) where
-  below_found : (k : K) (xs : List X) (i : ℕ) (z : X) → IsBelowAll cmp key k xs → slice_get xs i ≡ Some z → cmp k (key z) ≡ Less
+  below_found : (k : K) (xs : List X) (i : ℕ) (z : X) → IsBelowAll cmp key k xs
+      → slice_get xs i ≡ Some z → cmp k (key z) ≡ Less
   below_found k [] i z h e = cc
   below_found k (x ∷ xs) zero z h e = let same : x ≡ z = cc in rw (← same) h.0
   below_found k (x ∷ xs) (suc i) z h e = below_found k xs i z h.1 e
 
-  put_after : (xs : List X) (r : X) (i : ℕ) (z : X) → IsKeyed cmp key xs → length xs ≡ suc i → slice_get xs i ≡ Some z → cmp (key z) (key r) ≡ Less → put_row cmp key xs r ≡ xs ++ r ∷ []
+  put_after : (xs : List X) (r : X) (i : ℕ) (z : X) → IsKeyed cmp key xs → length xs ≡ suc i
+      → slice_get xs i ≡ Some z → cmp (key z) (key r) ≡ Less → put_row cmp key xs r ≡ xs ++ r ∷ []
   put_after [] r i z keyed n e l = absurd (omega arith)
   put_after (x ∷ []) r zero z keyed n e l =
       let same : x ≡ z = cc in
@@ -46,7 +50,9 @@ module _ {X K : Type 0} (cmp : K → K → Ordering) (key : X → K) (total : Is
       rw (total.antisymm (key r) (key x), total.trans (key x) (key z) (key r) (below_found (key x) (y ∷ xs) i z keyed.0 e) l) (ap (λ ys. x ∷ ys) (put_after (y ∷ xs) r i z keyed.1 (omega arith) e l))
 
   -- a row with a key above the last is put at the end
-  pub put_last : (xs : List X) (r z : X) → IsKeyed cmp key xs → Some z ≡ slice_get xs (length xs - 1) → is_lt (cmp (key z) (key r)) ≡ true → put_row cmp key xs r ≡ xs ++ r ∷ []
+  pub put_last : (xs : List X) (r z : X) → IsKeyed cmp key xs
+      → Some z ≡ slice_get xs (length xs - 1) → is_lt (cmp (key z) (key r)) ≡ true
+      → put_row cmp key xs r ≡ xs ++ r ∷ []
   put_last xs r z keyed e l =
       let inside = slice_get_within xs (length xs - 1) z (sym e) in
       let n : length xs ≡ suc (length xs - 1) = omega arith in

@@ -16,14 +16,18 @@ use Rattle.room_tables_rows.specs.Stands.{House, Stands, StandsFor, StandsInFirs
 use Rattle.room_tables_rows.specs.Writes.{Renews}
 
 -- a version's row tells one zone
-pub one_zone : (version : ℕ) (trees : Trees) (zone other : List ℕ) → StandsFor trees meta_table (version_row version) (zone ∷ []) → StandsFor trees meta_table (version_row version) (other ∷ []) → zone ≡ other
+pub one_zone : (version : ℕ) (trees : Trees) (zone other : List ℕ)
+    → StandsFor trees meta_table (version_row version) (zone ∷ [])
+    → StandsFor trees meta_table (version_row version) (other ∷ []) → zone ≡ other
 one_zone version trees zone other h k = let listed : zone ∷ [] ≡ other ∷ [] = (stands_for_one _ _ _ _ _ _ _ _ (version_faithful version) h k).0 in cc
 
 -- tables of the first version stand for a room without offers
-pub no_offers : (trees : Trees) (house : House) (room : Room) → StandsInFirst trees house room → room.offers ≡ []
+pub no_offers : (trees : Trees) (house : House) (room : Room) → StandsInFirst trees house room
+    → room.offers ≡ []
 no_offers trees house room h = (stands_for_one _ _ _ _ _ _ _ [] offer_faithful h.offers (holds_none _ _ [] refl)).0
 
-module _ (old : Trees) (mid new : State) (adds : AddsLast old mid.now.trees) (renews : Renews mid new) (house : House) (room : Room) where
+module _ (old : Trees) (mid new : State) (adds : AddsLast old mid.now.trees)
+    (renews : Renews mid new) (house : House) (room : Room) where
   pub moves : StandsInFirst old house room → Stands new.now.trees house room
   moves h =
       let only = renews.only.tables in

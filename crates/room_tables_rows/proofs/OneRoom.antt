@@ -7,7 +7,8 @@ use Rattle.room_tables_rows.proofs.RowLaws.{meta_faithful, area_faithful, termin
 use Rattle.room_tables_rows.specs.Stands.{House, Stands}
 use Rattle.room_tables_rows.proofs.PlanLaws.{numbered-injective}
 
-module _ (trees : Trees) (house other : House) (room another : Room) (h : Stands trees house room) (k : Stands trees other another) where
+module _ (trees : Trees) (house other : House) (room another : Room) (h : Stands trees house room)
+    (k : Stands trees other another) where
   same_zone : house.zone ≡ other.zone
   same_zone = let listed : house.zone ∷ [] ≡ other.zone ∷ [] = (stands_for_one _ _ _ _ _ _ _ _ meta_faithful h.meta k.meta).0 in cc
 

@@ -17,15 +17,20 @@ use Rattle.room_tables_rows.specs.Stands.{House, Stands, StandsFor, places}
 use Rattle.room_tables_rows.specs.Tables.{DeletesChosen, IsDropped, IsHeld, IsTable, PutsRow, Texts}
 use Rattle.room_tables_rows.specs.Writes.{Changes, Makes}
 
-module _ {X K : Type 0} {order : K → K → Ordering} {key : X → K} {row : X → Row} {table : Table} {rows : House → Room → List X} (is : IsHeld order key row table rows) (text : List ℕ) where
-  -- where only this table changed, and now holds these rows, the tables stand for this house and room
+module _ {X K : Type 0} {order : K → K → Ordering} {key : X → K} {row : X → Row} {table : Table}
+    {rows : House → Room → List X} (is : IsHeld order key row table rows) (text : List ℕ) where
+  -- where only this table changed, and now holds these rows, the tables stand for this house and
+  -- room
   abbrev pub Leads : (House → Room → List X) → (House → House) → (Room → Room) → Type 0
   Leads rows_after house_after room_after =
       (old new : Database) (house : House) (room : Room) → Stands old.trees house room → Only room_schema table.tree old new → StandsFor new.trees table row (rows_after house room) → Stands new.trees (house_after house) (room_after room)
 
   -- the row is put
-  pub put_changes : PutsRow table row is.at text → (x : X) (house_after : House → House) (room_after : Room → Room) → Leads (λ house room. put_row order key (rows house room) x) house_after room_after
-      → (old new : State) (count : ℕ) → old.now.schema ≡ room_schema → Inside old new → Executes text (row x) old new (Ok count) → Changes old new house_after room_after
+  pub put_changes : PutsRow table row is.at text
+      → (x : X) (house_after : House → House) (room_after : Room → Room)
+      → Leads (λ house room. put_row order key (rows house room) x) house_after room_after
+      → (old new : State) (count : ℕ) → old.now.schema ≡ room_schema → Inside old new
+      → Executes text (row x) old new (Ok count) → Changes old new house_after room_after
   put_changes puts x house_after room_after leads old new count has inside ran = record {
     inside = inside;
     schema = upserted_schema room_schema text is.at table is.alone (places table) table.primary puts.columns puts.values puts.update puts.upserts (row x) (puts.stores x) old new count has ran;
@@ -36,9 +41,12 @@ module _ {X K : Type 0} {order : K → K → Ordering} {key : X → K} {row : X 
   }
 
   -- the row of the key is dropped
-  pub drop_changes : (at : ℕ) → StandsAlone room_schema at table → (params : Row) (k : K) → DeletesChosen table row at text params (λ x. is_eq (order k (key x)))
-      → (house_after : House → House) (room_after : Room → Room) → Leads (λ house room. drop_row order key (rows house room) k) house_after room_after
-      → (old new : State) (count : ℕ) → old.now.schema ≡ room_schema → Inside old new → Executes text params old new (Ok count) → Changes old new house_after room_after
+  pub drop_changes : (at : ℕ) → StandsAlone room_schema at table → (params : Row) (k : K)
+      → DeletesChosen table row at text params (λ x. is_eq (order k (key x)))
+      → (house_after : House → House) (room_after : Room → Room)
+      → Leads (λ house room. drop_row order key (rows house room) k) house_after room_after
+      → (old new : State) (count : ℕ) → old.now.schema ≡ room_schema → Inside old new
+      → Executes text params old new (Ok count) → Changes old new house_after room_after
   drop_changes at alone params k means house_after room_after leads old new count has inside ran = record {
     inside = inside;
     schema = (deleted room_schema text at table alone means.terms means.deletes old new params count has ran).0.schema_is ∙ has;
@@ -48,13 +56,18 @@ module _ {X K : Type 0} {order : K → K → Ordering} {key : X → K} {row : X 
         leads old.now new.now house room h it.0 it.1;
   }
 
-module _ {X K : Type 0} {order : K → K → Ordering} {key : X → K} {row : X → Row} {key_row : K → Row} {table : Table} {rows : Room → List X} {put : X → Change} {texts : Texts} (is : IsTable order key row key_row table rows put texts) where
+module _ {X K : Type 0} {order : K → K → Ordering} {key : X → K} {row : X → Row}
+    {key_row : K → Row} {table : Table} {rows : Room → List X} {put : X → Change} {texts : Texts}
+    (is : IsTable order key row key_row table rows put texts) where
   -- a put of the room's rows is its change ..
-  pub put_makes : (x : X) (old new : State) (count : ℕ) → old.now.schema ≡ room_schema → Inside old new → Executes texts.put (row x) old new (Ok count) → Makes old new (put x)
+  pub put_makes : (x : X) (old new : State) (count : ℕ) → old.now.schema ≡ room_schema
+      → Inside old new → Executes texts.put (row x) old new (Ok count) → Makes old new (put x)
   put_makes x = put_changes is.is_held texts.put is.puts x (λ house. house) (λ room. apply_one room (put x)) (λ old new house room. is.leads old new house room x)
 
   -- .. and so is a drop
-  pub drop_makes : (drop : K → Change) (text : List ℕ) → IsDropped order key row key_row table rows drop text
-      → (k : K) (old new : State) (count : ℕ) → old.now.schema ≡ room_schema → Inside old new → Executes text (key_row k) old new (Ok count) → Makes old new (drop k)
+  pub drop_makes : (drop : K → Change) (text : List ℕ)
+      → IsDropped order key row key_row table rows drop text
+      → (k : K) (old new : State) (count : ℕ) → old.now.schema ≡ room_schema → Inside old new
+      → Executes text (key_row k) old new (Ok count) → Makes old new (drop k)
   drop_makes drop text dropped k =
       drop_changes is.is_held text dropped.at dropped.alone (key_row k) k (dropped.deletes k) (λ house. house) (λ room. apply_one room (drop k)) (λ old new house room. dropped.leads old new house room k)

@@ -33,7 +33,8 @@ abbrev all_below : ℕ → (ℕ → Bool) → Bool
 all_below zero test = true
 all_below (suc n) test = test n && all_below n test
 
-passes_below : (bound : ℕ) (test : ℕ → Bool) → all_below bound test ≡ true → (n : ℕ) → n < bound → test n ≡ true
+passes_below : (bound : ℕ) (test : ℕ → Bool) → all_below bound test ≡ true → (n : ℕ) → n < bound
+    → test n ≡ true
 passes_below zero test all n below = absurd (omega arith)
 passes_below (suc k) test all n below =
     let here = and_parts (test k) (all_below k test) all in
@@ -44,7 +45,8 @@ passes_below (suc k) test all n below =
     go false other at_k under = under (grind (arith, nat_tests))
 
 -- A code is read of each number in its range, and of no other.
-module _ {C : Type 0} (label : C → ℕ) (least greatest : ℕ) (code_in : ℕ → C) (inside : (c : C) → is_number least greatest (number (label c)) ≡ true)
+module _ {C : Type 0} (label : C → ℕ) (least greatest : ℕ) (code_in : ℕ → C)
+    (inside : (c : C) → is_number least greatest (number (label c)) ≡ true)
     (checked : all_below (suc greatest) (λ n. not (is_number least greatest (number n)) || nat_eq (label (code_in n)) n) ≡ true) where
   back : (n : ℕ) → is_number least greatest (number n) ≡ true → label (code_in n) ≡ n
   back n is =
@@ -57,7 +59,8 @@ module _ {C : Type 0} (label : C → ℕ) (least greatest : ℕ) (code_in : ℕ 
       then true b is h = h
       then false b is h = absurd (cc)
 
-  pub read_in_range : (n : ℕ) (read : Option C) → Decodes label n read → is_some read ≡ is_number least greatest (number n)
+  pub read_in_range : (n : ℕ) (read : Option C) → Decodes label n read
+      → is_some read ≡ is_number least greatest (number n)
   read_in_range n (Some c) h = rw (← h.has_it) (sym (inside c))
   read_in_range n None h = none (is_number least greatest (number n)) (λ is. taken (h.only_one (code_in n) (back n is)))
     where
@@ -70,7 +73,8 @@ kind_inside Ambulance = refl
 kind_inside Car = refl
 kind_inside Support = refl
 
-pub kind_read : (n : ℕ) (read : Option Kind) → Decodes kind_number n read → is_some read ≡ is_kind (number n)
+pub kind_read : (n : ℕ) (read : Option Kind) → Decodes kind_number n read
+    → is_some read ≡ is_kind (number n)
 kind_read = read_in_range kind_number 1 3 (λ n. kind_in (number n)) kind_inside refl
 
 status_inside : (c : Status) → is_status (number (status_number c)) ≡ true
@@ -83,7 +87,8 @@ status_inside AtHospital = refl
 status_inside Returning = refl
 status_inside Offered = refl
 
-pub status_read : (n : ℕ) (read : Option Status) → Decodes status_number n read → is_some read ≡ is_status (number n)
+pub status_read : (n : ℕ) (read : Option Status) → Decodes status_number n read
+    → is_some read ≡ is_status (number n)
 status_read = read_in_range status_number 0 7 (λ n. status_in (number n)) status_inside refl
 
 button_inside : (c : Button) → is_button (number (button_number c)) ≡ true
@@ -95,7 +100,8 @@ button_inside button.Hospital = refl
 button_inside button.Return = refl
 button_inside button.Home = refl
 
-pub button_read : (n : ℕ) (read : Option Button) → Decodes button_number n read → is_some read ≡ is_button (number n)
+pub button_read : (n : ℕ) (read : Option Button) → Decodes button_number n read
+    → is_some read ≡ is_button (number n)
 button_read = read_in_range button_number 0 6 (λ n. button_in (number n)) button_inside refl
 
 outcome_inside : (c : Outcome) → is_outcome (number (outcome_number c)) ≡ true
@@ -105,14 +111,18 @@ outcome_inside Wrong = refl
 outcome_inside Late = refl
 outcome_inside Stale = refl
 
-pub outcome_read : (n : ℕ) (read : Option Outcome) → Decodes outcome_number n read → is_some read ≡ is_outcome (number n)
+pub outcome_read : (n : ℕ) (read : Option Outcome) → Decodes outcome_number n read
+    → is_some read ≡ is_outcome (number n)
 outcome_read = read_in_range outcome_number 0 4 (λ n. outcome_in (number n)) outcome_inside refl
 
 -- a state is read of its number and of what it was merged into
-state_of : (n : ℕ) (o : Option ℕ) (read : Option State) → Decodes state_columns (n, o) read → true ≡ is_or_null is_serial (number_or_null o) → is_some read ≡ is_state (number n) (number_or_null o)
+state_of : (n : ℕ) (o : Option ℕ) (read : Option State) → Decodes state_columns (n, o) read
+    → true ≡ is_or_null is_serial (number_or_null o)
+    → is_some read ≡ is_state (number n) (number_or_null o)
 state_of n o (Some s) h fits = rw (← ap (λ (p : ℕ × Option ℕ). p.0) h.has_it, ← ap (λ (p : ℕ × Option ℕ). p.1) h.has_it) (told s (fits ∙ ap (λ (p : ℕ × Option ℕ). is_or_null is_serial (number_or_null p.1)) (sym h.has_it)))
   where
-    told : (s : State) → true ≡ is_or_null is_serial (number_or_null (merged_into s)) → true ≡ is_state (number (state_number s)) (number_or_null (merged_into s))
+    told : (s : State) → true ≡ is_or_null is_serial (number_or_null (merged_into s))
+        → true ≡ is_state (number (state_number s)) (number_or_null (merged_into s))
     told Active fits = refl
     told Closed fits = refl
     told (Merged m) fits = fits
@@ -127,20 +137,24 @@ state_of (suc (suc (suc n))) o None h fits =
     let not_merged : is_number 2 2 (number (suc (suc (suc n)))) ≡ false = grind (arith, nat_tests) in
     rw (unmerged, not_merged) refl
 
-pub state_read : (state into : Value) (n : ℕ) (o : Option ℕ) (read : Option State) → Decodes state_columns (n, o) read → number n ≡ state → number_or_null o ≡ into → true ≡ is_or_null is_serial into → is_some read ≡ is_state state into
+pub state_read : (state into : Value) (n : ℕ) (o : Option ℕ) (read : Option State)
+    → Decodes state_columns (n, o) read → number n ≡ state → number_or_null o ≡ into
+    → true ≡ is_or_null is_serial into → is_some read ≡ is_state state into
 state_read state into n o read h is_state_column is_into_column fits =
     state_of n o read h (fits ∙ ap (is_or_null is_serial) (sym is_into_column)) ∙ (λ i. is_state (is_state_column i) (is_into_column i))
 
 -- ---- rows
 
 -- after what does not stand, nothing does
-pub none_stand : (before : Bool) → false ≡ before → (tests : List (Value → Bool)) (row : Row) (at : ℕ) → false ≡ all_stand before tests row at
+pub none_stand : (before : Bool) → false ≡ before
+    → (tests : List (Value → Bool)) (row : Row) (at : ℕ) → false ≡ all_stand before tests row at
 none_stand false not_before [] row at = refl
 none_stand false not_before (stands ∷ more) row at = none_stand false refl more row (at + 1)
 none_stand true not_before tests row at = absurd (cc)
 
 -- values that stand in all columns of a row are the row
-pub all_columns : {X : Type 0} (read : Option X) (cells : X → Row) (count : ℕ) (row : Row) → length row ≡ count
+pub all_columns : {X : Type 0} (read : Option X) (cells : X → Row) (count : ℕ) (row : Row)
+    → length row ≡ count
     → IfSome read (λ x. cells x ≡ columns_from 0 count row) → IfSome read (λ x. cells x ≡ row)
 all_columns None cells count row long is = tt
 all_columns (Some x) cells count row long is = is ∙ columns_are count row long
@@ -148,7 +162,8 @@ all_columns (Some x) cells count row long is = is ∙ columns_are count row long
 -- ---- texts
 
 -- no text, no callsign and no token
-pub no_letters : (test : List ℕ → Bool) → ((text : List ℕ) → test text ≡ true → IsUtf8 text) → (v : Value) → false ≡ is_text is_utf8 v → false ≡ is_text test v
+pub no_letters : (test : List ℕ → Bool) → ((text : List ℕ) → test text ≡ true → IsUtf8 text)
+    → (v : Value) → false ≡ is_text is_utf8 v → false ≡ is_text test v
 no_letters test texts (Text t) none = go (test t) (texts t)
   where
     go : (b : Bool) → (b ≡ true → IsUtf8 t) → false ≡ b
@@ -160,7 +175,9 @@ no_letters test texts (Real x) none = refl
 no_letters test texts (Blob b) none = refl
 
 -- UTF-8 is tested as it is defined
-pub text_read : {S E : Type 0} (bytes : List ℕ) (shown : S → List ℕ) (Fails : E → Type 0) (result : Result S E) → MatchResult result (λ s. (shown s ≡ bytes) × IsUtf8 bytes) (λ e. ¬ (IsUtf8 bytes) × Fails e) → is_ok result ≡ is_utf8 bytes
+pub text_read : {S E : Type 0} (bytes : List ℕ) (shown : S → List ℕ) (Fails : E → Type 0)
+    (result : Result S E) → MatchResult result (λ s. (shown s ≡ bytes) × IsUtf8 bytes)
+    (λ e. ¬ (IsUtf8 bytes) × Fails e) → is_ok result ≡ is_utf8 bytes
 text_read bytes shown Fails (Ok s) h = sym (is_utf8-from_IsUtf8 bytes h.1)
 text_read bytes shown Fails (Err e) h = go (is_utf8 bytes) refl
   where

@@ -1,4 +1,5 @@
--- Each type of rows is written faithfully: a row is read back as it was written, and SQL orders rows as their keys are ordered.
+-- Each type of rows is written faithfully: a row is read back as it was written, and SQL orders
+-- rows as their keys are ordered.
 use Rattle.std.proofs.Common.{◌≡◌, ℕ, List, [], ◌∷◌, Bool, true, false, Option, Some, None, refl}
 use Rattle.std.specs.Ordering.{nat_cmp}
 use Rattle.std.proofs.lemmas.Cmp.{nat_cmp_total, nat_list_cmp_total}
@@ -87,7 +88,8 @@ state_back (Merged n) = refl
 terminal_back : (t : Terminal) → terminal_in (terminal_row t) ≡ t
 terminal_back t = go t.token t.who
   where
-    go : (token : List ℕ) (w : Who) → (let t : Terminal = record { token = token; who = w } in terminal_in (terminal_row t) ≡ t)
+    go : (token : List ℕ) (w : Who) → (let t : Terminal =
+        record { token = token; who = w } in terminal_in (terminal_row t) ≡ t)
     go token (Desk d) = refl
     go token (Crew c) = refl
     go token (Position p) = refl

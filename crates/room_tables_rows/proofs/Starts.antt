@@ -1,4 +1,5 @@
--- What stands before the rows: the version and the zone, and the areas of the plan one after another.
+-- What stands before the rows: the version and the zone, and the areas of the plan one after
+-- another.
 use Rattle.std.proofs.Common.{◌≡◌, ◌++◌, ℕ, List, [], ◌∷◌, map, Ok, sym, subst, arith}
 use Rattle.std.specs.Ordering.{nat_cmp}
 use Rattle.sqlite_value.specs.Order.{Row}
@@ -26,25 +27,32 @@ use Rattle.room_tables_rows.proofs.PlanLaws.{numbered-keyed, numbered-injective,
 use Rattle.room_tables_rows.proofs.MetaTable.{meta_alone, meta_held, meta_puts, put_meta_means, meta_stores}
 use Rattle.room_tables_rows.proofs.AreasTable.{all_areas_are, areas_alone, put_area_means, area_stores}
 
-module _ (zone : List ℕ) (old new : State) (count : ℕ) (has : old.now.schema ≡ room_schema) (inside : Inside old new) (ran : Executes PUT_META.now (meta_row zone) old new (Ok count)) where
+module _ (zone : List ℕ) (old new : State) (count : ℕ) (has : old.now.schema ≡ room_schema)
+    (inside : Inside old new) (ran : Executes PUT_META.now (meta_row zone) old new (Ok count)) where
   pub put_meta_makes : Changes old new (λ house. record house { zone = zone }) (λ room. room)
   put_meta_makes =
       put_changes meta_held PUT_META.now meta_puts zone (λ house. record house { zone = zone }) (λ room. room)
       (λ old new house room h only is. with_meta old new house room h only zone is) old new count has inside ran
 
-  pub put_meta_begins : IsBlank old.now.trees → Stands new.now.trees (record { zone = zone; terminals = [] }) empty_room
+  pub put_meta_begins : IsBlank old.now.trees
+      → Stands new.now.trees (record { zone = zone; terminals = [] }) empty_room
   put_meta_begins blank =
       let it = upsert_puts nat_cmp meta_key meta_row room_schema PUT_META.now old new 0 meta_table (0 ∷ 2 ∷ 3 ∷ []) (0 ∷ []) 3 (rowid_values 3) (rowid_update 3) count zone [] meta_alone put_meta_means meta_faithful (meta_stores zone) has ran
       (holds_none (0 ∷ 2 ∷ 3 ∷ []) (0 ∷ []) (old.now.trees 0) blank.meta) in
       with_first old.now new.now blank it.0 zone it.1
 
--- whichever version and zone were told, this version and this zone are told instead, and nothing else changes
-pub put_meta_renews : (version : ℕ) (was zone : List ℕ) (old new : State) (count : ℕ) → old.now.schema ≡ room_schema → Executes PUT_META.now (meta_row zone) old new (Ok count)
-    → StandsFor old.now.trees meta_table (version_row version) (was ∷ []) → Only room_schema 0 old.now new.now × StandsFor new.now.trees meta_table meta_row (zone ∷ [])
+-- whichever version and zone were told, this version and this zone are told instead, and nothing
+-- else changes
+pub put_meta_renews : (version : ℕ) (was zone : List ℕ) (old new : State) (count : ℕ)
+    → old.now.schema ≡ room_schema → Executes PUT_META.now (meta_row zone) old new (Ok count)
+    → StandsFor old.now.trees meta_table (version_row version) (was ∷ [])
+    → Only room_schema 0 old.now new.now × StandsFor new.now.trees meta_table meta_row (zone ∷ [])
 put_meta_renews version was zone old new count has ran h =
     upsert_puts nat_cmp _ told_row room_schema PUT_META.now old new 0 meta_table (0 ∷ 2 ∷ 3 ∷ []) (0 ∷ []) 3 (rowid_values 3) (rowid_update 3) count (2, zone) ((version, was) ∷ []) meta_alone put_meta_means told_faithful (meta_stores zone) has ran h
 
-pub put_area_makes : (at : ℕ) (area : Area) (old new : State) (count : ℕ) → old.now.schema ≡ room_schema → Inside old new → Executes PUT_AREA.now (area_row (at, area)) old new (Ok count) → AppendsArea old new at area
+pub put_area_makes : (at : ℕ) (area : Area) (old new : State) (count : ℕ)
+    → old.now.schema ≡ room_schema → Inside old new
+    → Executes PUT_AREA.now (area_row (at, area)) old new (Ok count) → AppendsArea old new at area
 put_area_makes at area old new count has inside ran = record {
   inside = inside;
   schema = upserted_schema room_schema PUT_AREA.now 1 areas_table areas_alone (0 ∷ 2 ∷ 3 ∷ 4 ∷ 5 ∷ 6 ∷ []) (0 ∷ []) 6 (rowid_values 6) (rowid_update 6) put_area_means (area_row (at, area)) (area_stores (at, area)) old new count has ran;
@@ -53,11 +61,15 @@ put_area_makes at area old new count has inside ran = record {
       with_areas old.now new.now house room h it.0 (room.plan ++ area ∷ []) (subst (λ xs. StandsFor new.now.trees areas_table area_row xs) (put_row-numbered 1 at room.plan area (omega arith)) it.1);
 }
 
-module _ (areas : List Area) (old new : State) (shown : List Row) (has : old.now.schema ≡ room_schema) (shows : Shown ALL_AREAS.now [] old new shown) (is : map area_row (numbered 1 areas) ≡ shown) where
+module _ (areas : List Area) (old new : State) (shown : List Row)
+    (has : old.now.schema ≡ room_schema) (shows : Shown ALL_AREAS.now [] old new shown)
+    (is : map area_row (numbered 1 areas) ≡ shown) where
   -- the areas that were read are in the rows ..
-  pub areas_found : AreNumbered (old.now.trees 1) → StandsFor old.now.trees areas_table area_row (numbered 1 areas)
+  pub areas_found : AreNumbered (old.now.trees 1)
+      → StandsFor old.now.trees areas_table area_row (numbered 1 areas)
   areas_found = (all_areas_are old new (numbered 1 areas) has (subst (Shown ALL_AREAS.now [] old new) (sym is) shows) (numbered-keyed 1 areas)).0
 
   -- .. and are the plan's
-  pub areas_are : (house : House) (room : Room) → Stands old.now.trees house room → areas ≡ room.plan
+  pub areas_are : (house : House) (room : Room) → Stands old.now.trees house room
+      → areas ≡ room.plan
   areas_are house room h = numbered-injective 1 areas room.plan ((all_areas_are old new (numbered 1 areas) has (subst (Shown ALL_AREAS.now [] old new) (sym is) shows) (numbered-keyed 1 areas)).1 house room h)

@@ -23,34 +23,42 @@ use Rattle.room_tables_rows.specs.Versions.{IsOfVersion, OneTells}
 use Rattle.room_tables_rows.specs.declared.meta.TheConstants.{ALL_META}
 
 -- The text selects all of `meta`, whatever tables and indexes stand behind it ..
-behind : (others : List Table) (indexes : List Index) → Selects (record { tables = meta_table ∷ others; indexes = indexes; views = [] }) ALL_META.now 0 (0 ∷ 2 ∷ 3 ∷ []) (0 ∷ []) []
+behind : (others : List Table) (indexes : List Index)
+    → Selects (record { tables = meta_table ∷ others; indexes = indexes; views = [] }) ALL_META.now
+    0 (0 ∷ 2 ∷ 3 ∷ []) (0 ∷ []) []
 unfolding understood everything
 behind others indexes = record { names = _; command = refl; plain = (refl, refl); unlisted = refl }
 
 -- .. so it does in each schema that begins as a room's
-pub all_meta_begins : (schema : Schema) → BeginsAsRoom schema → Selects schema ALL_META.now 0 (0 ∷ 2 ∷ 3 ∷ []) (0 ∷ []) []
+pub all_meta_begins : (schema : Schema) → BeginsAsRoom schema
+    → Selects schema ALL_META.now 0 (0 ∷ 2 ∷ 3 ∷ []) (0 ∷ []) []
 all_meta_begins schema begins = go schema.tables schema.indexes schema.views begins.0 begins.1
   where
-    go : (tables : List Table) (indexes : List Index) (views : List View) → slice_get tables 0 ≡ Some meta_table → views ≡ []
-        → Selects (record { tables = tables; indexes = indexes; views = views }) ALL_META.now 0 (0 ∷ 2 ∷ 3 ∷ []) (0 ∷ []) []
+    go : (tables : List Table) (indexes : List Index) (views : List View)
+        → slice_get tables 0 ≡ Some meta_table → views ≡ []
+        → Selects (record { tables = tables; indexes = indexes; views = views }) ALL_META.now 0
+        (0 ∷ 2 ∷ 3 ∷ []) (0 ∷ []) []
     go [] indexes views first none = cc
     go (t ∷ others) indexes views first none =
         let is : t ≡ meta_table = cc in
         rw (is, none) (behind others indexes)
 
 -- a tree that shows one row has one
-one_held : (tree : List Row) (shown : Row) → map (cells (0 ∷ 2 ∷ 3 ∷ [])) tree ≡ shown ∷ [] → (row : Row) × (tree ≡ row ∷ []) × (cells (0 ∷ 2 ∷ 3 ∷ []) row ≡ shown)
+one_held : (tree : List Row) (shown : Row) → map (cells (0 ∷ 2 ∷ 3 ∷ [])) tree ≡ shown ∷ []
+    → (row : Row) × (tree ≡ row ∷ []) × (cells (0 ∷ 2 ∷ 3 ∷ []) row ≡ shown)
 one_held [] shown is = cc
 one_held (r ∷ []) shown is = (r, refl, cc)
 one_held (r ∷ s ∷ more) shown is = cc
 
 -- tables that hold the row of a version tell it
-pub tells_held : (version : ℕ) (zone : List ℕ) (trees : Trees) → StandsFor trees meta_table (version_row version) (zone ∷ []) → IsOfVersion version trees
+pub tells_held : (version : ℕ) (zone : List ℕ) (trees : Trees)
+    → StandsFor trees meta_table (version_row version) (zone ∷ []) → IsOfVersion version trees
 tells_held version zone trees h =
     let one = one_held (trees 0) (version_row version zone) (one_permutation _ _ (IsPermutation-sym _ _ h.same)) in
     record { row = one.0; alone = one.1; told = ap (λ (r : Row). column r 1) one.2 }
 
-module _ (old new : State) (shown : List Row) (begins : BeginsAsRoom old.now.schema) (shows : Shown ALL_META.now [] old new shown) where
+module _ (old new : State) (shown : List Row) (begins : BeginsAsRoom old.now.schema)
+    (shows : Shown ALL_META.now [] old new shown) where
   all_are : IsPermutation (map (cells (0 ∷ 2 ∷ 3 ∷ [])) (old.now.trees 0)) shown
   all_are = (shows_all old.now.schema ALL_META.now old new 0 (0 ∷ []) (2 ∷ 3 ∷ []) [] shown (all_meta_begins old.now.schema begins) refl shows).0
 
@@ -63,7 +71,9 @@ module _ (old new : State) (shown : List Row) (begins : BeginsAsRoom old.now.sch
     pub version_shown : OneTells version shown → IsOfVersion version old.now.trees
     version_shown = go shown all_are
       where
-        go : (rows : List Row) → IsPermutation (map (cells (0 ∷ 2 ∷ 3 ∷ [])) (old.now.trees 0)) rows → OneTells version rows → IsOfVersion version old.now.trees
+        go : (rows : List Row) → IsPermutation
+            (map (cells (0 ∷ 2 ∷ 3 ∷ [])) (old.now.trees 0)) rows → OneTells version rows
+            → IsOfVersion version old.now.trees
         go [] same none = absurd none
         go (row ∷ []) same told =
             let one = one_held (old.now.trees 0) row (one_permutation row _ (IsPermutation-sym _ _ same)) in
@@ -71,7 +81,8 @@ module _ (old new : State) (shown : List Row) (begins : BeginsAsRoom old.now.sch
         go (r ∷ s ∷ more) same none = absurd none
 
   -- one row that tells a version and a zone is what the table holds
-  pub version_found : (version : ℕ) (zone : List ℕ) → version_row version zone ∷ [] ≡ shown → StandsFor old.now.trees meta_table (version_row version) (zone ∷ [])
+  pub version_found : (version : ℕ) (zone : List ℕ) → version_row version zone ∷ [] ≡ shown
+      → StandsFor old.now.trees meta_table (version_row version) (zone ∷ [])
   version_found version zone is =
       let all : IsPermutation (map (cells (0 ∷ 2 ∷ 3 ∷ [])) (old.now.trees 0)) (version_row version zone ∷ []) = rw is all_are in
       let one = one_held (old.now.trees 0) (version_row version zone) (one_permutation _ _ (IsPermutation-sym _ _ all)) in

@@ -8,7 +8,8 @@ use Rattle.room_tables_rows.specs.Readable.{is_word}
 
 -- an area, with its place in the plan
 abbrev pub area_row : ℕ × Area → Row
-area_row a = number a.0 ∷ number a.1.division ∷ number a.1.rect.west ∷ number a.1.rect.south ∷ number a.1.rect.east ∷ number a.1.rect.north ∷ []
+area_row a = number a.0 ∷ number a.1.division ∷ number a.1.rect.west ∷ number a.1.rect.south
+    ∷ number a.1.rect.east ∷ number a.1.rect.north ∷ []
 
 abbrev pub area_key : ℕ × Area → ℕ
 area_key a = a.0
@@ -18,7 +19,12 @@ area_in r = (
   number_in (column r 0),
   record {
     division = number_in (column r 1);
-    rect = record { west = number_in (column r 2); south = number_in (column r 3); east = number_in (column r 4); north = number_in (column r 5) };
+    rect = record {
+      west = number_in (column r 2);
+      south = number_in (column r 3);
+      east = number_in (column r 4);
+      north = number_in (column r 5);
+    };
   },
 )
 

@@ -8,7 +8,8 @@ use Rattle.room_tables_rows.specs.Columns.{number_in, text_in}
 use Rattle.room_tables_rows.specs.Readable.{is_division, is_class, is_serial, is_name, is_place}
 
 abbrev pub assignment_row : Assignment → Row
-assignment_row x = Text x.callsign ∷ number x.division ∷ number x.incident ∷ number x.order ∷ number x.place.east ∷ number x.place.north ∷ number x.class ∷ []
+assignment_row x = Text x.callsign ∷ number x.division ∷ number x.incident ∷ number x.order
+    ∷ number x.place.east ∷ number x.place.north ∷ number x.class ∷ []
 
 abbrev pub assignment_in : Row → Assignment
 assignment_in r = record {
@@ -22,5 +23,6 @@ assignment_in r = record {
 
 abbrev pub is_assignment_row : Row → Bool
 is_assignment_row r =
-    length r == 7 && is_name (column r 0) && is_division (column r 1) && is_serial (column r 2) && is_serial (column r 3)
+    length r == 7 && is_name (column r 0) && is_division (column r 1) && is_serial (column r 2)
+    && is_serial (column r 3)
     && is_place (column r 4) (column r 5) && is_class (column r 6)

@@ -9,9 +9,11 @@ use Rattle.room_tables_rows.specs.Readable.{is_note, is_truth, is_division, is_p
 
 abbrev pub call_row : Call → Row
 call_row x =
-    number x.position ∷ number x.serial ∷ number x.division ∷ number x.incident ∷ number x.given ∷ truth x.linked
+    number x.position ∷ number x.serial ∷ number x.division ∷ number x.incident ∷ number x.given
+    ∷ truth x.linked
     ∷ number x.place.east ∷ number x.place.north ∷ number x.class
-    ∷ number x.needs.ambulances ∷ number x.needs.cars ∷ number x.needs.support ∷ Blob x.note ∷ number x.at ∷ []
+    ∷ number x.needs.ambulances ∷ number x.needs.cars ∷ number x.needs.support ∷ Blob x.note
+    ∷ number x.at ∷ []
 
 abbrev pub call_in : Row → Call
 call_in r = record {
@@ -23,13 +25,20 @@ call_in r = record {
   linked = truth_in (column r 5);
   place = record { east = number_in (column r 6); north = number_in (column r 7) };
   class = number_in (column r 8);
-  needs = record { ambulances = number_in (column r 9); cars = number_in (column r 10); support = number_in (column r 11) };
+  needs = record {
+    ambulances = number_in (column r 9);
+    cars = number_in (column r 10);
+    support = number_in (column r 11);
+  };
   note = blob_in (column r 12);
   at = number_in (column r 13);
 }
 
 abbrev pub is_call_row : Row → Bool
 is_call_row r =
-    length r == 14 && is_position (column r 0) && is_serial (column r 1) && is_division (column r 2) && is_serial (column r 3)
-    && is_serial (column r 4) && is_truth (column r 5) && is_place (column r 6) (column r 7) && is_class (column r 8)
-    && is_needs (column r 9) (column r 10) (column r 11) && is_note (column r 12) && is_moment (column r 13)
+    length r == 14 && is_position (column r 0) && is_serial (column r 1)
+    && is_division (column r 2) && is_serial (column r 3)
+    && is_serial (column r 4) && is_truth (column r 5) && is_place (column r 6) (column r 7)
+    && is_class (column r 8)
+    && is_needs (column r 9) (column r 10) (column r 11) && is_note (column r 12)
+    && is_moment (column r 13)

@@ -89,4 +89,5 @@ outcome_in v =
 
 -- the state of these two columns
 abbrev pub state_in : Value → Value → State
-state_in v into = if number_in v == 0 then Active else (if number_in v == 1 then Closed else Merged (number_in into))
+state_in v into = if number_in v == 0 then Active else
+    (if number_in v == 1 then Closed else Merged (number_in into))

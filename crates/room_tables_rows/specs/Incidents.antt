@@ -9,9 +9,11 @@ use Rattle.room_tables_rows.specs.Readable.{is_or_null, is_division, is_class, i
 
 abbrev pub incident_row : Incident → Row
 incident_row x =
-    number x.division ∷ number x.number ∷ number x.place.east ∷ number x.place.north ∷ number x.class
+    number x.division ∷ number x.number ∷ number x.place.east ∷ number x.place.north
+    ∷ number x.class
     ∷ number x.needs.ambulances ∷ number x.needs.cars ∷ number x.needs.support
-    ∷ number x.opened ∷ number_or_null x.first_order ∷ number (state_number x.state) ∷ number_or_null (merged_into x.state) ∷ []
+    ∷ number x.opened ∷ number_or_null x.first_order ∷ number (state_number x.state)
+    ∷ number_or_null (merged_into x.state) ∷ []
 
 abbrev pub incident_in : Row → Incident
 incident_in r = record {
@@ -19,7 +21,11 @@ incident_in r = record {
   number = number_in (column r 1);
   place = record { east = number_in (column r 2); north = number_in (column r 3) };
   class = number_in (column r 4);
-  needs = record { ambulances = number_in (column r 5); cars = number_in (column r 6); support = number_in (column r 7) };
+  needs = record {
+    ambulances = number_in (column r 5);
+    cars = number_in (column r 6);
+    support = number_in (column r 7);
+  };
   opened = number_in (column r 8);
   first_order = number_or_none (column r 9);
   state = state_in (column r 10) (column r 11);
@@ -27,6 +33,8 @@ incident_in r = record {
 
 abbrev pub is_incident_row : Row → Bool
 is_incident_row r =
-    length r == 12 && is_division (column r 0) && is_serial (column r 1) && is_place (column r 2) (column r 3) && is_class (column r 4)
-    && is_needs (column r 5) (column r 6) (column r 7) && is_moment (column r 8) && is_or_null is_moment (column r 9)
+    length r == 12 && is_division (column r 0) && is_serial (column r 1)
+    && is_place (column r 2) (column r 3) && is_class (column r 4)
+    && is_needs (column r 5) (column r 6) (column r 7) && is_moment (column r 8)
+    && is_or_null is_moment (column r 9)
     && is_state (column r 10) (column r 11)

@@ -8,7 +8,8 @@ use Rattle.room_tables_rows.specs.Columns.{truth, number_in, text_in, truth_in}
 use Rattle.room_tables_rows.specs.Readable.{is_truth, is_division, is_moment, is_name}
 
 abbrev pub loan_row : Loan → Row
-loan_row x = Text x.callsign ∷ number x.lender ∷ number x.borrower ∷ number x.since ∷ number x.until ∷ truth x.recalled ∷ []
+loan_row x = Text x.callsign ∷ number x.lender ∷ number x.borrower ∷ number x.since
+    ∷ number x.until ∷ truth x.recalled ∷ []
 
 abbrev pub loan_in : Row → Loan
 loan_in r = record {

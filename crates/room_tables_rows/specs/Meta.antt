@@ -1,4 +1,5 @@
--- The columns of the version and the zone, in the order of its table, and which columns a reader takes.
+-- The columns of the version and the zone, in the order of its table, and which columns a reader
+-- takes.
 use Rattle.std.specs.Prelude.{ℕ, List, [], ◌∷◌, ◌==◌, Bool, length, ◌&&◌}
 use Rattle.sqlite_value.specs.declared.value.Value.TheVariants.{Text}
 use Rattle.sqlite_value.specs.Order.{Row, column}
@@ -22,4 +23,5 @@ abbrev pub zone_in : Row → List ℕ
 zone_in r = text_in (column r 2)
 
 abbrev pub is_meta_row : ℕ → Row → Bool
-is_meta_row version r = length r == 3 && is_number 1 1 (column r 0) && is_number version version (column r 1) && is_text is_utf8 (column r 2)
+is_meta_row version r = length r == 3 && is_number 1 1 (column r 0)
+    && is_number version version (column r 1) && is_text is_utf8 (column r 2)

@@ -8,7 +8,8 @@ use Rattle.room_tables_rows.specs.Columns.{number_in, text_in}
 use Rattle.room_tables_rows.specs.Readable.{is_division, is_moment, is_name}
 
 abbrev pub offer_row : Offer → Row
-offer_row x = Text x.callsign ∷ number x.lender ∷ number x.borrower ∷ number x.since ∷ number x.until ∷ []
+offer_row x =
+    Text x.callsign ∷ number x.lender ∷ number x.borrower ∷ number x.since ∷ number x.until ∷ []
 
 abbrev pub offer_in : Row → Offer
 offer_in r = record {
@@ -21,4 +22,5 @@ offer_in r = record {
 
 abbrev pub is_offer_row : Row → Bool
 is_offer_row r =
-    length r == 5 && is_name (column r 0) && is_division (column r 1) && is_division (column r 2) && is_moment (column r 3) && is_moment (column r 4)
+    length r == 5 && is_name (column r 0) && is_division (column r 1) && is_division (column r 2)
+    && is_moment (column r 3) && is_moment (column r 4)

@@ -7,7 +7,8 @@ use Rattle.room_tables_rows.specs.Columns.{number_in}
 use Rattle.room_tables_rows.specs.Readable.{is_division, is_point, is_count, is_place}
 
 abbrev pub point_row : Point → Row
-point_row x = number x.division ∷ number x.number ∷ number x.place.east ∷ number x.place.north ∷ number x.cover ∷ []
+point_row x = number x.division ∷ number x.number ∷ number x.place.east ∷ number x.place.north
+    ∷ number x.cover ∷ []
 
 abbrev pub point_in : Row → Point
 point_in r = record {
@@ -18,4 +19,5 @@ point_in r = record {
 }
 
 abbrev pub is_point_row : Row → Bool
-is_point_row r = length r == 5 && is_division (column r 0) && is_point (column r 1) && is_place (column r 2) (column r 3) && is_count (column r 4)
+is_point_row r = length r == 5 && is_division (column r 0) && is_point (column r 1)
+    && is_place (column r 2) (column r 3) && is_count (column r 4)

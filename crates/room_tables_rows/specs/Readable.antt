@@ -90,11 +90,17 @@ is_place east north = is_number 400000 599999 east && is_number 100000 299999 no
 abbrev pub is_needs : Value → Value → Value → Bool
 is_needs ambulances cars support =
     is_count ambulances && is_count cars && is_count support
-    && is_some_need (record { ambulances = number_in ambulances; cars = number_in cars; support = number_in support })
+    && is_some_need (record {
+      ambulances = number_in ambulances;
+      cars = number_in cars;
+      support =
+          number_in support;
+    })
 
 -- active or closed; or merged, into an incident
 abbrev pub is_state : Value → Value → Bool
-is_state state into = (is_number 0 1 state && is_null into) || (is_number 2 2 state && is_serial into)
+is_state state into =
+    (is_number 0 1 state && is_null into) || (is_number 2 2 state && is_serial into)
 
 -- a desk with its division, a position with its number, a crew with its callsign
 abbrev pub is_who : Value → Value → Value → Bool
@@ -103,7 +109,9 @@ is_who role n callsign =
     || (is_number 1 1 role && is_position n && is_null callsign)
     || (is_number 2 2 role && is_number 0 0 n && is_name callsign)
 
--- whether what stands before them does, and the columns from one on stand for values, each for one of its own type
+-- whether what stands before them does, and the columns from one on stand for values, each for one
+-- of its own type
 abbrev pub all_stand : Bool → List (Value → Bool) → Row → ℕ → Bool
 all_stand before [] row at = before
-all_stand before (stands ∷ more) row at = all_stand (before && stands (column row at)) more row (at + 1)
+all_stand before (stands ∷ more) row at =
+    all_stand (before && stands (column row at)) more row (at + 1)

@@ -9,8 +9,10 @@ use Rattle.room_tables_rows.specs.Readable.{is_truth, is_division, is_serial, is
 
 abbrev pub report_row : Report → Row
 report_row x =
-    Text x.callsign ∷ number x.number ∷ button_code x.button ∷ number x.order ∷ number x.place.east ∷ number x.place.north
-    ∷ number x.at ∷ number x.division ∷ outcome_code x.outcome ∷ status_code x.status ∷ truth x.cleared ∷ []
+    Text x.callsign ∷ number x.number ∷ button_code x.button ∷ number x.order ∷ number x.place.east
+    ∷ number x.place.north
+    ∷ number x.at ∷ number x.division ∷ outcome_code x.outcome ∷ status_code x.status
+    ∷ truth x.cleared ∷ []
 
 abbrev pub report_in : Row → Report
 report_in r = record {
@@ -28,6 +30,8 @@ report_in r = record {
 
 abbrev pub is_report_row : Row → Bool
 is_report_row r =
-    length r == 11 && is_name (column r 0) && is_serial (column r 1) && is_button (column r 2) && is_last (column r 3)
-    && is_place (column r 4) (column r 5) && is_moment (column r 6) && is_division (column r 7) && is_outcome (column r 8)
+    length r == 11 && is_name (column r 0) && is_serial (column r 1) && is_button (column r 2)
+    && is_last (column r 3)
+    && is_place (column r 4) (column r 5) && is_moment (column r 6) && is_division (column r 7)
+    && is_outcome (column r 8)
     && is_status (column r 9) && is_truth (column r 10)

@@ -45,7 +45,8 @@ abbrev pub numbered : ℕ → List Area → List (ℕ × Area)
 numbered n [] = []
 numbered n (area ∷ plan) = (n, area) ∷ numbered (suc n) plan
 
--- what the tables keep beside the room: the zone of its days, and the terminals in the order of their tokens
+-- what the tables keep beside the room: the zone of its days, and the terminals in the order of
+-- their tokens
 pub record House : Type 0 where
   pub zone : List ℕ
   pub terminals : List Terminal

@@ -18,14 +18,16 @@ use Rattle.room_tables_schema.specs.Schema.{room_schema}
 use Rattle.room_tables_rows.specs.Stands.{House, Stands, StandsFor, places}
 
 -- The table holds these rows of a house and a room, and no other table refers to it.
-pub record IsHeld {X K : Type 0} (order : K → K → Ordering) (key : X → K) (row : X → Row) (table : Table) (rows : House → Room → List X) : Type 0 where
+pub record IsHeld {X K : Type 0} (order : K → K → Ordering) (key : X → K) (row : X → Row)
+    (table : Table) (rows : House → Room → List X) : Type 0 where
   pub faithful : IsFaithful order key row table.primary
   -- the columns of the key stand first
   pub others : List ℕ
   pub places_are : places table ≡ table.primary ++ others
   pub at : ℕ
   pub alone : StandsAlone room_schema at table
-  pub held : (trees : Trees) (house : House) (room : Room) → Stands trees house room → StandsFor trees table row (rows house room)
+  pub held : (trees : Trees) (house : House) (room : Room) → Stands trees house room
+      → StandsFor trees table row (rows house room)
 
 module _ {X : Type 0} (table : Table) (row : X → Row) where
   -- the terms choose among the columns of rows as `chosen` does among the rows
@@ -41,7 +43,8 @@ module _ {X : Type 0} (table : Table) (row : X → Row) where
     pub chooses : Chooses terms params chosen
 
   -- the text deletes the rows that are chosen
-  pub record DeletesChosen (at : ℕ) (text : List ℕ) (params : Row) (chosen : X → Bool) : Type 0 where
+  pub record DeletesChosen (at : ℕ) (text : List ℕ) (params : Row)
+      (chosen : X → Bool) : Type 0 where
     pub terms : List Term
     pub deletes : Deletes room_schema text at table terms
     pub chooses : Chooses terms params chosen
@@ -52,29 +55,39 @@ module _ {X : Type 0} (table : Table) (row : X → Row) where
     pub values : List Term
     pub update : List Term
     pub upserts : Upserts room_schema text at table table.primary columns values update
-    pub stores : (x : X) → Stores room_schema table (places table) table.primary columns values update (row x)
+    pub stores : (x : X) → Stores room_schema table
+        (places table) table.primary columns values update (row x)
 
--- the statements that every table of the room's rows has: all rows, the row of a key, and the put of a row
+-- the statements that every table of the room's rows has: all rows, the row of a key, and the put
+-- of a row
 pub record Texts : Type 0 where
   pub all : List ℕ
   pub at : List ℕ
   pub put : List ℕ
 
-module _ {X K : Type 0} (order : K → K → Ordering) (key : X → K) (row : X → Row) (key_row : K → Row) (table : Table) (rows : Room → List X) where
-  -- The table holds these rows of a room, and the texts are the statements on them: a put makes this change.
+module _ {X K : Type 0} (order : K → K → Ordering) (key : X → K) (row : X → Row)
+    (key_row : K → Row) (table : Table) (rows : Room → List X) where
+  -- The table holds these rows of a room, and the texts are the statements on them: a put makes
+  -- this change.
   pub record IsTable (put : X → Change) (texts : Texts) : Type 0 where
     pub is_held : IsHeld order key row table (λ house room. rows room)
     pub selects_all : Selects room_schema texts.all table.tree (places table) table.primary []
-    pub selects_at : (k : K) → SelectsChosen table row texts.at (key_row k) (λ x. is_eq (order k (key x)))
+    pub selects_at : (k : K) → SelectsChosen table row texts.at (key_row k)
+        (λ x. is_eq (order k (key x)))
     pub puts : PutsRow table row is_held.at texts.put
-    pub leads : (old new : Database) (house : House) (room : Room) (x : X) → Stands old.trees house room → Only room_schema table.tree old new
-        → StandsFor new.trees table row (put_row order key (rows room) x) → Stands new.trees house (apply_one room (put x))
+    pub leads : (old new : Database) (house : House) (room : Room) (x : X)
+        → Stands old.trees house room → Only room_schema table.tree old new
+        → StandsFor new.trees table row (put_row order key (rows room) x)
+        → Stands new.trees house (apply_one room (put x))
 
   -- The text drops the row of a key from the table, and this is the change that it makes.
   pub record IsDropped (drop : K → Change) (text : List ℕ) : Type 0 where
     -- said again, since the law of a trait cannot name that of the trait above it
     pub at : ℕ
     pub alone : StandsAlone room_schema at table
-    pub deletes : (k : K) → DeletesChosen table row at text (key_row k) (λ x. is_eq (order k (key x)))
-    pub leads : (old new : Database) (house : House) (room : Room) (k : K) → Stands old.trees house room → Only room_schema table.tree old new
-        → StandsFor new.trees table row (drop_row order key (rows room) k) → Stands new.trees house (apply_one room (drop k))
+    pub deletes : (k : K) → DeletesChosen table row at text (key_row k)
+        (λ x. is_eq (order k (key x)))
+    pub leads : (old new : Database) (house : House) (room : Room) (k : K)
+        → Stands old.trees house room → Only room_schema table.tree old new
+        → StandsFor new.trees table row (drop_row order key (rows room) k)
+        → Stands new.trees house (apply_one room (drop k))

@@ -29,13 +29,19 @@ crew_of (Position p) = None
 crew_of (Crew c) = Some c
 
 abbrev pub who_in : ℕ → ℕ → List ℕ → Who
-who_in role n callsign = if role == 0 then Desk n else (if role == 1 then Position n else Crew callsign)
+who_in role n callsign =
+    if role == 0 then Desk n else (if role == 1 then Position n else Crew callsign)
 
 abbrev pub terminal_row : Terminal → Row
-terminal_row t = Text t.token ∷ number (role_of t.who) ∷ number (number_of t.who) ∷ or_null Text (crew_of t.who) ∷ []
+terminal_row t = Text t.token ∷ number (role_of t.who) ∷ number (number_of t.who)
+    ∷ or_null Text (crew_of t.who) ∷ []
 
 abbrev pub terminal_in : Row → Terminal
-terminal_in r = record { token = text_in (column r 0); who = who_in (number_in (column r 1)) (number_in (column r 2)) (text_in (column r 3)) }
+terminal_in r = record {
+  token = text_in (column r 0);
+  who = who_in (number_in (column r 1)) (number_in (column r 2)) (text_in (column r 3));
+}
 
 abbrev pub is_terminal_row : Row → Bool
-is_terminal_row r = length r == 4 && is_text is_token (column r 0) && is_who (column r 1) (column r 2) (column r 3)
+is_terminal_row r =
+    length r == 4 && is_text is_token (column r 0) && is_who (column r 1) (column r 2) (column r 3)

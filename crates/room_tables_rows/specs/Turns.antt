@@ -9,8 +9,10 @@ use Rattle.room_tables_rows.specs.Readable.{is_or_null, is_truth, is_division, i
 
 abbrev pub turn_row : Turn → Row
 turn_row x =
-    Text x.callsign ∷ number x.order ∷ number x.division ∷ number x.incident ∷ kind_code x.kind ∷ number x.ordered
-    ∷ number_or_null x.acknowledged ∷ number_or_null x.scene ∷ number_or_null x.left ∷ number_or_null x.hospital ∷ number_or_null x.ended ∷ truth x.stood_down ∷ []
+    Text x.callsign ∷ number x.order ∷ number x.division ∷ number x.incident ∷ kind_code x.kind
+    ∷ number x.ordered
+    ∷ number_or_null x.acknowledged ∷ number_or_null x.scene ∷ number_or_null x.left
+    ∷ number_or_null x.hospital ∷ number_or_null x.ended ∷ truth x.stood_down ∷ []
 
 abbrev pub turn_in : Row → Turn
 turn_in r = record {
@@ -30,6 +32,9 @@ turn_in r = record {
 
 abbrev pub is_turn_row : Row → Bool
 is_turn_row r =
-    length r == 12 && is_name (column r 0) && is_serial (column r 1) && is_division (column r 2) && is_serial (column r 3)
-    && is_kind (column r 4) && is_moment (column r 5) && is_or_null is_moment (column r 6) && is_or_null is_moment (column r 7)
-    && is_or_null is_moment (column r 8) && is_or_null is_moment (column r 9) && is_or_null is_moment (column r 10) && is_truth (column r 11)
+    length r == 12 && is_name (column r 0) && is_serial (column r 1) && is_division (column r 2)
+    && is_serial (column r 3)
+    && is_kind (column r 4) && is_moment (column r 5) && is_or_null is_moment (column r 6)
+    && is_or_null is_moment (column r 7)
+    && is_or_null is_moment (column r 8) && is_or_null is_moment (column r 9)
+    && is_or_null is_moment (column r 10) && is_truth (column r 11)

@@ -9,8 +9,10 @@ use Rattle.room_tables_rows.specs.Readable.{is_or_null, is_division, is_point, i
 
 abbrev pub vehicle_row : Vehicle → Row
 vehicle_row x =
-    Text x.callsign ∷ number x.home ∷ number x.holder ∷ kind_code x.kind ∷ number x.place.east ∷ number x.place.north
-    ∷ status_code x.status ∷ number x.shift_end ∷ number_or_null x.post ∷ number x.last_order ∷ number x.last_report ∷ []
+    Text x.callsign ∷ number x.home ∷ number x.holder ∷ kind_code x.kind ∷ number x.place.east
+    ∷ number x.place.north
+    ∷ status_code x.status ∷ number x.shift_end ∷ number_or_null x.post ∷ number x.last_order
+    ∷ number x.last_report ∷ []
 
 abbrev pub vehicle_in : Row → Vehicle
 vehicle_in r = record {
@@ -28,6 +30,8 @@ vehicle_in r = record {
 
 abbrev pub is_vehicle_row : Row → Bool
 is_vehicle_row r =
-    length r == 11 && is_name (column r 0) && is_division (column r 1) && is_division (column r 2) && is_kind (column r 3)
-    && is_place (column r 4) (column r 5) && is_status (column r 6) && is_moment (column r 7) && is_or_null is_point (column r 8)
+    length r == 11 && is_name (column r 0) && is_division (column r 1) && is_division (column r 2)
+    && is_kind (column r 3)
+    && is_place (column r 4) (column r 5) && is_status (column r 6) && is_moment (column r 7)
+    && is_or_null is_point (column r 8)
     && is_last (column r 9) && is_last (column r 10)

@@ -5,7 +5,8 @@ use Rattle.sqlite_trees.specs.Tree.{Trees}
 use Rattle.room_tables_sql.specs.Typed.{number}
 use Rattle.room_tables_schema.specs.Schema.{meta_table}
 
--- The table `meta` has one row, and it tells this version: 2 of these tables, 1 of those before, which had no offers.
+-- The table `meta` has one row, and it tells this version: 2 of these tables, 1 of those before,
+-- which had no offers.
 pub record IsOfVersion (version : ℕ) (trees : Trees) : Type 0 where
   pub row : Row
   pub alone : trees meta_table.tree ≡ row ∷ []

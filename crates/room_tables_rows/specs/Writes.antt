@@ -10,10 +10,12 @@ use Rattle.room_tables_rows.specs.Meta.{meta_row, version_row}
 use Rattle.room_tables_rows.specs.Stands.{House, Stands, StandsFor}
 
 -- The tables stand for another house and room than before, and nothing is committed.
-pub record Changes (old new : State) (house_after : House → House) (room_after : Room → Room) : Type 0 where
+pub record Changes (old new : State) (house_after : House → House)
+    (room_after : Room → Room) : Type 0 where
   pub inside : Inside old new
   pub schema : new.now.schema ≡ room_schema
-  pub stands : (house : House) (room : Room) → Stands old.now.trees house room → Stands new.now.trees (house_after house) (room_after room)
+  pub stands : (house : House) (room : Room) → Stands old.now.trees house room
+      → Stands new.now.trees (house_after house) (room_after room)
 
 -- One change of rows is made.
 abbrev pub Makes : State → State → Change → Type 0
@@ -23,7 +25,9 @@ Makes old new change = Changes old new (λ house. house) (λ room. apply_one roo
 pub record AppendsArea (old new : State) (at : ℕ) (area : Area) : Type 0 where
   pub inside : Inside old new
   pub schema : new.now.schema ≡ room_schema
-  pub stands : (house : House) (room : Room) → Stands old.now.trees house room → at ≡ suc (length room.plan) → Stands new.now.trees house (record room { plan = room.plan ++ area ∷ [] })
+  pub stands : (house : House) (room : Room) → Stands old.now.trees house room
+      → at ≡ suc (length room.plan) → Stands new.now.trees house
+      (record room { plan = room.plan ++ area ∷ [] })
 
 -- The tables told the first version, and tell this one. No other table changed.
 pub record Renews (old new : State) : Type 0 where

@@ -27,11 +27,13 @@ module _ {X : Type 0} (P : X → Type 0) where
   all_last [] ys all = all
   all_last (x ∷ xs) ys all = all_last xs ys all.1
 
-  all_both : (xs ys : List X) → AllByRecursion P xs → AllByRecursion P ys → AllByRecursion P (xs ++ ys)
+  all_both : (xs ys : List X) → AllByRecursion P xs → AllByRecursion P ys
+      → AllByRecursion P (xs ++ ys)
   all_both [] ys none all = all
   all_both (x ∷ xs) ys some all = (some.0, all_both xs ys some.1 all)
 
-kept_then : (tables : List Table) (old mid new : Trees) → KeepsRows tables old mid → KeepsRows tables mid new → KeepsRows tables old new
+kept_then : (tables : List Table) (old mid new : Trees) → KeepsRows tables old mid
+    → KeepsRows tables mid new → KeepsRows tables old new
 kept_then [] old mid new a b = tt
 kept_then (t ∷ ts) old mid new a b = (b.0 ∙ a.0, kept_then ts old mid new a.1 b.1)
 
@@ -39,7 +41,9 @@ kept_none : (tables : List Table) (trees : Trees) → KeepsRows tables trees tre
 kept_none [] trees = tt
 kept_none (t ∷ ts) trees = (refl, kept_none ts trees)
 
-still_blank : (tables : List Table) (old new : Trees) → AllByRecursion (λ (t : Table). old t.tree ≡ []) tables → KeepsRows tables old new → AllByRecursion (λ (t : Table). new t.tree ≡ []) tables
+still_blank : (tables : List Table) (old new : Trees)
+    → AllByRecursion (λ (t : Table). old t.tree ≡ []) tables → KeepsRows tables old new
+    → AllByRecursion (λ (t : Table). new t.tree ≡ []) tables
 still_blank [] old new a b = tt
 still_blank (t ∷ ts) old new a b = (b.0 ∙ a.0, still_blank ts old new a.1 b.1)
 
@@ -61,8 +65,11 @@ grows_then old mid new a b =
     }
 
 -- an index that was dropped is not there any more, and all tables keep their rows
-drop_makes : (schema : Schema) (text : List ℕ) (old new : State) (at : ℕ) (index : Index) (count : ℕ) → Drops schema text at index → old.now.schema ≡ schema
-    → Executes text [] old new (Ok count) → (new.now.schema ≡ without_index schema index.tree) × KeepsRows schema.tables old.now.trees new.now.trees
+drop_makes : (schema : Schema) (text : List ℕ) (old new : State) (at : ℕ) (index : Index)
+    (count : ℕ) → Drops schema text at index → old.now.schema ≡ schema
+    → Executes text [] old new (Ok count)
+    → (new.now.schema ≡ without_index schema index.tree)
+    × KeepsRows schema.tables old.now.trees new.now.trees
 drop_makes schema text old new at index count means has ran =
     let w : Writes old new None (DropIndex at) (statement_of text (understood schema text)) [] count = runs_as text [] old new schema has (DropIndex at) means.command means.plain count ran in
     let db = λ (s : Schema). record old.now { schema = s } in
@@ -72,13 +79,21 @@ drop_makes schema text old new at index count means has ran =
     (ap (λ (d : Database). d.schema) now ∙ left.1.0, subst (λ (d : Database). KeepsRows schema.tables old.now.trees d.trees) (sym now) left.1.1)
 
 -- the same tables with all their rows have grown by none
-tables_stay : (old new : Database) (schema : Schema) → old.schema ≡ schema → new.schema.tables ≡ schema.tables → KeepsRows schema.tables old.trees new.trees → Grows old new
+tables_stay : (old new : Database) (schema : Schema) → old.schema ≡ schema
+    → new.schema.tables ≡ schema.tables → KeepsRows schema.tables old.trees new.trees
+    → Grows old new
 tables_stay old new schema has same rows =
     let tables = ap (λ (s : Schema). s.tables) has in
-    record { made = []; tables_are = same ∙ sym tables ∙ append_nil old.schema.tables; kept = subst (λ ts. KeepsRows ts old.trees new.trees) (sym tables) rows; blank = tt }
+    record {
+      made = [];
+      tables_are = same ∙ sym tables ∙ append_nil old.schema.tables;
+      kept = subst (λ ts. KeepsRows ts old.trees new.trees) (sym tables) rows;
+      blank = tt;
+    }
 
 -- a text that defines takes the schema to the next, and the database grows
-defined : (schema next : Schema) (text : List ℕ) (old new : State) (count : ℕ) → Defines schema text next → old.now.schema ≡ schema
+defined : (schema next : Schema) (text : List ℕ) (old new : State) (count : ℕ)
+    → Defines schema text next → old.now.schema ≡ schema
     → Executes text [] old new (Ok count) → (new.now.schema ≡ next) × Grows old.now new.now
 defined schema next text old new count defines has ran = elim defines [
   | inl it ↦
@@ -100,7 +115,8 @@ defined schema next text old new count defines has ran = elim defines [
 ]
 
 -- so the texts that are left lead on
-pub leads_on : (last : Schema) (text : List ℕ) (more : List (List ℕ)) (old new : State) (count : ℕ) → Lead old.now.schema (text ∷ more) last
+pub leads_on : (last : Schema) (text : List ℕ) (more : List (List ℕ)) (old new : State) (count : ℕ)
+    → Lead old.now.schema (text ∷ more) last
     → Executes text [] old new (Ok count) → Lead new.now.schema more last × Grows old.now new.now
 leads_on last text more old new count lead ran =
     let step = defined old.now.schema lead.0 text old new count lead.1 refl ran in
@@ -111,15 +127,20 @@ same_rest [] ys zs same = same
 same_rest (x ∷ xs) ys zs same = same_rest xs ys zs (let all = same in cc)
 
 -- what grew from the first version's tables to a room's schema added the last table
-pub adds_last : (old new : Database) → old.schema.tables ≡ first_tables → Grows old new → new.schema ≡ room_schema → AddsLast old.trees new.trees
+pub adds_last : (old new : Database) → old.schema.tables ≡ first_tables → Grows old new
+    → new.schema ≡ room_schema → AddsLast old.trees new.trees
 adds_last old new first grows has =
     let made : first_tables ++ grows.made ≡ first_tables ++ offers_table ∷ [] = sym (ap (λ ts. ts ++ grows.made) first) ∙ sym grows.tables_are ∙ ap (λ (s : Schema). s.tables) has in
     let last = same_rest first_tables grows.made (offers_table ∷ []) made in
     let blank = subst (AllByRecursion (λ (t : Table). new.trees t.tree ≡ [])) last grows.blank in
-    record { rows = subst (λ ts. KeepsRows ts old.trees new.trees) first grows.kept; blank = blank.0 }
+    record {
+      rows = subst (λ ts. KeepsRows ts old.trees new.trees) first grows.kept;
+      blank = blank.0;
+    }
 
 -- what grew from nothing to a room's schema has no rows
-pub is_blank : (old new : Database) → old.schema ≡ no_schema → Grows old new → new.schema ≡ room_schema → IsBlank new.trees
+pub is_blank : (old new : Database) → old.schema ≡ no_schema → Grows old new
+    → new.schema ≡ room_schema → IsBlank new.trees
 is_blank old new none grows has =
     let made : grows.made ≡ room_tables = sym (ap (λ (s : Schema). s.tables ++ grows.made) none) ∙ sym grows.tables_are ∙ ap (λ (s : Schema). s.tables) has in
     let all = subst (AllByRecursion (λ (t : Table). new.trees t.tree ≡ [])) made grows.blank in

@@ -20,7 +20,8 @@ unplaced table = record table { tree = 0 }
 abbrev unplaced_index : Index → Index
 unplaced_index index = record index { tree = 0 }
 
--- the schemas on the way: with the first so many tables, and with all of them and the first so many indexes
+-- the schemas on the way: with the first so many tables, and with all of them and the first so many
+-- indexes
 abbrev tables_upto : ℕ → Schema
 tables_upto n = fold (λ s t. created s (unplaced t)) no_schema (take n room_tables)
 
@@ -79,27 +80,33 @@ offers_creates : Creates (tables_upto 12) OFFERS.now (unplaced offers_table)
 unfolding understood everything
 offers_creates = record { command = refl; plain = (refl, refl); whole = refl; defined = refl; uncounted = refl }
 
-incidents_by_state_indexes : Indexes (indexes_upto 0) INCIDENTS_BY_STATE.now 4 incidents_table (unplaced_index incidents_by_state)
+incidents_by_state_indexes : Indexes (indexes_upto 0) INCIDENTS_BY_STATE.now 4 incidents_table
+    (unplaced_index incidents_by_state)
 unfolding understood everything
 incidents_by_state_indexes = record { command = refl; plain = (refl, refl); whole = refl; is_there = refl; defined = refl }
 
-incidents_by_opening_indexes : Indexes (indexes_upto 1) INCIDENTS_BY_OPENING.now 4 incidents_table (unplaced_index incidents_by_opening)
+incidents_by_opening_indexes : Indexes (indexes_upto 1) INCIDENTS_BY_OPENING.now 4 incidents_table
+    (unplaced_index incidents_by_opening)
 unfolding understood everything
 incidents_by_opening_indexes = record { command = refl; plain = (refl, refl); whole = refl; is_there = refl; defined = refl }
 
-calls_by_incident_indexes : Indexes (indexes_upto 2) CALLS_BY_INCIDENT.now 5 calls_table (unplaced_index calls_by_incident)
+calls_by_incident_indexes : Indexes (indexes_upto 2) CALLS_BY_INCIDENT.now 5 calls_table
+    (unplaced_index calls_by_incident)
 unfolding understood everything
 calls_by_incident_indexes = record { command = refl; plain = (refl, refl); whole = refl; is_there = refl; defined = refl }
 
-turns_by_incident_indexes : Indexes (indexes_upto 3) TURNS_BY_INCIDENT.now 7 turns_table (unplaced_index turns_by_incident)
+turns_by_incident_indexes : Indexes (indexes_upto 3) TURNS_BY_INCIDENT.now 7 turns_table
+    (unplaced_index turns_by_incident)
 unfolding understood everything
 turns_by_incident_indexes = record { command = refl; plain = (refl, refl); whole = refl; is_there = refl; defined = refl }
 
-reports_by_outcome_indexes : Indexes (indexes_upto 4) REPORTS_BY_OUTCOME.now 11 reports_table (unplaced_index reports_by_outcome)
+reports_by_outcome_indexes : Indexes (indexes_upto 4) REPORTS_BY_OUTCOME.now 11 reports_table
+    (unplaced_index reports_by_outcome)
 unfolding understood everything
 reports_by_outcome_indexes = record { command = refl; plain = (refl, refl); whole = refl; is_there = refl; defined = refl }
 
-pub indexes_lead : Lead tables_schema (map (λ t. t.now) (drop TABLE_DEFINITIONS DEFINITIONS)) room_schema
+pub indexes_lead : Lead tables_schema
+    (map (λ t. t.now) (drop TABLE_DEFINITIONS DEFINITIONS)) room_schema
 unfolding everything
 indexes_lead = (
   indexes_upto 1,
@@ -189,23 +196,28 @@ first_without n = record { tables = first_tables; indexes = indexes_in (take FIR
 abbrev first_index : Index → ℕ → Index
 first_index index tree = record index { tree = tree }
 
-incidents_by_state_drops : Drops (first_without 0) DROP_INCIDENTS_BY_STATE.now 9 (first_index incidents_by_state 21)
+incidents_by_state_drops : Drops (first_without 0) DROP_INCIDENTS_BY_STATE.now 9
+    (first_index incidents_by_state 21)
 unfolding understood everything
 incidents_by_state_drops = record { command = refl; plain = (refl, refl); is_there = refl }
 
-incidents_by_opening_drops : Drops (first_without 1) DROP_INCIDENTS_BY_OPENING.now 9 (first_index incidents_by_opening 22)
+incidents_by_opening_drops : Drops (first_without 1) DROP_INCIDENTS_BY_OPENING.now 9
+    (first_index incidents_by_opening 22)
 unfolding understood everything
 incidents_by_opening_drops = record { command = refl; plain = (refl, refl); is_there = refl }
 
-calls_by_incident_drops : Drops (first_without 2) DROP_CALLS_BY_INCIDENT.now 9 (first_index calls_by_incident 23)
+calls_by_incident_drops : Drops (first_without 2) DROP_CALLS_BY_INCIDENT.now 9
+    (first_index calls_by_incident 23)
 unfolding understood everything
 calls_by_incident_drops = record { command = refl; plain = (refl, refl); is_there = refl }
 
-turns_by_incident_drops : Drops (first_without 3) DROP_TURNS_BY_INCIDENT.now 9 (first_index turns_by_incident 24)
+turns_by_incident_drops : Drops (first_without 3) DROP_TURNS_BY_INCIDENT.now 9
+    (first_index turns_by_incident 24)
 unfolding understood everything
 turns_by_incident_drops = record { command = refl; plain = (refl, refl); is_there = refl }
 
-reports_by_outcome_drops : Drops (first_without 4) DROP_REPORTS_BY_OUTCOME.now 9 (first_index reports_by_outcome 25)
+reports_by_outcome_drops : Drops (first_without 4) DROP_REPORTS_BY_OUTCOME.now 9
+    (first_index reports_by_outcome 25)
 unfolding understood everything
 reports_by_outcome_drops = record { command = refl; plain = (refl, refl); is_there = refl }
 

@@ -13,5 +13,7 @@ pub record IsBare (table : Table) : Type 0 where
 
 -- its key has these places, or is the rowid where there are none
 abbrev pub HasKey : Table → List ℕ → Type 0
-HasKey table [] = (table.key ≡ Some 0) × (table.primary ≡ 0 ∷ []) × (table.uniques ≡ []) × (table.orders ≡ [])
-HasKey table (p ∷ ps) = (table.key ≡ None) × (table.primary ≡ p ∷ ps) × (table.uniques ≡ (p ∷ ps) ∷ []) × (table.orders ≡ plain ∷ [])
+HasKey table [] =
+    (table.key ≡ Some 0) × (table.primary ≡ 0 ∷ []) × (table.uniques ≡ []) × (table.orders ≡ [])
+HasKey table (p ∷ ps) = (table.key ≡ None) × (table.primary ≡ p ∷ ps)
+    × (table.uniques ≡ (p ∷ ps) ∷ []) × (table.orders ≡ plain ∷ [])

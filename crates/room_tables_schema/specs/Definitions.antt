@@ -28,8 +28,10 @@ pub record Drops (schema : Schema) (text : List ℕ) (at : ℕ) (index : Index) 
 abbrev pub Defines : Schema → List ℕ → Schema → Type 0
 Defines schema text next =
     ((table : Table) × Creates schema text table × (next ≡ created schema table))
-    ⊎ (((at : ℕ) × (table : Table) × (index : Index) × Indexes schema text at table index × (next ≡ indexed schema table index))
-    ⊎ ((at : ℕ) × (index : Index) × Drops schema text at index × (next ≡ without_index schema index.tree)))
+    ⊎ (((at : ℕ) × (table : Table) × (index : Index) × Indexes schema text at table index
+    × (next ≡ indexed schema table index))
+    ⊎ ((at : ℕ) × (index : Index) × Drops schema text at index
+    × (next ≡ without_index schema index.tree)))
 
 -- the texts, one after the other, take one schema to the last
 abbrev pub Lead : Schema → List (List ℕ) → Schema → Type 0
@@ -48,7 +50,8 @@ pub record AddsLast (old new : Trees) : Type 0 where
   pub rows : KeepsRows first_tables old new
   pub blank : new offers_table.tree ≡ []
 
--- One of the texts failed at a state that the transaction came to, and this is the fault that tells of it.
+-- One of the texts failed at a state that the transaction came to, and this is the fault that tells
+-- of it.
 pub record FailsAt (texts : List (List ℕ)) (old mid new : State) (fault : Fault) : Type 0 where
   pub text : List ℕ
   pub listed : Contains texts text

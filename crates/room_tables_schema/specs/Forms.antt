@@ -13,7 +13,14 @@ use Rattle.room_tables_schema.specs.declared.forms.Rule.{Rule}
 -- ---- columns: of one kind (the tables are STRICT), compared byte by byte, with no default
 
 abbrev pub column_of : List ℕ → Rule → Column
-column_of name rule = record { name = name; kind = rule.kind; is_strict = true; not_null = rule.is_needed; default = Null; collation = Binary }
+column_of name rule = record {
+  name = name;
+  kind = rule.kind;
+  is_strict = true;
+  not_null = rule.is_needed;
+  default = Null;
+  collation = Binary;
+}
 
 abbrev pub ColumnForm : Type 0
 ColumnForm = Bor (List ℕ) × Rule
@@ -27,7 +34,8 @@ columns_as = map column_as
 -- ---- tables: a tree of rows each, with a key and no other rule
 
 -- what tables differ by, and what none of them has
-abbrev pub table_of : ℕ → List ℕ → Option ℕ → List ℕ → List (List ℕ) → List Order → List Column → Table
+abbrev pub table_of : ℕ → List ℕ → Option ℕ → List ℕ → List (List ℕ) → List Order → List Column
+    → Table
 table_of tree name key primary uniques orders columns = record {
   name = name;
   tree = tree;
@@ -47,9 +55,11 @@ table_of tree name key primary uniques orders columns = record {
 abbrev pub rowid_table : ℕ → List ℕ → List Column → Table
 rowid_table tree name columns = table_of tree name (Some 0) (0 ∷ []) [] [] columns
 
--- its key is the columns at these places, counted from 1, and an index keeps it; place 0 of a row is a rowid of no meaning
+-- its key is the columns at these places, counted from 1, and an index keeps it; place 0 of a row
+-- is a rowid of no meaning
 abbrev pub keyed_table : ℕ → List ℕ → List ℕ → List Column → Table
-keyed_table tree name places columns = table_of tree name None places (places ∷ []) (plain ∷ []) columns
+keyed_table tree name places columns =
+    table_of tree name None places (places ∷ []) (plain ∷ []) columns
 
 abbrev pub TableForm : Type 0
 TableForm = Bor (List ℕ) × ℕ × Bor (List ℕ) × Bor (List ColumnForm)
@@ -68,7 +78,14 @@ tables_as = map table_as
 -- ---- indexes: by the columns at these places of a row
 
 abbrev pub index_of : List ℕ → ℕ → ℕ → List ℕ → Bool → Index
-index_of name tree table places is_unique = record { name = name; tree = tree; table = table; columns = places; order = plain; is_unique = is_unique }
+index_of name tree table places is_unique = record {
+  name = name;
+  tree = tree;
+  table = table;
+  columns = places;
+  order = plain;
+  is_unique = is_unique;
+}
 
 abbrev pub IndexForm : Type 0
 IndexForm = Bor (List ℕ) × ℕ × ℕ × Bor (List ℕ) × Bool

@@ -1,4 +1,5 @@
--- The tables and indexes that a room's file has, with the columns that `src/tables.rt` lists; the texts that make them are proved to make just these.
+-- The tables and indexes that a room's file has, with the columns that `src/tables.rt` lists; the
+-- texts that make them are proved to make just these.
 use Rattle.std.specs.Prelude.{ℕ, List, [], Bool, take, map}
 use Rattle.sqlite_schema.specs.declared.schema.Table.{Table}
 use Rattle.sqlite_schema.specs.declared.schema.Index.{Index}
@@ -13,12 +14,14 @@ abbrev Known : Type 0 → Type 0
 Known X = record { now : X }
 
 abbrev table_in : Known (List ℕ) × ℕ × Known (List ℕ) × Known (List (Known (List ℕ) × Rule)) → Table
-table_in form = table_keyed form.2.now form.1 form.0.now (map (λ c. column_of c.0.now c.1) form.3.now)
+table_in form =
+    table_keyed form.2.now form.1 form.0.now (map (λ c. column_of c.0.now c.1) form.3.now)
 
 abbrev index_in : Known (List ℕ) × ℕ × ℕ × Known (List ℕ) × Bool → Index
 index_in form = index_of form.0.now form.1 form.2 form.3.now form.4
 
-abbrev pub tables_in : List (Known (List ℕ) × ℕ × Known (List ℕ) × Known (List (Known (List ℕ) × Rule))) → List Table
+abbrev pub tables_in : List (Known (List ℕ) × ℕ × Known (List ℕ)
+    × Known (List (Known (List ℕ) × Rule))) → List Table
 tables_in = map table_in
 
 abbrev pub indexes_in : List (Known (List ℕ) × ℕ × ℕ × Known (List ℕ) × Bool) → List Index
@@ -26,7 +29,8 @@ indexes_in = map index_in
 
 -- ---- tables
 
--- The room as a whole: one row, numbered 1, with the version of these tables and the zone of its days.
+-- The room as a whole: one row, numbered 1, with the version of these tables and the zone of its
+-- days.
 abbrev pub meta_table : Table
 meta_table = table_in META
 
@@ -34,12 +38,14 @@ meta_table = table_in META
 abbrev pub areas_table : Table
 areas_table = table_in AREAS
 
--- The terminals: a token, its role (0 desk, 1 position, 2 crew), the number of its division or position, and a crew's callsign.
+-- The terminals: a token, its role (0 desk, 1 position, 2 crew), the number of its division or
+-- position, and a crew's callsign.
 abbrev pub terminals_table : Table
 terminals_table = table_in TERMINALS
 
--- The rows of the room, a table a type, with its fields in their order: a place as two columns, needs as three, a state as its number and,
--- where it is merged, the incident that it was merged into. What SQL keeps for itself is named otherwise: `ord`, `moment`, `left_at`.
+-- The rows of the room, a table a type, with its fields in their order: a place as two columns,
+-- needs as three, a state as its number and, where it is merged, the incident that it was merged
+-- into. What SQL keeps for itself is named otherwise: `ord`, `moment`, `left_at`.
 abbrev pub divisions_table : Table
 divisions_table = table_in DIVISIONS
 
@@ -70,7 +76,8 @@ reports_table = table_in REPORTS
 abbrev pub offers_table : Table
 offers_table = table_in OFFERS
 
--- The tables in the order in which they are made. A key that is no rowid takes the tree after its table's.
+-- The tables in the order in which they are made. A key that is no rowid takes the tree after its
+-- table's.
 abbrev pub room_tables : List Table
 room_tables = tables_in TABLES
 
@@ -92,7 +99,8 @@ key_indexes = take KEY_INDEXES room_indexes
 abbrev pub indexes_of_first : List Index
 indexes_of_first = indexes_in FIRST_INDEXES
 
--- The indexes by which working rows are found, made after all tables. No meaning of the room depends on them.
+-- The indexes by which working rows are found, made after all tables. No meaning of the room
+-- depends on them.
 abbrev pub incidents_by_state : Index
 incidents_by_state = index_in INCIDENTS_BY_STATE
 
@@ -124,7 +132,11 @@ room_schema = record { tables = room_tables; indexes = room_indexes; views = [] 
 
 -- of the first version's tables alone
 abbrev pub first_tables_schema : Schema
-first_tables_schema = record { tables = first_tables; indexes = take FIRST_KEY_INDEXES indexes_of_first; views = [] }
+first_tables_schema = record {
+  tables = first_tables;
+  indexes = take FIRST_KEY_INDEXES indexes_of_first;
+  views = [];
+}
 
 -- of a room of the first version
 abbrev pub first_schema : Schema

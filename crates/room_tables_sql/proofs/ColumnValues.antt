@@ -34,7 +34,8 @@ AreKept [] row = Unit {0}
 AreKept (c ∷ columns) [] = Unit {0}
 AreKept (c ∷ columns) (v ∷ row) = (cast c.kind v ≡ v) × AreKept columns row
 
-pub cast_all-kept : (columns : List Column) (row : Row) → AreKept columns row → cast_all columns row ≡ row
+pub cast_all-kept : (columns : List Column) (row : Row) → AreKept columns row
+    → cast_all columns row ≡ row
 cast_all-kept [] row h = refl
 cast_all-kept (c ∷ columns) [] h = refl
 cast_all-kept (c ∷ columns) (v ∷ row) h = λ i. h.0 i ∷ cast_all-kept columns row h.1 i
@@ -47,7 +48,8 @@ bound-number_or_null None = refl
 bound-number_or_null (Some n) = refl
 
 -- what is read of a column that may be NULL is what is in it
-pub reads-number_or_null : (v : Value) (o : Option ℕ) → MatchOption o (v ≡ Null) (λ x. (v ≢ Null) × (v ≡ number x)) → number_or_null o ≡ v
+pub reads-number_or_null : (v : Value) (o : Option ℕ)
+    → MatchOption o (v ≡ Null) (λ x. (v ≢ Null) × (v ≡ number x)) → number_or_null o ≡ v
 reads-number_or_null v None h = sym h
 reads-number_or_null v (Some n) h = sym h.1
 

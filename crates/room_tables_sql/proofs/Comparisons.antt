@@ -36,7 +36,8 @@ compare_by op a b = is_true (binary (Compare op Binary) a b)
 -- ---- two values
 
 -- apart from NULL a comparison is a test of the order
-compare_by-value_cmp : (op : CompareOp) (a b : Value) → is_null a ≡ false → is_null b ≡ false → compare_by op a b ≡ test op (value_cmp a b)
+compare_by-value_cmp : (op : CompareOp) (a b : Value) → is_null a ≡ false → is_null b ≡ false
+    → compare_by op a b ≡ test op (value_cmp a b)
 unfolding binary
 compare_by-value_cmp op a b h k = rw (h, k) (elim (test op (value_cmp a b)) as (λ t. is_true (from_truth (Some t)) ≡ t) [ true ↦ refl | false ↦ refl ])
 
@@ -109,7 +110,8 @@ pub is_true-Or : (a b : Value) → is_true (binary Or a b) ≡ (is_true a || is_
 unfolding binary
 is_true-Or a b = go (truth a) (truth b)
   where
-    go : (o p : Option Bool) → is_true (from_truth (or3 o p)) ≡ (unwrap_or o false || unwrap_or p false)
+    go : (o p : Option Bool) → is_true (from_truth (or3 o p))
+        ≡ (unwrap_or o false || unwrap_or p false)
     go None None = refl
     go None (Some true) = refl
     go None (Some false) = refl
@@ -135,15 +137,18 @@ is_eq-then Greater p = refl
 pub key_of_one : {o p : Ordering} → o ≡ p → ordering_then o Equal ≡ p
 key_of_one {o} e = then-Equal o ∙ e
 
-pub key_of_two : {o p q r : Ordering} → o ≡ p → q ≡ r → ordering_then o (ordering_then q Equal) ≡ ordering_then p r
+pub key_of_two : {o p q r : Ordering} → o ≡ p → q ≡ r
+    → ordering_then o (ordering_then q Equal) ≡ ordering_then p r
 key_of_two {q} e f i = ordering_then (e i) (key_of_one f i)
 
 -- a row is in the way of a new one where the key ties, of one column or of two
-pub conflict_of_one : (a b : Value) → is_null b ≡ false → ((equal Binary a b && true) || false) ≡ is_eq (ordering_then (value_cmp a b) Equal)
+pub conflict_of_one : (a b : Value) → is_null b ≡ false
+    → ((equal Binary a b && true) || false) ≡ is_eq (ordering_then (value_cmp a b) Equal)
 conflict_of_one a b k = or_false _ ∙ and_last (equal-value_cmp a b k) ∙ ap is_eq (sym (then-Equal (value_cmp a b)))
 
 pub conflict_of_two : (a b c d : Value) → is_null c ≡ false → is_null d ≡ false
-    → ((equal Binary a c && (equal Binary b d && true)) || false) ≡ is_eq (ordering_then (value_cmp a c) (ordering_then (value_cmp b d) Equal))
+    → ((equal Binary a c && (equal Binary b d && true)) || false)
+    ≡ is_eq (ordering_then (value_cmp a c) (ordering_then (value_cmp b d) Equal))
 conflict_of_two a b c d j k =
     or_false _ ∙ and_then (equal-value_cmp a c j) (and_last (equal-value_cmp b d k) ∙ ap is_eq (sym (then-Equal (value_cmp b d)))) ∙ sym (is_eq-then (value_cmp a c) _)
 
@@ -155,5 +160,7 @@ int_present (Text t) h = refl
 int_present (Blob b) h = refl
 
 -- the rowid that a parameter names is that of the row
-pub passes-rowid : (at : ℕ) (params r a : Row) → is_int (rowid r) ≡ true → column params at ≡ rowid r → passes (equals 0 at ∷ []) params a ≡ is_eq (value_cmp (rowid a) (rowid r))
+pub passes-rowid : (at : ℕ) (params r a : Row) → is_int (rowid r) ≡ true
+    → column params at ≡ rowid r → passes (equals 0 at ∷ []) params a
+    ≡ is_eq (value_cmp (rowid a) (rowid r))
 passes-rowid at params r a int is = and_last ((λ i. equal Binary (rowid a) (is i)) ∙ equal-value_cmp (rowid a) (rowid r) (int_present (rowid r) int))

@@ -29,7 +29,9 @@ use Rattle.room_tables_sql.proofs.Standing.{holds-without_all}
 use Rattle.room_tables_sql.proofs.Selections.{table_answer, overlay-none}
 use Rattle.room_tables_sql.proofs.Writes.{went_on, same_value, deletes_rows, only_edited}
 
-module _ (schema : Schema) (text : List ℕ) (at : ℕ) (table : Table) (alone : StandsAlone schema at table) (terms : List Term) (means : Deletes schema text at table terms)
+module _ (schema : Schema) (text : List ℕ) (at : ℕ) (table : Table)
+    (alone : StandsAlone schema at table) (terms : List Term)
+    (means : Deletes schema text at table terms)
     (old new : State) (params : Row) (count : ℕ) (has : old.now.schema ≡ schema) (ran : Executes text params old new (Ok count)) where
   -- the rows that pass are gone, and no other table changed
   pub deleted : Only schema table.tree old.now new.now

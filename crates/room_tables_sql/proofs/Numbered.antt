@@ -30,11 +30,13 @@ alike_back a b = ap is_eq (value_cmp_total.antisymm (rowid a) (rowid b)) ∙ is_
 pub alike_itself : (r : Row) → alike r r ≡ true
 alike_itself r = ap is_eq (tied_itself value_cmp_total (rowid r))
 
-pub is_int_in : (tree : List Row) (r : Row) → AreNumbered tree → Has tree r → is_int (rowid r) ≡ true
+pub is_int_in : (tree : List Row) (r : Row) → AreNumbered tree → Has tree r
+    → is_int (rowid r) ≡ true
 is_int_in tree r n h = all_has (λ x. is_int (rowid x) ≡ true) tree r n.1 h
 
 -- two rows with one rowid are one
-pub one_row : (tree : List Row) (a b : Row) → AreNumbered tree → Has tree a → Has tree b → alike a b ≡ true → a ≡ b
+pub one_row : (tree : List Row) (a b : Row) → AreNumbered tree → Has tree a → Has tree b
+    → alike a b ≡ true → a ≡ b
 one_row [] a b n h k same = absurd h
 one_row (r ∷ tree) a b n (inl e) (inl f) same = e ∙ sym f
 one_row (r ∷ tree) a b n (inl e) (inr k) same = absurd (true≢false (sym same ∙ ap (λ x. alike x b) e ∙ all_has (λ y. alike r y ≡ false) tree b n.0.0 k))
@@ -42,7 +44,8 @@ one_row (r ∷ tree) a b n (inr h) (inl f) same = absurd (true≢false (sym same
 one_row (r ∷ tree) a b n (inr h) (inr k) same = one_row tree a b (n.0.1, n.1.1) h k same
 
 -- a row alone has its rowid
-pub filter-alike : (tree : List Row) (r : Row) → AreNumbered tree → Has tree r → filter (λ a. alike a r) tree ≡ r ∷ []
+pub filter-alike : (tree : List Row) (r : Row) → AreNumbered tree → Has tree r
+    → filter (λ a. alike a r) tree ≡ r ∷ []
 filter-alike [] r n h = absurd h
 filter-alike (x ∷ tree) r n (inl e) =
     rw (
@@ -51,7 +54,8 @@ filter-alike (x ∷ tree) r n (inl e) =
     ) (ap (λ y. y ∷ []) (sym e))
 filter-alike (x ∷ tree) r n (inr h) = rw (all_has (λ z. alike x z ≡ false) tree r n.0.0 h) (filter-alike tree r (n.0.1, n.1.1) h)
 
-pub numbered-filter : (p : Row → Bool) (tree : List Row) → AreNumbered tree → AreNumbered (filter p tree)
+pub numbered-filter : (p : Row → Bool) (tree : List Row) → AreNumbered tree
+    → AreNumbered (filter p tree)
 numbered-filter p tree h = (ascending-filter _ p tree h.0, all-filter (λ r. is_int (rowid r) ≡ true) p tree h.1)
 
 -- ---- a row that comes in
@@ -60,39 +64,47 @@ numbered-filter p tree h = (ascending-filter _ p tree h.0, all-filter (λ r. is_
 abbrev IsFree : Row → List Row → Type 0
 IsFree new tree = is_taken tree new ≡ false
 
-pub put_row_has : (new : Row) (tree : List Row) → IsFree new tree → IsPermutation (new ∷ tree) (put_row new tree)
+pub put_row_has : (new : Row) (tree : List Row) → IsFree new tree
+    → IsPermutation (new ∷ tree) (put_row new tree)
 put_row_has new [] h = IsPermutation-refl _
 put_row_has new (r ∷ tree) h = go (value_cmp (rowid r) (rowid new)) refl (put_row_has new tree)
   where
     parts : (alike r new ≡ false) × IsFree new tree
     parts = or_parts _ _ h
 
-    go : (o : Ordering) → value_cmp (rowid r) (rowid new) ≡ o → (IsFree new tree → IsPermutation (new ∷ tree) (put_row new tree))
-        → IsPermutation (new ∷ r ∷ tree) (match_ordering o (r ∷ put_row new tree) (new ∷ tree) (new ∷ r ∷ tree))
+    go : (o : Ordering) → value_cmp (rowid r) (rowid new) ≡ o
+        → (IsFree new tree → IsPermutation (new ∷ tree) (put_row new tree))
+        → IsPermutation (new ∷ r ∷ tree) (match_ordering o (r ∷ put_row new tree) (new ∷ tree)
+        (new ∷ r ∷ tree))
     go Less e more = IsPermutation-trans _ _ _ (IsPermutation-middle (new ∷ []) r tree) (IsPermutation-cons r _ _ (more parts.1))
     go Equal e more = absurd (true≢false (sym (ap is_eq e) ∙ parts.0))
     go Greater e more = IsPermutation-refl _
 
-to_distinct : (tree : List Row) → IsAscending (λ a b. alike a b ≡ false) tree → IsDistinct alike tree
+to_distinct : (tree : List Row) → IsAscending (λ a b. alike a b ≡ false) tree
+    → IsDistinct alike tree
 unfolding IsDistinct
 to_distinct [] h = tt
 to_distinct (r ∷ tree) h = (h.0, to_distinct tree h.1)
 
-from_distinct : (tree : List Row) → IsDistinct alike tree → IsAscending (λ a b. alike a b ≡ false) tree
+from_distinct : (tree : List Row) → IsDistinct alike tree
+    → IsAscending (λ a b. alike a b ≡ false) tree
 unfolding IsDistinct
 from_distinct [] h = tt
 from_distinct (r ∷ tree) h = (h.0, from_distinct tree h.1)
 
 -- the order of the rows does not matter
-pub numbered-permutation : (xs ys : List Row) → IsPermutation xs ys → AreNumbered xs → AreNumbered ys
+pub numbered-permutation : (xs ys : List Row) → IsPermutation xs ys → AreNumbered xs
+    → AreNumbered ys
 numbered-permutation xs ys same h =
     (from_distinct ys (IsDistinct-IsPermutation alike alike_back xs ys same (to_distinct xs h.0)), all-permutation (λ r. is_int (rowid r) ≡ true) xs ys same h.1)
 
-none_alike : (new : Row) (tree : List Row) → IsFree new tree → AllByRecursion (λ r. alike new r ≡ false) tree
+none_alike : (new : Row) (tree : List Row) → IsFree new tree
+    → AllByRecursion (λ r. alike new r ≡ false) tree
 none_alike new [] h = tt
 none_alike new (r ∷ tree) h = let p = or_parts _ _ h in (alike_back new r ∙ p.0, none_alike new tree p.1)
 
-pub numbered-put_row : (new : Row) (tree : List Row) → is_int (rowid new) ≡ true → IsFree new tree → AreNumbered tree → AreNumbered (put_row new tree)
+pub numbered-put_row : (new : Row) (tree : List Row) → is_int (rowid new) ≡ true → IsFree new tree
+    → AreNumbered tree → AreNumbered (put_row new tree)
 numbered-put_row new tree int free h = numbered-permutation (new ∷ tree) (put_row new tree) (put_row_has new tree free) ((none_alike new tree free, h.0), (int, h.1))
 
 -- ---- rows that go out
@@ -104,17 +116,23 @@ Int-id_in (Real x) h = absurd (true≢false (sym h))
 Int-id_in (Text t) h = absurd (true≢false (sym h))
 Int-id_in (Blob b) h = absurd (true≢false (sym h))
 
--- the rows without some rowids are those that fail a test, where the test tells which rowids these are
+-- the rows without some rowids are those that fail a test, where the test tells which rowids these
+-- are
 without_all_is : (test : Row → Bool) (ids : List ℤ) (tree : List Row)
-    → AllByRecursion (λ r. list_any (λ id. has_rowid id r) ids ≡ test r) tree → without_all tree ids ≡ filter (λ r. not (test r)) tree
+    → AllByRecursion (λ r. list_any (λ id. has_rowid id r) ids ≡ test r) tree
+    → without_all tree ids ≡ filter (λ r. not (test r)) tree
 without_all_is test ids tree h = go ids tree ∙ filter_same _ (λ r. not (test r)) tree (all_weaker _ (λ r. not (list_any (λ id. has_rowid id r) ids) ≡ not (test r)) (λ r e. ap not e) tree h)
   where
-    twice : (p q : Row → Bool) (xs : List Row) → filter (λ r. not (q r)) (filter (λ r. not (p r)) xs) ≡ filter (λ r. not (p r || q r)) xs
+    twice : (p q : Row → Bool) (xs : List Row)
+        → filter (λ r. not (q r)) (filter (λ r. not (p r)) xs) ≡ filter (λ r. not (p r || q r)) xs
     twice p q [] = refl
     twice p q (x ∷ xs) = step (p x) (q x) refl (twice p q xs)
       where
-        step : (a b : Bool) → q x ≡ b → filter (λ r. not (q r)) (filter (λ r. not (p r)) xs) ≡ filter (λ r. not (p r || q r)) xs
-            → filter (λ r. not (q r)) (cond (not a) (x ∷ filter (λ r. not (p r)) xs) (filter (λ r. not (p r)) xs)) ≡ cond (not (a || b)) (x ∷ filter (λ r. not (p r || q r)) xs) (filter (λ r. not (p r || q r)) xs)
+        step : (a b : Bool) → q x ≡ b → filter (λ r. not (q r)) (filter (λ r. not (p r)) xs)
+            ≡ filter (λ r. not (p r || q r)) xs
+            → filter (λ r. not (q r)) (cond (not a) (x ∷ filter (λ r. not (p r)) xs)
+            (filter (λ r. not (p r)) xs)) ≡ cond (not (a || b))
+            (x ∷ filter (λ r. not (p r || q r)) xs) (filter (λ r. not (p r || q r)) xs)
         step true b f more = more
         step false true f more = rw f more
         step false false f more = rw f (ap (λ l. x ∷ l) more)
@@ -123,7 +141,8 @@ without_all_is test ids tree h = go ids tree ∙ filter_same _ (λ r. not (test 
     none [] = refl
     none (x ∷ xs) = ap (λ l. x ∷ l) (none xs)
 
-    go : (more : List ℤ) (xs : List Row) → without_all xs more ≡ filter (λ r. not (list_any (λ id. has_rowid id r) more)) xs
+    go : (more : List ℤ) (xs : List Row)
+        → without_all xs more ≡ filter (λ r. not (list_any (λ id. has_rowid id r) more)) xs
     go [] xs = none xs
     go (id ∷ more) xs = go more (without_rowid id xs) ∙ twice (has_rowid id) (λ r. list_any (λ i. has_rowid i r) more) xs
 

@@ -23,7 +23,8 @@ use Rattle.room_tables_sql.proofs.Selections.{shows_all}
 use Rattle.room_tables_sql.proofs.TypedRows.{rises_keyed}
 
 -- rowids that are shown as the first column differ as those of the tree do
-numbered_shown : (more : List ℕ) (tree rows : List Row) → IsPermutation (map (cells (0 ∷ more)) tree) rows → AreNumbered rows ↔ AreNumbered tree
+numbered_shown : (more : List ℕ) (tree rows : List Row)
+    → IsPermutation (map (cells (0 ∷ more)) tree) rows → AreNumbered rows ↔ AreNumbered tree
 numbered_shown more tree rows same = (there, back)
   where
     there : AreNumbered rows → AreNumbered tree
@@ -36,15 +37,19 @@ numbered_shown more tree rows same = (there, back)
         numbered-permutation (map (cells (0 ∷ more)) tree) rows same
         (ascending-map (λ a b. is_eq (value_cmp (rowid a) (rowid b)) ≡ false) (cells (0 ∷ more)) tree h.0, all-map (λ r. is_int (rowid r) ≡ true) (cells (0 ∷ more)) tree h.1)
 
-apart : (a b : Row) → value_cmp (rowid a) (rowid b) ≡ Less → is_eq (value_cmp (rowid a) (rowid b)) ≡ false
+apart : (a b : Row) → value_cmp (rowid a) (rowid b) ≡ Less
+    → is_eq (value_cmp (rowid a) (rowid b)) ≡ false
 apart a b e = ap is_eq e
 
-rise_apart : (rows : List Row) → IsAscending (λ a b. is_gt (value_cmp (rowid a) (rowid b)) ≡ false) rows → IsAscending (λ a b. is_eq (value_cmp (rowid a) (rowid b)) ≡ false) rows → IsTable rows
+rise_apart : (rows : List Row) → IsAscending
+    (λ a b. is_gt (value_cmp (rowid a) (rowid b)) ≡ false) rows
+    → IsAscending (λ a b. is_eq (value_cmp (rowid a) (rowid b)) ≡ false) rows → IsTable rows
 rise_apart [] up h = tt
 rise_apart (r ∷ rows) up h = (all_both _ (λ s. is_eq (value_cmp (rowid r) (rowid s)) ≡ false) (λ s. value_cmp (rowid r) (rowid s) ≡ Less) (λ s p q. less _ p q) rows up.0 h.0, rise_apart rows up.1 h.1)
 
 -- rows in the order of their rowids rise where the rowids differ
-rowids_rise : (rows : List Row) → IsSorted (key_cmp 0 (keys (0 ∷ []))) rows → RowidsRise rows ↔ AreNumbered rows
+rowids_rise : (rows : List Row) → IsSorted (key_cmp 0 (keys (0 ∷ []))) rows
+    → RowidsRise rows ↔ AreNumbered rows
 rowids_rise rows sorted = (λ h. (ascending_weaker _ (λ a b. is_eq (value_cmp (rowid a) (rowid b)) ≡ false) apart rows h.0, h.1), λ h. (rise_apart rows at_most h.0, h.1))
   where
     at_most : IsAscending (λ a b. is_gt (value_cmp (rowid a) (rowid b)) ≡ false) rows
@@ -52,7 +57,8 @@ rowids_rise rows sorted = (λ h. (ascending_weaker _ (λ a b. is_eq (value_cmp (
         ascending_weaker _ _ (λ a b e. ap is_gt (sym (then-Equal (value_cmp (rowid a) (rowid b)))) ∙ e) rows (ascending_from_sorted (key_cmp 0 (keys (0 ∷ []))) (key_cmp_total (keys (0 ∷ [])) 0) rows sorted)
 
 -- of a selection of the rowids in their order
-pub rowids_tell : (schema : Schema) (text : List ℕ) (old new : State) → RowidsTell schema text old new
+pub rowids_tell : (schema : Schema) (text : List ℕ) (old new : State)
+    → RowidsTell schema text old new
 rowids_tell schema text old new tree params rows means has shows =
     let got = shows_all schema text old new tree (0 ∷ []) [] params rows means has shows in
     let rising = rowids_rise rows got.1 in
@@ -79,13 +85,15 @@ module _ {X K : Type 0} (order : K → K → Ordering) (key : X → K) (row : X 
   }
 
   -- keys of which each is below the next are in order
-  pub keyed_adjacent : IsTotalOrder order → (xs : List X) → AllAdjacentBelow (λ x y. order (key x) (key y) ≡ Less) xs (length xs) → IsKeyed order key xs
+  pub keyed_adjacent : IsTotalOrder order → (xs : List X)
+      → AllAdjacentBelow (λ x y. order (key x) (key y) ≡ Less) xs (length xs) → IsKeyed order key xs
   keyed_adjacent total [] h = tt
   keyed_adjacent total (x ∷ []) h = (tt, tt)
   keyed_adjacent total (x ∷ y ∷ xs) h =
       let rest = keyed_adjacent total (y ∷ xs) (λ k d low. rw (add-one k) (rw (add-one (suc k)) at (h (suc k) d (omega arith)))) in
       ((h 0 x (omega arith), below x y (h 0 x (omega arith)) xs rest.0), rest)
     where
-      below : (x y : X) → order (key x) (key y) ≡ Less → (ys : List X) → IsBelowAll order key (key y) ys → IsBelowAll order key (key x) ys
+      below : (x y : X) → order (key x) (key y) ≡ Less → (ys : List X)
+          → IsBelowAll order key (key y) ys → IsBelowAll order key (key x) ys
       below x y e [] k = tt
       below x y e (z ∷ zs) k = (total.trans (key x) (key y) (key z) e k.0, below x y e zs k.1)

@@ -27,10 +27,16 @@ any_err (Ok x) p = tt
 any_err (Err e) p = p
 
 -- nothing was read yet of an open connection
-pub begins : {S : Type 0} {g : Ghosts S} {a : Held S} → (HasCleanDisk (state g a) → IsTrue (state g a).is_open) → Looked g a a
+pub begins : {S : Type 0} {g : Ghosts S} {a : Held S}
+    → (HasCleanDisk (state g a) → IsTrue (state g a).is_open) → Looked g a a
 begins {g = g} {a = a} open_ =
     let same : Survives (state g a) (state g a) (λ _. ⊥) = search rules in
-    record { ok = λ clean. unchanged (state g a) (open_ clean); err = λ clean. tt; mode = λ outside. outside; survives = same }
+    record {
+      ok = λ clean. unchanged (state g a) (open_ clean);
+      err = λ clean. tt;
+      mode = λ outside. outside;
+      survives = same;
+    }
 
 module _ {S : Type 0} {g : Ghosts S} {a b : Held S} where
   pub looked : {T E : Type 0} {x : T} → ReadsOnly {T = T} {E = E} g a b (Ok x) → Looked g a b
@@ -45,12 +51,14 @@ module _ {S : Type 0} {g : Ghosts S} {a b : Held S} where
   wants {r = r} is h = record { ok = λ clean. none_ok _ r is; err = λ clean. any_err r (inl (h.ok clean)); mode = h.mode; survives = h.survives }
 
   -- a read that failed is told as this
-  pub fails : {T U E F : Type 0} {e : E} {r : Result U F} → IsErr r → ReadsOnly {T = T} {E = E} g a b (Err e) → ReadsOnly g a b r
+  pub fails : {T U E F : Type 0} {e : E} {r : Result U F} → IsErr r
+      → ReadsOnly {T = T} {E = E} g a b (Err e) → ReadsOnly g a b r
   fails {r = r} is h = record { ok = λ clean. none_ok _ r is; err = λ clean. any_err r (h.err clean); mode = h.mode; survives = h.survives }
 
 module _ {S : Type 0} {g : Ghosts S} {a b c : Held S} (before : Looked g a b) where
   -- it was clean before the next read
-  pub clean_before : {T E : Type 0} {r : Result T E} → ReadsOnly g b c r → HasCleanDisk (state g c) → HasCleanDisk (state g b)
+  pub clean_before : {T E : Type 0} {r : Result T E} → ReadsOnly g b c r → HasCleanDisk (state g c)
+      → HasCleanDisk (state g b)
   clean_before next clean = omega (arith, next.survives.clean)
 
   -- one read more
@@ -63,7 +71,8 @@ module _ {S : Type 0} {g : Ghosts S} {a b c : Held S} (before : Looked g a b) wh
   }
 
   -- the next read failed
-  pub but : {T U E F : Type 0} {e : E} {r : Result U F} → IsErr r → ReadsOnly {T = T} {E = E} g b c (Err e) → ReadsOnly g a c r
+  pub but : {T U E F : Type 0} {e : E} {r : Result U F} → IsErr r
+      → ReadsOnly {T = T} {E = E} g b c (Err e) → ReadsOnly g a c r
   but {r = r} is next = record {
     ok = λ clean. none_ok _ r is;
     err = λ clean. any_err r (keeps_then _ _ _ (before.ok (clean_before next clean)) (next.err clean));
@@ -72,20 +81,24 @@ module _ {S : Type 0} {g : Ghosts S} {a b c : Held S} (before : Looked g a b) wh
   }
 
 -- what is made of what was read: it succeeds or fails, and nothing changed
-pub told_any : {S : Type 0} {g : Ghosts S} {a b : Held S} {T E : Type 0} (r : Result T E) → Looked g a b → ReadsOnly g a b r
+pub told_any : {S : Type 0} {g : Ghosts S} {a b : Held S} {T E : Type 0} (r : Result T E)
+    → Looked g a b → ReadsOnly g a b r
 told_any (Ok x) h = told h
 told_any (Err e) h = wants refl h
 
 -- the next read succeeds or fails
-pub then_any : {S : Type 0} {g : Ghosts S} {a b c : Held S} {T E : Type 0} → Looked g a b → (r : Result T E) → ReadsOnly g b c r → ReadsOnly g a c r
+pub then_any : {S : Type 0} {g : Ghosts S} {a b c : Held S} {T E : Type 0} → Looked g a b
+    → (r : Result T E) → ReadsOnly g b c r → ReadsOnly g a c r
 then_any before (Ok x) next = told (and before next)
 then_any before (Err e) next = but before refl next
 
 -- the same in a transaction
 module _ {S : Type 0} {g : Ghosts S} {a b : Held S} {T U E F : Type 0} where
-  pub told_inside : {x : T} (r : Result U F) → ReadsInside {T = T} {E = E} g a b (Ok x) → ReadsInside g a b r
+  pub told_inside : {x : T} (r : Result U F) → ReadsInside {T = T} {E = E} g a b (Ok x)
+      → ReadsInside g a b r
   told_inside (Ok y) h = record { ok = h.ok; err = λ clean. tt; survives = h.survives }
   told_inside (Err e) h = record { ok = λ clean. tt; err = λ clean. inl (h.ok clean); survives = h.survives }
 
-  pub fails_inside : {e : E} {r : Result U F} → IsErr r → ReadsInside {T = T} {E = E} g a b (Err e) → ReadsInside g a b r
+  pub fails_inside : {e : E} {r : Result U F} → IsErr r → ReadsInside {T = T} {E = E} g a b (Err e)
+      → ReadsInside g a b r
   fails_inside {r = r} is h = record { ok = λ clean. none_ok _ r is; err = λ clean. any_err r (h.err clean); survives = h.survives }

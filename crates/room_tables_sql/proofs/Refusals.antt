@@ -1,4 +1,5 @@
--- What a query leaves, whether it shows its rows or fails: nothing is written, and nothing more is left to a stop.
+-- What a query leaves, whether it shows its rows or fails: nothing is written, and nothing more is
+-- left to a stop.
 use Rattle.std.proofs.Common.{◌≡◌, ◌⊎◌, inl, inr, ℕ, List, sym, subst, ◌∙◌, arith}
 use Rattle.sqlite_value.specs.Order.{Row}
 use Rattle.sqlite_schema.specs.declared.schema.Schema.{Schema}
@@ -11,10 +12,12 @@ use Rattle.sqlite.proofs.StateLemmas.{survives_weaker}
 use Rattle.room_tables_sql.specs.Outcomes.{Keeps}
 
 -- a text that is plain under a schema is so on a connection of that schema
-pub plain_here : (schema here : Schema) (text : List ℕ) → here ≡ schema → IsPlain (understood schema text) → IsPlain (understood here text)
+pub plain_here : (schema here : Schema) (text : List ℕ) → here ≡ schema
+    → IsPlain (understood schema text) → IsPlain (understood here text)
 plain_here schema here text has = subst (λ z. IsPlain (understood z text)) (sym has)
 
-module _ (text : List ℕ) (params : Row) (old new : State) (plain : HasCleanDisk old → IsPlain (understood old.now.schema text)) where
+module _ (text : List ℕ) (params : Row) (old new : State)
+    (plain : HasCleanDisk old → IsPlain (understood old.now.schema text)) where
   -- a query commits nothing, so a stop leaves what it could before
   pub query_survives : Survives old new (CommitsShowing text params old) → Survives old new (λ _. ⊥)
   query_survives s = survives_weaker old new _ _ (λ clean db. let early : HasCleanDisk old = omega (arith, s.clean) in never_commits text params old db (plain early)) s
@@ -34,7 +37,8 @@ module _ (text : List ℕ) (params : Row) (old new : State) (plain : HasCleanDis
         inl (subst (FailsToShow old new text shows.0 (timed params shows.0.formats shows.1.now) e) known.0 shows.2).3
 
     -- a plain query writes nothing, so it never comes too late
-    pub never_late : (e : Error) → FailsToQuery text params old new e ⊎ IsTooLate text params old new e → FailsToQuery text params old new e
+    pub never_late : (e : Error) → FailsToQuery text params old new e
+        ⊎ IsTooLate text params old new e → FailsToQuery text params old new e
     never_late e (inl fails) = fails
     never_late e (inr late) =
         let known = subst IsPlain late.1.is (plain early) in

@@ -39,7 +39,8 @@ module _ {X : Type 0} (cmp : X → X → Ordering) (total : IsTotalOrder cmp) wh
   never_below x h = let e = sym h ∙ tied_itself total x in cc
 
   -- two lists that rise and have the same elements are one
-  pub unique : (xs ys : List X) → Rises cmp xs → Rises cmp ys → ((z : X) → Has xs z → Has ys z) → ((z : X) → Has ys z → Has xs z) → xs ≡ ys
+  pub unique : (xs ys : List X) → Rises cmp xs → Rises cmp ys → ((z : X) → Has xs z → Has ys z)
+      → ((z : X) → Has ys z → Has xs z) → xs ≡ ys
   unique [] [] p q f g = refl
   unique [] (y ∷ ys) p q f g = absurd (g y (inl refl))
   unique (x ∷ xs) [] p q f g = absurd (f x (inl refl))
@@ -68,7 +69,8 @@ module _ {X : Type 0} (cmp : X → X → Ordering) (total : IsTotalOrder cmp) wh
   pub distinct_in : (xs ys : List X) → IsPermutation xs ys → Rises cmp xs → IsDistinct ties ys
   distinct_in xs ys same up = IsDistinct-IsPermutation ties ties_back xs ys same (distinct xs up)
 
-  rises_from : (xs : List X) → IsDistinct ties xs → IsAscending (λ a b. is_gt (cmp a b) ≡ false) xs → Rises cmp xs
+  rises_from : (xs : List X) → IsDistinct ties xs → IsAscending (λ a b. is_gt (cmp a b) ≡ false) xs
+      → Rises cmp xs
   unfolding IsDistinct
   rises_from [] d h = tt
   rises_from (x ∷ xs) d h = (all_both _ (λ y. ties x y ≡ false) (λ y. cmp x y ≡ Less) (λ y p q. less _ p q) xs h.0 d.0, rises_from xs d.1 h.1)
@@ -80,7 +82,8 @@ module _ {X : Type 0} (cmp : X → X → Ordering) (total : IsTotalOrder cmp) wh
       unique ys xs rising up (λ z. has_permuted xs ys z same) (λ z. has_permuted ys xs z (IsPermutation-sym _ _ same))
 
   -- where images differ, elements with one image are one
-  pub one_image : {Y : Type 0} (f : Y → X) (ys : List Y) (a b : Y) → IsDistinct ties (map f ys) → Has ys a → Has ys b → ties (f a) (f b) ≡ true → a ≡ b
+  pub one_image : {Y : Type 0} (f : Y → X) (ys : List Y) (a b : Y) → IsDistinct ties (map f ys)
+      → Has ys a → Has ys b → ties (f a) (f b) ≡ true → a ≡ b
   unfolding IsDistinct
   one_image f [] a b d p q same = absurd p
   one_image f (y ∷ ys) a b d (inl e) (inl g) same = e ∙ sym g
@@ -89,7 +92,8 @@ module _ {X : Type 0} (cmp : X → X → Ordering) (total : IsTotalOrder cmp) wh
       absurd (true≢false (sym same ∙ ties_back (f a) (f b) ∙ ap (λ z. ties (f z) (f a)) g ∙ all_has (λ x. ties (f y) x ≡ false) (map f ys) (f a) d.0 (mapped_has f ys a p)))
   one_image f (y ∷ ys) a b d (inr p) (inr q) same = one_image f ys a b d.1 p q same
 
-  all-put_in : (P : X → Type 0) (new : X) (xs : List X) → P new → AllByRecursion P xs → AllByRecursion P (put_in cmp new xs)
+  all-put_in : (P : X → Type 0) (new : X) (xs : List X) → P new → AllByRecursion P xs
+      → AllByRecursion P (put_in cmp new xs)
   all-put_in P new [] h all = (h, tt)
   all-put_in P new (x ∷ xs) h all =
       elim (cmp x new) as (λ o. AllByRecursion P (match_ordering o (x ∷ put_in cmp new xs) (new ∷ xs) (new ∷ x ∷ xs)))
@@ -99,7 +103,8 @@ module _ {X : Type 0} (cmp : X → X → Ordering) (total : IsTotalOrder cmp) wh
   rises-put_in new [] up = (tt, tt)
   rises-put_in new (x ∷ xs) up = go (cmp x new) refl (rises-put_in new xs up.1)
     where
-      go : (o : Ordering) → cmp x new ≡ o → Rises cmp (put_in cmp new xs) → Rises cmp (match_ordering o (x ∷ put_in cmp new xs) (new ∷ xs) (new ∷ x ∷ xs))
+      go : (o : Ordering) → cmp x new ≡ o → Rises cmp (put_in cmp new xs)
+          → Rises cmp (match_ordering o (x ∷ put_in cmp new xs) (new ∷ xs) (new ∷ x ∷ xs))
       go Less e more = (all-put_in (λ y. cmp x y ≡ Less) new xs e up.0, more)
       go Equal e more = (all_weaker _ (λ y. cmp new y ≡ Less) (λ y h. sym (total.congr _ _ y e) ∙ h) xs up.0, up.1)
       go Greater e more =
@@ -109,7 +114,8 @@ module _ {X : Type 0} (cmp : X → X → Ordering) (total : IsTotalOrder cmp) wh
   pub rises-filter : (p : X → Bool) (xs : List X) → Rises cmp xs → Rises cmp (filter p xs)
   rises-filter p xs = ascending-filter (λ a b. cmp a b ≡ Less) p xs
 
-  none_ties : (x new : X) (xs : List X) → is_lt (cmp x new) ≡ false → AllByRecursion (λ y. cmp x y ≡ Less) xs → AllByRecursion (λ y. ties y new ≡ false) xs
+  none_ties : (x new : X) (xs : List X) → is_lt (cmp x new) ≡ false
+      → AllByRecursion (λ y. cmp x y ≡ Less) xs → AllByRecursion (λ y. ties y new ≡ false) xs
   none_ties x new xs h = all_weaker _ (λ y. ties y new ≡ false) (λ y below. go y below (cmp y new) refl) xs
     where
       go : (y : X) → cmp x y ≡ Less → (o : Ordering) → cmp y new ≡ o → is_eq o ≡ false
@@ -118,15 +124,19 @@ module _ {X : Type 0} (cmp : X → X → Ordering) (total : IsTotalOrder cmp) wh
       go y below Equal e = absurd (true≢false (sym (ap is_lt (sym (alike_right total y new x e) ∙ below)) ∙ h))
 
   -- a put leaves the new element and those that do not tie with it
-  pub put_in_has : (new : X) (xs : List X) → Rises cmp xs → IsPermutation (new ∷ drop_from cmp new xs) (put_in cmp new xs)
+  pub put_in_has : (new : X) (xs : List X) → Rises cmp xs
+      → IsPermutation (new ∷ drop_from cmp new xs) (put_in cmp new xs)
   put_in_has new [] up = IsPermutation-refl _
   put_in_has new (x ∷ xs) up = go (cmp x new) refl (put_in_has new xs up.1)
     where
       kept : is_lt (cmp x new) ≡ false → drop_from cmp new xs ≡ xs
       kept h = filter_all _ xs (all_weaker _ (λ y. not (ties y new) ≡ true) (λ y k. ap not k) xs (none_ties x new xs h up.0))
 
-      go : (o : Ordering) → cmp x new ≡ o → IsPermutation (new ∷ drop_from cmp new xs) (put_in cmp new xs)
-          → IsPermutation (new ∷ cond (not (is_eq o)) (x ∷ drop_from cmp new xs) (drop_from cmp new xs)) (match_ordering o (x ∷ put_in cmp new xs) (new ∷ xs) (new ∷ x ∷ xs))
+      go : (o : Ordering) → cmp x new ≡ o
+          → IsPermutation (new ∷ drop_from cmp new xs) (put_in cmp new xs)
+          → IsPermutation (new ∷ cond (not (is_eq o)) (x ∷ drop_from cmp new xs)
+          (drop_from cmp new xs)) (match_ordering o (x ∷ put_in cmp new xs) (new ∷ xs)
+          (new ∷ x ∷ xs))
       go Less e more = IsPermutation-trans _ _ _ (IsPermutation-middle (new ∷ []) x _) (IsPermutation-cons x _ _ more)
       go Equal e more = rw (kept (ap is_lt e)) (IsPermutation-refl _)
       go Greater e more = rw (kept (ap is_lt e)) (IsPermutation-refl _)

@@ -27,18 +27,22 @@ use Rattle.room_tables_sql.proofs.Rising.{sorted_is, rises-filter}
 pub overlay-none : (db : Trees) (t : ℕ) → overlay db [] t ≡ db t
 overlay-none db t = elim (nat_le (2 ^ 31) t) as (λ b. unwrap_or (cond b (slice_get [] (t - 2 ^ 31)) None) (db t) ≡ db t) [ true ↦ refl | false ↦ refl ]
 
-flat_map-cond : {X Y : Type 0} (p : X → Bool) (f : X → Y) (xs : List X) → flat_map (λ x. cond (p x) (f x ∷ []) []) xs ≡ map f (filter p xs)
+flat_map-cond : {X Y : Type 0} (p : X → Bool) (f : X → Y) (xs : List X)
+    → flat_map (λ x. cond (p x) (f x ∷ []) []) xs ≡ map f (filter p xs)
 flat_map-cond p f [] = refl
 flat_map-cond p f (x ∷ xs) = go (p x) (flat_map-cond p f xs)
   where
     go : (b : Bool) → flat_map (λ z. cond (p z) (f z ∷ []) []) xs ≡ map f (filter p xs)
-        → cond b (f x ∷ []) [] ++ flat_map (λ z. cond (p z) (f z ∷ []) []) xs ≡ map f (cond b (x ∷ filter p xs) (filter p xs))
+        → cond b (f x ∷ []) [] ++ flat_map (λ z. cond (p z) (f z ∷ []) []) xs
+        ≡ map f (cond b (x ∷ filter p xs) (filter p xs))
     go true more = ap (λ l. f x ∷ l) more
     go false more = more
 
 -- what a query with no order shows, in some order
-pub plain_answer : (tree : ℕ) (project terms : List Term) (db : Trees) (params : Row) (rows : List Row) → IsAnswer (plain_query tree project terms) db params rows
-    → IsPermutation (map (λ r. eval_all project (params ∷ r ∷ [])) (filter (passes terms params) (db tree))) rows
+pub plain_answer : (tree : ℕ) (project terms : List Term) (db : Trees) (params : Row)
+    (rows : List Row) → IsAnswer (plain_query tree project terms) db params rows
+    → IsPermutation (map (λ r. eval_all project (params ∷ r ∷ []))
+    (filter (passes terms params) (db tree))) rows
 plain_answer tree project terms db params rows a =
     let q = plain_query tree project terms in
     let env = λ (r : Row). params ∷ r ∷ [] in
@@ -69,7 +73,8 @@ module _ (tree : ℕ) (key more : List ℕ) (terms : List Term) where
   keys_are = map-map (λ k. k.1) (λ p. (col 1 p, ascending Binary)) key
 
   -- the key stands first in what is shown, so the rows are ordered as they are shown
-  shown_cmp : (o p : Output) → IsOfRow o → IsOfRow p → key_cmp 0 (keys key) o.1 p.1 ≡ key_cmp 0 (keys key) o.0 p.0
+  shown_cmp : (o p : Output) → IsOfRow o → IsOfRow p
+      → key_cmp 0 (keys key) o.1 p.1 ≡ key_cmp 0 (keys key) o.0 p.0
   shown_cmp o p f g =
       rw (f.1, g.1) (rw (map-append (column f.0) key more, map-append (column g.0) key more)
       (key_cmp_front (keys key) (map (column f.0) key) (map (column g.0) key) (map (column f.0) more) (map (column g.0) more) (same f.0) (same g.0)))
@@ -80,17 +85,22 @@ module _ (tree : ℕ) (key more : List ℕ) (terms : List Term) where
   abbrev AtMost : Row → Row → Type 0
   AtMost a b = is_gt (key_cmp 0 (keys key) a b) ≡ false
 
-  ascending_shown : (os : List Output) → AllByRecursion IsOfRow os → IsAscending (λ o p. is_gt (key_cmp 0 (keys key) o.0 p.0) ≡ false) os → IsAscending (λ o p. AtMost o.1 p.1) os
+  ascending_shown : (os : List Output) → AllByRecursion IsOfRow os
+      → IsAscending (λ o p. is_gt (key_cmp 0 (keys key) o.0 p.0) ≡ false) os
+      → IsAscending (λ o p. AtMost o.1 p.1) os
   ascending_shown [] all h = tt
   ascending_shown (o ∷ os) all h = (go os all.1 h.0, ascending_shown os all.1 h.1)
     where
-      go : (ps : List Output) → AllByRecursion IsOfRow ps → AllByRecursion (λ p. is_gt (key_cmp 0 (keys key) o.0 p.0) ≡ false) ps → AllByRecursion (λ p. AtMost o.1 p.1) ps
+      go : (ps : List Output) → AllByRecursion IsOfRow ps
+          → AllByRecursion (λ p. is_gt (key_cmp 0 (keys key) o.0 p.0) ≡ false) ps
+          → AllByRecursion (λ p. AtMost o.1 p.1) ps
       go [] f g = tt
       go (p ∷ ps) f g = (ap is_gt (shown_cmp o p all.0 f.0) ∙ g.0, go ps f.1 g.1)
 
   -- the columns of the rows that pass, each once, in the order of the key
   pub table_answer : (db : Trees) (params : Row) (rows : List Row) → IsAnswer q db params rows
-      → IsPermutation (map (cells (key ++ more)) (filter (passes terms params) (db tree))) rows × IsSorted (key_cmp 0 (keys key)) rows
+      → IsPermutation (map (cells (key ++ more)) (filter (passes terms params) (db tree))) rows
+      × IsSorted (key_cmp 0 (keys key)) rows
   table_answer db params rows a =
       let env = λ (r : Row). params ∷ r ∷ [] in
       let met : List Row = filter (passes terms params) (db tree) in
@@ -103,17 +113,22 @@ module _ (tree : ℕ) (key more : List ℕ) (terms : List Term) where
       let rising = ascending-map AtMost (λ (o : Output). o.1) a.ordered (ascending_shown a.ordered of_rows sorted) in
       (first, sorted_from_ascending (key_cmp 0 (keys key)) (key_cmp_total (keys key) 0) rows (subst (IsAscending AtMost) (sym a.shown) rising))
 
-module _ (schema : Schema) (text : List ℕ) (tree : ℕ) (key more : List ℕ) (terms : List Term) (means : Selects schema text tree (key ++ more) key terms)
+module _ (schema : Schema) (text : List ℕ) (tree : ℕ) (key more : List ℕ) (terms : List Term)
+    (means : Selects schema text tree (key ++ more) key terms)
     (old new : State) (params : Row) (rows : List Row) (has : old.now.schema ≡ schema) (shows : Shown text params old new rows) where
   -- of any tree at all: the columns of the rows that pass, each once, in the order of the key
-  pub selected_found : IsPermutation (map (cells (key ++ more)) (filter (passes terms params) (old.now.trees tree))) rows × IsSorted (key_cmp 0 (keys key)) rows
+  pub selected_found : IsPermutation
+      (map (cells (key ++ more)) (filter (passes terms params) (old.now.trees tree))) rows
+      × IsSorted (key_cmp 0 (keys key)) rows
   selected_found =
       let read = reads_as text params old new schema has (Select (record { lets = []; body = table_query tree (key ++ more) key terms }) means.names) means.command means.plain means.unlisted rows shows in
       let got = table_answer tree key more terms (overlay old.now.trees []) params rows (read.answer Null) in
       (subst (λ l. IsPermutation (map (cells (key ++ more)) (filter (passes terms params) l)) rows) (overlay-none old.now.trees tree) got.0, got.1)
 
-  -- of a tree that stands for a list: the rows of the list that pass a test, which tells from the columns what the terms tell
-  pub selected : (kept : List Row) (test : Row → Bool) → Holds (key ++ more) key (old.now.trees tree) kept
+  -- of a tree that stands for a list: the rows of the list that pass a test, which tells from the
+  -- columns what the terms tell
+  pub selected : (kept : List Row) (test : Row → Bool)
+      → Holds (key ++ more) key (old.now.trees tree) kept
       → ((r : Row) → passes terms params r ≡ test (cells (key ++ more) r)) → rows ≡ filter test kept
   selected kept test h tells =
       let columns = cells (key ++ more) in

@@ -26,21 +26,25 @@ module _ (places key : List ℕ) where
   holds_none tree empty = subst (λ t. Holds places key t []) (sym empty) (record { numbered = (tt, tt); same = IsPermutation-refl []; rises = tt })
 
   -- a tree that was not written stands for what it stood for
-  pub holds_still : (old new rows : List Row) → new ≡ old → Holds places key old rows → Holds places key new rows
+  pub holds_still : (old new rows : List Row) → new ≡ old → Holds places key old rows
+      → Holds places key new rows
   holds_still old new rows same h = subst (λ tree. Holds places key tree rows) (sym same) h
 
   -- a tree stands for one list alone
-  pub holds_one : (tree xs ys : List Row) → Holds places key tree xs → Holds places key tree ys → xs ≡ ys
+  pub holds_one : (tree xs ys : List Row) → Holds places key tree xs → Holds places key tree ys
+      → xs ≡ ys
   holds_one tree xs ys h k =
       let same : IsPermutation xs ys = IsPermutation-trans _ _ _ (IsPermutation-sym _ _ h.same) k.same in
       unique cmp total xs ys h.rises k.rises (λ z. has_permuted ys xs z (IsPermutation-sym _ _ same)) (λ z. has_permuted xs ys z same)
 
   -- two rows of the tree with one key are one
-  pub one_key : (tree rows : List Row) (a b : Row) → Holds places key tree rows → Has tree a → Has tree b → is_eq (cmp (cells places a) (cells places b)) ≡ true → a ≡ b
+  pub one_key : (tree rows : List Row) (a b : Row) → Holds places key tree rows → Has tree a
+      → Has tree b → is_eq (cmp (cells places a) (cells places b)) ≡ true → a ≡ b
   one_key tree rows a b h = one_image cmp total (cells places) tree a b (distinct_in cmp total rows (map (cells places) tree) (IsPermutation-sym _ _ h.same) h.rises)
 
   -- the rows that pass are deleted
-  pub holds-without_all : (tree next rows : List Row) (test shows : Row → Bool) (ids : List ℤ) → Holds places key tree rows
+  pub holds-without_all : (tree next rows : List Row) (test shows : Row → Bool) (ids : List ℤ)
+      → Holds places key tree rows
       → ((r : Row) → test r ≡ shows (cells places r))
       → ((r : Row) → Has tree r → test r ≡ true → Has ids (id_in (rowid r)))
       → ((id : ℤ) → Has ids id → (r : Row) × Has tree r × (test r ≡ true) × (id ≡ id_in (rowid r)))
@@ -56,10 +60,13 @@ module _ (places key : List ℕ) where
       }
 
   -- a row comes in, where those with its key are out
-  pub holds-put_row : (tree next rows : List Row) (new x : Row) (test : Row → Bool) → Holds places key tree rows
+  pub holds-put_row : (tree next rows : List Row) (new x : Row) (test : Row → Bool)
+      → Holds places key tree rows
       → ((r : Row) → test r ≡ is_eq (cmp (cells places r) x))
-      → is_int (rowid new) ≡ true → is_taken (filter (λ r. not (test r)) tree) new ≡ false → cells places new ≡ x
-      → next ≡ put_row new (filter (λ r. not (test r)) tree) → Holds places key next (put_in cmp x rows)
+      → is_int (rowid new) ≡ true → is_taken (filter (λ r. not (test r)) tree) new ≡ false
+      → cells places new ≡ x
+      → next ≡ put_row new (filter (λ r. not (test r)) tree)
+      → Holds places key next (put_in cmp x rows)
   holds-put_row tree next rows new x test h tells int free shown is =
       let rest = filter (λ r. not (test r)) tree in
       let others : IsPermutation (map (cells places) rest) (drop_from cmp x rows) =

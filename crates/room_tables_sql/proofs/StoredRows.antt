@@ -22,11 +22,15 @@ use Rattle.room_tables_sql.proofs.ColumnValues.{AreKept, cast_all-kept, cast-Int
 module _ (schema : Schema) (table : Table) (places key : List ℕ) (columns : ℕ) where
   -- SQL picks the rowid, and the row stands after it
   pub stores_row : (row : Row) → AreKept table.columns row
-      → value_rows (stamped table row) (columns + 1) (length (row_values columns) / (columns + 1)) (row_values columns) ≡ (Null ∷ row) ∷ []
+      → value_rows (stamped table row) (columns + 1) (length (row_values columns) / (columns + 1))
+      (row_values columns) ≡ (Null ∷ row) ∷ []
       → ((id : Value) → cells places (id ∷ row) ≡ row)
-      → ((id : ℤ) (r : Row) → conflicts (Some key) schema.indexes table (Int id ∷ row) r ≡ is_eq (key_cmp 0 (keys key) (cells places r) row))
-      → ((id : ℤ) (r : Row) → eval_all (row_update columns) ((row ++ rowid r ∷ shown table (Int id ∷ row)) ∷ r ∷ []) ≡ rowid r ∷ rowid r ∷ row)
-      → ((id : ℤ) (r : Row) → column (row ++ rowid r ∷ shown table (Int id ∷ row)) columns ≡ rowid r)
+      → ((id : ℤ) (r : Row) → conflicts (Some key) schema.indexes table (Int id ∷ row) r
+      ≡ is_eq (key_cmp 0 (keys key) (cells places r) row))
+      → ((id : ℤ) (r : Row) → eval_all (row_update columns)
+      ((row ++ rowid r ∷ shown table (Int id ∷ row)) ∷ r ∷ []) ≡ rowid r ∷ rowid r ∷ row)
+      → ((id : ℤ) (r : Row) → column (row ++ rowid r ∷ shown table (Int id ∷ row)) columns
+      ≡ rowid r)
       → Stores schema table places key columns (row_values columns) (row_update columns) row
   stores_row row kept source_is shows conflicts_are over_is over_names =
       let is_cast : (id : Value) → cast_row table (id ∷ row) ≡ cast Integer id ∷ row = λ id. ap (λ l. cast Integer id ∷ l) (cast_all-kept table.columns row kept) in
@@ -48,10 +52,13 @@ module _ (schema : Schema) (table : Table) (places key : List ℕ) (columns : �
       → (let stored = Int id ∷ Null ∷ row in
       value_rows (stamped table (Int id ∷ row)) (columns + 1) (length (rowid_values columns) / (columns + 1)) (rowid_values columns) ≡ stored ∷ []
       → cells places stored ≡ Int id ∷ row
-      → ((r : Row) → conflicts (Some key) schema.indexes table stored r ≡ is_eq (key_cmp 0 (keys key) (cells places r) (Int id ∷ row)))
-      → ((r : Row) → eval_all (rowid_update columns) (((Int id ∷ row) ++ rowid r ∷ shown table stored) ∷ r ∷ []) ≡ rowid r ∷ stored)
+      → ((r : Row) → conflicts (Some key) schema.indexes table stored r
+      ≡ is_eq (key_cmp 0 (keys key) (cells places r) (Int id ∷ row)))
+      → ((r : Row) → eval_all (rowid_update columns)
+      (((Int id ∷ row) ++ rowid r ∷ shown table stored) ∷ r ∷ []) ≡ rowid r ∷ stored)
       → ((r : Row) → column ((Int id ∷ row) ++ rowid r ∷ shown table stored) columns ≡ rowid r)
-      → Stores schema table places key columns (rowid_values columns) (rowid_update columns) (Int id ∷ row))
+      → Stores schema table places key columns (rowid_values columns) (rowid_update columns)
+      (Int id ∷ row))
   stores_rowid id row kept source_is shows conflicts_are over_is over_names =
       let stored : Row = Int id ∷ Null ∷ row in
       let is_cast : cast_row table stored ≡ stored = λ i. cast-Int id i ∷ cast_all-kept table.columns (Null ∷ row) kept i in

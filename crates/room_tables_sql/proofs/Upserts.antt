@@ -42,7 +42,9 @@ false_unless : (b : Bool) → (b ≡ true → ⊥) → b ≡ false
 false_unless true h = absurd (h refl)
 false_unless false h = refl
 
-module _ (task : Task) (unreferenced : (olds news : List Row) → works task.schema task.keys 0 task.table.tree olds news ≡ []) (key : List ℕ) (columns : ℕ) (update : List Term)
+module _ (task : Task) (unreferenced : (olds news : List Row)
+    → works task.schema task.keys 0 task.table.tree olds news ≡ []) (key : List ℕ) (columns : ℕ)
+    (update : List Term)
     (db : Trees) (new : Row) (one : Written) where
   abbrev tree : List Row
   tree = db task.table.tree
@@ -69,7 +71,8 @@ module _ (task : Task) (unreferenced : (olds news : List Row) → works task.sch
     pub is : one.trees task.table.tree ≡ put_row row (filter (λ r. not (in_the_way r)) tree)
     pub shows : cells places row ≡ x
 
-  tried : Tries task Abort (clause ∷ []) new db (Ok one) → UpsertsRows task Abort new db (clause ∷ []) (Ok one)
+  tried : Tries task Abort (clause ∷ []) new db (Ok one)
+      → UpsertsRows task Abort new db (clause ∷ []) (Ok one)
   tried (inl refused) = absurd (let e = refused.1 in cc)
   tried (inr (None, judged, goes)) = goes
   tried (inr (Some why, judged, goes)) = absurd (let e = goes in cc)
@@ -79,7 +82,9 @@ module _ (task : Task) (unreferenced : (olds news : List Row) → works task.sch
   cleared (x ∷ more) h = h
 
   -- where no row is in the way, the new one goes in
-  puts_new : (x : Row) (places : List ℕ) → Puts task new db (Ok one) → ((r : Row) → Has tree r → in_the_way r ≡ false) → cells places (cast_row task.table new) ≡ x → PutsOne x places
+  puts_new : (x : Row) (places : List ℕ) → Puts task new db (Ok one)
+      → ((r : Row) → Has tree r → in_the_way r ≡ false)
+      → cells places (cast_row task.table new) ≡ x → PutsOne x places
   puts_new x places h none shows =
       let wrote = went_on h in
       let edit : Edit = edit_of db task.table [] Given 0 (new ∷ []) in
@@ -98,9 +103,16 @@ module _ (task : Task) (unreferenced : (olds news : List Row) → works task.sch
       }
 
   -- where a row is in the way, and it alone, it is written over
-  puts_over : (x : Row) (places : List ℕ) (over : Row → Row) (r : Row) → AreNumbered tree → Has tree r → in_the_way r ≡ true → ((a : Row) → Has tree a → in_the_way a ≡ true → a ≡ r)
-      → Updates task (record { lets = []; body = plain_query task.table.tree update (equals 0 columns ∷ []) }) (given r) db (Ok one)
-      → ((a : Row) → passes (equals 0 columns ∷ []) (given r) a ≡ alike a r) → eval_all update (given r ∷ r ∷ []) ≡ rowid r ∷ over r → cells places (cast_row task.table (over r)) ≡ x
+  puts_over : (x : Row) (places : List ℕ) (over : Row → Row) (r : Row) → AreNumbered tree
+      → Has tree r → in_the_way r ≡ true → ((a : Row) → Has tree a → in_the_way a ≡ true → a ≡ r)
+      → Updates task (record {
+        lets = [];
+        body = plain_query task.table.tree update
+            (equals 0 columns ∷ []);
+      }) (given r) db (Ok one)
+      → ((a : Row) → passes (equals 0 columns ∷ []) (given r) a ≡ alike a r)
+      → eval_all update (given r ∷ r ∷ []) ≡ rowid r ∷ over r
+      → cells places (cast_row task.table (over r)) ≡ x
       → PutsOne x places
   puts_over x places over r numbered h there alone goes finds over_is shows =
       let asked = went_on goes in
@@ -131,11 +143,15 @@ module _ (task : Task) (unreferenced : (olds news : List Row) → works task.sch
       }
 
   -- either way
-  puts_one : (x : Row) (places : List ℕ) (rows : List Row) (over : Row → Row) → Holds places key tree rows
+  puts_one : (x : Row) (places : List ℕ) (rows : List Row) (over : Row → Row)
+      → Holds places key tree rows
       → ((r : Row) → in_the_way r ≡ is_eq (key_cmp 0 (keys key) (cells places r) x))
-      → ((r a : Row) → Has tree r → passes (equals 0 columns ∷ []) (given r) a ≡ alike a r) → ((r : Row) → eval_all update (given r ∷ r ∷ []) ≡ rowid r ∷ over r)
-      → cells places (cast_row task.table new) ≡ x → ((r : Row) → cells places (cast_row task.table (over r)) ≡ x)
-      → (found : List Row) → AreConflicts (Some key) task.schema.indexes task.table tree new found → Meets task (UpsertsRows task Abort new db []) new db clause found (Ok one)
+      → ((r a : Row) → Has tree r → passes (equals 0 columns ∷ []) (given r) a ≡ alike a r)
+      → ((r : Row) → eval_all update (given r ∷ r ∷ []) ≡ rowid r ∷ over r)
+      → cells places (cast_row task.table new) ≡ x
+      → ((r : Row) → cells places (cast_row task.table (over r)) ≡ x)
+      → (found : List Row) → AreConflicts (Some key) task.schema.indexes task.table tree new found
+      → Meets task (UpsertsRows task Abort new db []) new db clause found (Ok one)
       → PutsOne x places
   puts_one x places rows over holds tells finds over_is shows over_shows [] are goes =
       puts_new x places (cleared goes.0 goes.2) (λ r h. false_unless (in_the_way r) (λ t. are.complete r h t)) shows
@@ -149,15 +165,20 @@ module _ (task : Task) (unreferenced : (olds news : List Row) → works task.sch
       (subst (λ v. Updates task (record { lets = []; body = plain_query task.table.tree update (equals 0 columns ∷ []) }) (task.params ++ v ∷ shown task.table new) db (Ok one)) (ap rowid it.3) goes)
       (λ a. finds r a it.1) (over_is r) (over_shows r)
 
-  pub tries_to_put : (x : Row) (places : List ℕ) (rows : List Row) (over : Row → Row) → Holds places key tree rows
+  pub tries_to_put : (x : Row) (places : List ℕ) (rows : List Row) (over : Row → Row)
+      → Holds places key tree rows
       → ((r : Row) → in_the_way r ≡ is_eq (key_cmp 0 (keys key) (cells places r) x))
-      → ((r a : Row) → Has tree r → passes (equals 0 columns ∷ []) (given r) a ≡ alike a r) → ((r : Row) → eval_all update (given r ∷ r ∷ []) ≡ rowid r ∷ over r)
-      → cells places (cast_row task.table new) ≡ x → ((r : Row) → cells places (cast_row task.table (over r)) ≡ x)
+      → ((r a : Row) → Has tree r → passes (equals 0 columns ∷ []) (given r) a ≡ alike a r)
+      → ((r : Row) → eval_all update (given r ∷ r ∷ []) ≡ rowid r ∷ over r)
+      → cells places (cast_row task.table new) ≡ x
+      → ((r : Row) → cells places (cast_row task.table (over r)) ≡ x)
       → Tries task Abort (clause ∷ []) new db (Ok one) → PutsOne x places
   tries_to_put x places rows over holds tells finds over_is shows over_shows tries =
       let goes = tried tries in puts_one x places rows over holds tells finds over_is shows over_shows goes.0 goes.1 goes.2
 
-module _ (schema : Schema) (text : List ℕ) (at : ℕ) (table : Table) (alone : StandsAlone schema at table) (places key : List ℕ) (columns : ℕ) (values update : List Term)
+module _ (schema : Schema) (text : List ℕ) (at : ℕ) (table : Table)
+    (alone : StandsAlone schema at table) (places key : List ℕ) (columns : ℕ)
+    (values update : List Term)
     (means : Upserts schema text at table key columns values update) (row : Row) (stores : Stores schema table places key columns values update row)
     (old new : State) (count : ℕ) (has : old.now.schema ≡ schema) (ran : Executes text row old new (Ok count)) where
   abbrev kept : List Row
@@ -169,7 +190,9 @@ module _ (schema : Schema) (text : List ℕ) (at : ℕ) (table : Table) (alone :
   abbrev doing : Task
   doing = task schema at table alone old new has (statement_of text (understood schema text)) row count
 
-  ran_one : (one : Written) × Tries doing Abort (written_over table key columns update ∷ []) fresh old.now.trees (Ok one) × (new.now ≡ record { schema = schema; trees = one.trees })
+  ran_one : (one : Written) × Tries doing Abort
+      (written_over table key columns update ∷ []) fresh old.now.trees (Ok one)
+      × (new.now ≡ record { schema = schema; trees = one.trees })
   ran_one =
       let w = runs_as text row old new schema has (upsert at table key columns values update) means.command means.plain count ran in
       let it = upserts_row schema at table alone old new has (statement_of text (understood schema text)) row count key columns values update stores.source w stores.source_is in
@@ -180,7 +203,9 @@ module _ (schema : Schema) (text : List ℕ) (at : ℕ) (table : Table) (alone :
   upserted_schema = ap (λ (d : Database). d.schema) ran_one.2
 
   -- the row is there, in place of the one with its key, and no other table changed
-  pub upserted : (rows : List Row) → Holds places key kept rows → Only schema table.tree old.now new.now × Holds places key (new.now.trees table.tree) (put_in (key_cmp 0 (keys key)) row rows)
+  pub upserted : (rows : List Row) → Holds places key kept rows
+      → Only schema table.tree old.now new.now
+      × Holds places key (new.now.trees table.tree) (put_in (key_cmp 0 (keys key)) row rows)
   upserted rows holds =
       let id = next_rowid kept in
       let one = ran_one.0 in

@@ -27,7 +27,8 @@ use Rattle.room_tables_sql.specs.Outcomes.{Only}
 use Rattle.room_tables_sql.specs.Statements.{StandsAlone, upsert, written_over}
 
 -- a part that gave a value did not stop on the way
-pub went_on : {B E R : Type 0} {b : B} {Stops : E → Type 0} → ((stop : E) × Stops stop × (Ok b ≡ Err stop)) ⊎ R → R
+pub went_on : {B E R : Type 0} {b : B} {Stops : E → Type 0}
+    → ((stop : E) × Stops stop × (Ok b ≡ Err stop)) ⊎ R → R
 went_on (inl stopped) = absurd (let e = stopped.2 in cc)
 went_on (inr on) = on
 
@@ -39,11 +40,15 @@ on_false true P Q e h = absurd (let f = e in cc)
 on_false false P Q e h = h
 
 module _ (task : Task) (uncounted : task.table.is_counted ≡ false) (clauses : List Upsert) where
-  counts_nothing : (mid next : Trees) (counter : Option Row) (top : ℤ) → Counts task mid counter top (Ok next) → next ≡ mid
+  counts_nothing : (mid next : Trees) (counter : Option Row) (top : ℤ)
+      → Counts task mid counter top (Ok next) → next ≡ mid
   counts_nothing mid next counter top h = same_value (on_false _ _ _ (ap (λ c. cond c (is_lt (int_cmp (count_of counter) top)) false) uncounted) h)
 
-  tries_one : (source : Row) (top : ℤ) (db : Trees) (done : Written × ℤ) → TriesEach task Abort clauses (source ∷ []) top (nothing db) (Ok done)
-      → (one : Written) × Tries task Abort clauses (with_rowid Chosen (db task.table.tree) (cast_row task.table source)) db (Ok one) × (done.0.trees ≡ one.trees)
+  tries_one : (source : Row) (top : ℤ) (db : Trees) (done : Written × ℤ)
+      → TriesEach task Abort clauses (source ∷ []) top (nothing db) (Ok done)
+      → (one : Written) × Tries task Abort clauses
+      (with_rowid Chosen (db task.table.tree) (cast_row task.table source)) db (Ok one)
+      × (done.0.trees ≡ one.trees)
   tries_one source top db done h =
       let first = went_on h in
       let chosen : rowids_for task.table top ≡ Chosen = ap (λ c. cond c (Above top) Chosen) uncounted in
@@ -53,9 +58,13 @@ module _ (task : Task) (uncounted : task.table.is_counted ≡ false) (clauses : 
       (first.0, one, ap (λ (p : Written × ℤ). p.0.trees) same)
 
   -- an insert of one row tries that row, and nothing else
-  inserts_one : (from : Source) (source : Row) (db : Trees) (w : Written) → InsertsOr task Abort clauses from db (Ok w)
-      → ((rows : List Row) → IsSource (record { schema = task.schema; trees = db }) (stamped task.table task.params) from rows → rows ≡ source ∷ [])
-      → (one : Written) × Tries task Abort clauses (with_rowid Chosen (db task.table.tree) (cast_row task.table source)) db (Ok one) × (w.trees ≡ one.trees)
+  inserts_one : (from : Source) (source : Row) (db : Trees) (w : Written)
+      → InsertsOr task Abort clauses from db (Ok w)
+      → ((rows : List Row) → IsSource (record { schema = task.schema; trees = db })
+      (stamped task.table task.params) from rows → rows ≡ source ∷ [])
+      → (one : Written) × Tries task Abort clauses
+      (with_rowid Chosen (db task.table.tree) (cast_row task.table source)) db (Ok one)
+      × (w.trees ≡ one.trees)
   inserts_one from source db w h is =
       let given = went_on h in
       let counter = went_on given.2 in
@@ -66,7 +75,9 @@ module _ (task : Task) (uncounted : task.table.is_counted ≡ false) (clauses : 
       let last : w ≡ record each.0.0 { trees = end.0 } = same_value end.2 in
       (one.0, one.1, ap (λ (v : Written). v.trees) last ∙ same ∙ one.2)
 
-module _ (schema : Schema) (at : ℕ) (table : Table) (alone : StandsAlone schema at table) (old new : State) (has : old.now.schema ≡ schema) (text : List ℕ) (params : Row) (count : ℕ) where
+module _ (schema : Schema) (at : ℕ) (table : Table) (alone : StandsAlone schema at table)
+    (old new : State) (has : old.now.schema ≡ schema) (text : List ℕ) (params : Row)
+    (count : ℕ) where
   -- what a statement on the rows of this table is given
   abbrev pub task : Task
   task = record { limit = old.step_limit; keys = Enforced; schema = schema; table = table; params = params }
@@ -75,21 +86,29 @@ module _ (schema : Schema) (at : ℕ) (table : Table) (alone : StandsAlone schem
   does command db tally = Does old.step_limit (mode_of old) params db text None command (Ok (tally, new.now))
 
   -- a deletion writes the rows of the table alone
-  pub deletes_rows : (q : Program) → Writes old new None (Delete at q) text params count → (w : Written) × DeletesRows task q old.now.trees (Ok w) × (new.now ≡ record { schema = schema; trees = w.trees })
+  pub deletes_rows : (q : Program) → Writes old new None (Delete at q) text params count
+      → (w : Written) × DeletesRows task q old.now.trees (Ok w)
+      × (new.now ≡ record { schema = schema; trees = w.trees })
   deletes_rows q w =
       let all = subst (λ s. does (Delete at q) (record old.now { schema = s }) w.tally) has w.changed in
       let done = went_on (subst (λ o. AtPlace (λ t. OnRows (record task { table = t }) (mode_of old) None (Delete at q) old.now.trees) o (Ok (w.tally, new.now))) alone.is_there all) in
       (done.0, done.1, ap (λ (p : Tally × Database). p.1) (same_value (went_on (went_on done.2).2).2))
 
   -- what was edited, and nothing else
-  pub only_edited : (next : Trees) (edit : Edit) → edit.table ≡ table → new.now ≡ record { schema = schema; trees = next } → Applies schema Enforced old.now.trees edit next → Only schema table.tree old.now new.now
+  pub only_edited : (next : Trees) (edit : Edit) → edit.table ≡ table
+      → new.now ≡ record { schema = schema; trees = next }
+      → Applies schema Enforced old.now.trees edit next → Only schema table.tree old.now new.now
   only_edited next edit is now applies =
       rw now (record { schema_is = sym has; tables = subst (λ (e : Table). AllByRecursion (λ u. u.tree ≢ e.tree → next u.tree ≡ old.now.trees u.tree) schema.tables) is applies.tables })
 
   -- an upsert tries its row, and nothing else
-  pub upserts_row : (key : List ℕ) (columns : ℕ) (values update : List Term) (source : Row) → Writes old new None (upsert at table key columns values update) text params count
-      → value_rows (stamped table params) (columns + 1) (length values / (columns + 1)) values ≡ source ∷ []
-      → (one : Written) × Tries task Abort (written_over table key columns update ∷ []) (with_rowid Chosen (old.now.trees table.tree) (cast_row table source)) old.now.trees (Ok one) × (new.now ≡ record { schema = schema; trees = one.trees })
+  pub upserts_row : (key : List ℕ) (columns : ℕ) (values update : List Term) (source : Row)
+      → Writes old new None (upsert at table key columns values update) text params count
+      → value_rows (stamped table params) (columns + 1) (length values / (columns + 1)) values
+      ≡ source ∷ []
+      → (one : Written) × Tries task Abort (written_over table key columns update ∷ [])
+      (with_rowid Chosen (old.now.trees table.tree) (cast_row table source)) old.now.trees
+      (Ok one) × (new.now ≡ record { schema = schema; trees = one.trees })
   upserts_row key columns values update source w is =
       let command = upsert at table key columns values update in
       let all = subst (λ s. does command (record old.now { schema = s }) w.tally) has w.changed in

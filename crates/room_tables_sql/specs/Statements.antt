@@ -1,5 +1,6 @@
--- What the text of a statement on one table means, under the schema that it is read by.
--- For a schema and a text that are written out, each fact of these records is `refl`, under `unfolding understood everything` of `sqlite_tied`.
+-- What the text of a statement on one table means, under the schema that it is read by. For a
+-- schema and a text that are written out, each fact of these records is `refl`, under `unfolding
+-- understood everything` of `sqlite_tied`.
 use Rattle.std.specs.Prelude.{◌≡◌, ◌+◌, ℕ, zero, suc, ◌-◌, pos, negsuc, List, [], ◌∷◌, ◌++◌, map, length, ◌/◌, Bool, false, ℤ, Some, None, Ok, slice_get}
 use Rattle.std.specs.List.{list_all}
 use Rattle.std.specs.Ordering.{is_eq}
@@ -48,7 +49,8 @@ equals = compares Eq
 
 -- the same with a plus before the column, which keeps its value and is sought by no key
 abbrev pub equals_by_value : ℕ → ℕ → Term
-equals_by_value place param = op2 (Compare Eq Binary) (op2 Coalesce (col 1 place) (lit Null)) (col 0 param)
+equals_by_value place param =
+    op2 (Compare Eq Binary) (op2 Coalesce (col 1 place) (lit Null)) (col 0 param)
 
 abbrev pub at_least : ℕ → ℕ → Term
 at_least = compares Ge
@@ -81,9 +83,11 @@ table_query tree places key terms = record {
 }
 
 -- the text selects these columns of the rows that pass, in the order of the key
-pub record Selects (schema : Schema) (text : List ℕ) (tree : ℕ) (places key : List ℕ) (terms : List Term) : Type 0 where
+pub record Selects (schema : Schema) (text : List ℕ) (tree : ℕ) (places key : List ℕ)
+    (terms : List Term) : Type 0 where
   pub names : List (List ℕ)
-  pub command : command_of (understood schema text) ≡ Select (record { lets = []; body = table_query tree places key terms }) names
+  pub command : command_of (understood schema text)
+      ≡ Select (record { lets = []; body = table_query tree places key terms }) names
   pub plain : IsPlain (understood schema text)
   pub unlisted : reads_listing schema text ≡ false
 
@@ -96,8 +100,10 @@ pub record StandsAlone (schema : Schema) (at : ℕ) (table : Table) : Type 0 whe
   pub uncounted : table.is_counted ≡ false
 
 -- the text deletes the rows that pass
-pub record Deletes (schema : Schema) (text : List ℕ) (at : ℕ) (table : Table) (terms : List Term) : Type 0 where
-  pub command : command_of (understood schema text) ≡ Delete at (record { lets = []; body = table_query table.tree (0 ∷ []) [] terms })
+pub record Deletes (schema : Schema) (text : List ℕ) (at : ℕ) (table : Table)
+    (terms : List Term) : Type 0 where
+  pub command : command_of (understood schema text)
+      ≡ Delete at (record { lets = []; body = table_query table.tree (0 ∷ []) [] terms })
   pub plain : IsPlain (understood schema text)
 
 -- these terms of the rows of a tree that pass, in no order
@@ -119,7 +125,8 @@ abbrev pub params_from : ℕ → ℕ → List Term
 params_from at zero = []
 params_from at (suc n) = col 0 at ∷ params_from (suc at) n
 
--- What an upsert of so many columns inserts, and what it writes over the row with the same key: where SQL picks the rowid ..
+-- What an upsert of so many columns inserts, and what it writes over the row with the same key:
+-- where SQL picks the rowid ..
 abbrev pub row_values : ℕ → List Term
 row_values columns = lit Null ∷ params_from 0 columns
 
@@ -131,36 +138,51 @@ abbrev pub rowid_values : ℕ → List Term
 rowid_values columns = col 0 0 ∷ lit Null ∷ params_from 1 (columns - 1)
 
 abbrev pub rowid_update : ℕ → List Term
-rowid_update columns = col 1 0 ∷ col 0 (columns + 2) ∷ lit Null ∷ params_from (columns + 3) (columns - 1)
+rowid_update columns =
+    col 1 0 ∷ col 0 (columns + 2) ∷ lit Null ∷ params_from (columns + 3) (columns - 1)
 
--- on a conflict of the key the row that is there is written over; the parameter after the columns is its rowid
+-- on a conflict of the key the row that is there is written over; the parameter after the columns
+-- is its rowid
 abbrev pub written_over : Table → List ℕ → ℕ → List Term → Upsert
-written_over table key columns update = record { target = Some key; update = Some (record { lets = []; body = plain_query table.tree update (equals 0 columns ∷ []) }) }
+written_over table key columns update = record {
+  target = Some key;
+  update =
+      Some (record { lets = []; body = plain_query table.tree update (equals 0 columns ∷ []) });
+}
 
 -- INSERT .. VALUES .. ON CONFLICT (key) DO UPDATE SET .. of one row of so many columns
 abbrev pub upsert : ℕ → Table → List ℕ → ℕ → List Term → List Term → Command
-upsert at table key columns values update = InsertOr at Abort (Values values (columns + 1)) (written_over table key columns update ∷ [])
+upsert at table key columns values update =
+    InsertOr at Abort (Values values (columns + 1)) (written_over table key columns update ∷ [])
 
 -- the text is an upsert
-pub record Upserts (schema : Schema) (text : List ℕ) (at : ℕ) (table : Table) (key : List ℕ) (columns : ℕ) (values update : List Term) : Type 0 where
+pub record Upserts (schema : Schema) (text : List ℕ) (at : ℕ) (table : Table) (key : List ℕ)
+    (columns : ℕ) (values update : List Term) : Type 0 where
   pub command : command_of (understood schema text) ≡ upsert at table key columns values update
   pub plain : IsPlain (understood schema text)
 
 -- what the upsert of one row stores in the tree
-pub record Stores (schema : Schema) (table : Table) (places key : List ℕ) (columns : ℕ) (values update : List Term) (row : Row) : Type 0 where
+pub record Stores (schema : Schema) (table : Table) (places key : List ℕ) (columns : ℕ)
+    (values update : List Term) (row : Row) : Type 0 where
   -- the row of VALUES
   pub source : Row
-  pub source_is : value_rows (stamped table row) (columns + 1) (length values / (columns + 1)) values ≡ source ∷ []
+  pub source_is : value_rows (stamped table row) (columns + 1)
+      (length values / (columns + 1)) values ≡ source ∷ []
   -- what goes into the tree at this new rowid
   pub fresh : ℤ → Row
-  pub fresh_is : (tree : List Row) → with_rowid Chosen tree (cast_row table source) ≡ fresh (next_rowid tree)
+  pub fresh_is : (tree : List Row) → with_rowid Chosen tree (cast_row table source)
+      ≡ fresh (next_rowid tree)
   pub fresh_shows : (id : ℤ) → cells places (cast_row table (fresh id)) ≡ row
   -- a row of the tree is in the way just where it has the same key
-  pub conflicts_are : (id : ℤ) (r : Row) → conflicts (Some key) schema.indexes table (fresh id) r ≡ is_eq (key_cmp 0 (keys key) (cells places r) row)
+  pub conflicts_are : (id : ℤ) (r : Row)
+      → conflicts (Some key) schema.indexes table (fresh id) r
+      ≡ is_eq (key_cmp 0 (keys key) (cells places r) row)
   -- what takes the place of such a row
   pub over : Row → Row
-  pub over_is : (id : ℤ) (r : Row) → eval_all update ((row ++ rowid r ∷ shown table (fresh id)) ∷ r ∷ []) ≡ rowid r ∷ over r
-  pub over_names : (id : ℤ) (r : Row) → column (row ++ rowid r ∷ shown table (fresh id)) columns ≡ rowid r
+  pub over_is : (id : ℤ) (r : Row) → eval_all update
+      ((row ++ rowid r ∷ shown table (fresh id)) ∷ r ∷ []) ≡ rowid r ∷ over r
+  pub over_names : (id : ℤ) (r : Row)
+      → column (row ++ rowid r ∷ shown table (fresh id)) columns ≡ rowid r
   pub over_shows : (r : Row) → cells places (cast_row table (over r)) ≡ row
 
 -- ---- definitions
@@ -174,7 +196,8 @@ pub record Creates (schema : Schema) (text : List ℕ) (table : Table) : Type 0 
   pub uncounted : lacks_sequence (created schema table) ≡ false
 
 -- the text makes the index, of the table at this place
-pub record Indexes (schema : Schema) (text : List ℕ) (at : ℕ) (table : Table) (index : Index) : Type 0 where
+pub record Indexes (schema : Schema) (text : List ℕ) (at : ℕ) (table : Table)
+    (index : Index) : Type 0 where
   pub command : command_of (understood schema text) ≡ CreateIndex at
   pub plain : IsPlain (understood schema text)
   pub whole : statement_of text (understood schema text) ≡ text

@@ -11,13 +11,18 @@ use Rattle.sqlite.specs.State.{State, HasCleanDisk, Shown, FailsToQuery, Survive
 use Rattle.room_tables_sql.specs.Outcomes.{Keeps}
 
 -- All rows that the query shows are taken; or it is told why they are not, and nothing was written.
-pub record Tells (AreTaken : List Row → Type 0) (text : List ℕ) (params : Row) (old new : State) (result : Result (Unit {0}) Error) : Type 0 where
+pub record Tells (AreTaken : List Row → Type 0) (text : List ℕ) (params : Row) (old new : State)
+    (result : Result (Unit {0}) Error) : Type 0 where
   pub shown : OnOk result ((rows : List Row) × Shown text params old new rows × AreTaken rows)
   pub why : IfErr result (λ e. (e ≡ SqliteFailure OutOfMemory) ⊎ FailsToQuery text params old new e)
   pub kept : OnErr result (Keeps old new)
 
--- Of whichever query has begun here, the rows are taken to its end. It opens no transaction, and leaves nothing more to a stop.
-pub record ReadsOut {S : Type 0} (g : Ghosts S) (AreTaken : List Row → Type 0) (old new : Held S) (result : Result (Unit {0}) Error) : Type 0 where
-  pub tells : HasCleanDisk (state g new) → (text : List ℕ) (params : Row) → HasGiven g text params old [] → Tells AreTaken text params (state g old) (state g new) result
+-- Of whichever query has begun here, the rows are taken to its end. It opens no transaction, and
+-- leaves nothing more to a stop.
+pub record ReadsOut {S : Type 0} (g : Ghosts S) (AreTaken : List Row → Type 0) (old new : Held S)
+    (result : Result (Unit {0}) Error) : Type 0 where
+  pub tells : HasCleanDisk (state g new) → (text : List ℕ) (params : Row)
+      → HasGiven g text params old [] → Tells AreTaken text params (state g old)
+      (state g new) result
   pub mode : old.in_transaction ≡ false → new.in_transaction ≡ false
   pub survives : Survives (state g old) (state g new) (λ _. ⊥)

@@ -37,13 +37,15 @@ keys = map (λ _. ascending Binary)
 
 -- the rowids are integers, and no two are alike
 abbrev pub AreNumbered : List Row → Type 0
-AreNumbered tree = IsAscending (λ a b. is_eq (value_cmp (rowid a) (rowid b)) ≡ false) tree × AllByRecursion (λ r. is_int (rowid r) ≡ true) tree
+AreNumbered tree = IsAscending (λ a b. is_eq (value_cmp (rowid a) (rowid b)) ≡ false) tree
+    × AllByRecursion (λ r. is_int (rowid r) ≡ true) tree
 
 -- the rowids are integers, each below all later ones
 abbrev pub RowidsRise : List Row → Type 0
 RowidsRise rows = IsTable rows × AllByRecursion (λ r. is_int (rowid r) ≡ true) rows
 
--- The tree stands for the rows: its rows have these at the places of the columns, and rise by the first columns, which are the key.
+-- The tree stands for the rows: its rows have these at the places of the columns, and rise by the
+-- first columns, which are the key.
 pub record Holds (places key : List ℕ) (tree rows : List Row) : Type 0 where
   pub numbered : AreNumbered tree
   pub same : IsPermutation (map (cells places) tree) rows

@@ -10,7 +10,8 @@ use Rattle.sqlite.specs.Values.{or_null}
 use Rattle.room_tables_sql.specs.Tables.{keys}
 
 -- A row is read back as it was written, and SQL orders the rows as their keys are ordered.
-pub record IsFaithful {X K : Type 0} (order : K → K → Ordering) (key : X → K) (row : X → Row) (key_places : List ℕ) : Type 0 where
+pub record IsFaithful {X K : Type 0} (order : K → K → Ordering) (key : X → K) (row : X → Row)
+    (key_places : List ℕ) : Type 0 where
   pub read : Row → X
   pub read_back : (x : X) → read (row x) ≡ x
   pub total : IsTotalOrder order

@@ -16,7 +16,8 @@ use Rattle.room_types.proofs.SentLaws.{sent_decides}
 callsigns_decide : (a b : Callsign) → Decides (same_callsign a b) (a ≡ b)
 callsigns_decide a b = (λ h. exact_callsigns a b ((Equal-is (callsign_cmp a b)).0 h), λ e. subst (λ c. same_callsign a c ≡ true) e (ap is_eq (tied_itself callsigns_total a)))
 
-passes_decides : {R : Type 0} (p : R → Bool) (P : R → Type 0) → ((x : R) → Decides (p x) (P x)) → (o : Option R) → Decides (passes p o) (IfSome o P)
+passes_decides : {R : Type 0} (p : R → Bool) (P : R → Type 0) → ((x : R) → Decides (p x) (P x))
+    → (o : Option R) → Decides (passes p o) (IfSome o P)
 passes_decides p P decides None = (λ h. tt, λ h. refl)
 passes_decides p P decides (Some x) = decides x
 

@@ -10,7 +10,8 @@ use Rattle.std.proofs.lemmas.Str.Ascii.{IsAscii-from_all}
 use Rattle.room_types.specs.Texts.{is_callsign, is_callsign_letter, is_token, is_token_letter}
 
 -- letters that are all ASCII make a text
-pub letters_text : (is_letter : ℕ → Bool) → ((b : ℕ) → is_letter b ≡ true → b < 128) → (text : List ℕ) → list_all is_letter text ≡ true → IsUtf8 text
+pub letters_text : (is_letter : ℕ → Bool) → ((b : ℕ) → is_letter b ≡ true → b < 128)
+    → (text : List ℕ) → list_all is_letter text ≡ true → IsUtf8 text
 letters_text is_letter low text all = IsUtf8-from_ascii text (IsAscii-from_all text (λ k d inside. low _ (AllPass-from_list_all is_letter text all k d inside)))
 
 callsign_letter : (b : ℕ) → is_callsign_letter b ≡ true → b < 128

@@ -20,7 +20,8 @@ is_sent_decides v a t = Decides-like _
     (λ h. (h.busy, (h.assigned_by_holder, (h.ordered_by_holder, (h.same_incident, (h.assigned_last, h.ordered_last))))))
     (Decides-and _ _ (itself _) (Decides-and _ _ (Decides-eqb _ _) (Decides-and _ _ (Decides-eqb _ _) (Decides-and _ _ (Decides-eqb _ _) (Decides-and _ _ (Decides-eqb _ _) (Decides-eqb _ _))))))
 
-pub sent_decides : (v : Vehicle) (a : Option Assignment) (t : Option Turn) → Decides (sent_agrees v a t) (SentAgrees v a t)
+pub sent_decides : (v : Vehicle) (a : Option Assignment) (t : Option Turn)
+    → Decides (sent_agrees v a t) (SentAgrees v a t)
 sent_decides v None None = (not-true _, ap not)
 sent_decides v None (Some t) = (λ h. cc, λ h. absurd h)
 sent_decides v (Some a) None = (λ h. cc, λ h. absurd h)
@@ -38,14 +39,16 @@ is_ordered_decides v t = Decides-like _
     (λ h. (h.busy, (h.ordered_by_holder, h.ordered_last)))
     (Decides-and _ _ (itself _) (Decides-and _ _ (Decides-eqb _ _) (Decides-eqb _ _)))
 
-pub parts_decide : (v : Vehicle) (a : Option Assignment) (t : Option Turn) → Decides (parts_agree v a t) (PartsAgree v a t)
+pub parts_decide : (v : Vehicle) (a : Option Assignment) (t : Option Turn)
+    → Decides (parts_agree v a t) (PartsAgree v a t)
 parts_decide v None None = (λ h. tt, λ h. refl)
 parts_decide v None (Some t) = is_ordered_decides v t
 parts_decide v (Some a) None = is_assigned_decides v a
 parts_decide v (Some a) (Some t) = is_sent_decides v a t
 
 -- ---- what the agreement tells
-pub idle_apart : (v : Vehicle) (a : Option Assignment) (t : Option Turn) → PartsAgree v a t → is_busy v.status ≡ false → a ≡ None
+pub idle_apart : (v : Vehicle) (a : Option Assignment) (t : Option Turn) → PartsAgree v a t
+    → is_busy v.status ≡ false → a ≡ None
 idle_apart v None t h idle = refl
 idle_apart v (Some a) None h idle = let busy = h.busy in cc
 idle_apart v (Some a) (Some t) h idle = let busy = h.busy in cc

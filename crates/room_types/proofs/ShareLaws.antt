@@ -24,11 +24,14 @@ owned_decides d s = Decides-like _
     (λ h. (h.divisions, (h.incidents, (h.calls, (h.vehicles, (h.turns, (h.assignments, (h.points, (h.loans, (h.offers, h.reports))))))))))
     (Decides-and _ _ (itself _) (Decides-and _ _ (itself _) (Decides-and _ _ (itself _) (Decides-and _ _ (itself _) (Decides-and _ _ (itself _) (Decides-and _ _ (itself _) (Decides-and _ _ (itself _) (Decides-and _ _ (itself _) (Decides-and _ _ (itself _) (itself _))))))))))
 
-active_decides : (i : Option Incident) → Decides (is_active_if_any i) (IfSome i (λ x. is_active x.state ≡ true))
+active_decides : (i : Option Incident)
+    → Decides (is_active_if_any i) (IfSome i (λ x. is_active x.state ≡ true))
 active_decides None = (λ h. tt, λ h. refl)
 active_decides (Some i) = itself _
 
-order_decides : (n last : ℕ) (ended : Option ℕ) → Decides (cond (is_some ended) (nat_le n last) (n == last)) ((n ≤ last) × (ended ≡ None → n ≡ last))
+order_decides : (n last : ℕ) (ended : Option ℕ)
+    → Decides (cond (is_some ended) (nat_le n last) (n == last))
+    ((n ≤ last) × (ended ≡ None → n ≡ last))
 order_decides n last None = (λ h. let same : n ≡ last = eqb-true n last h in (omega (arith, same), λ e. same), λ h. eq-eqb n last (h.1 refl))
 order_decides n last (Some at) = (λ h. (leb-true n last h, λ e. cc), λ h. le-leb n last h.0)
 
@@ -47,7 +50,11 @@ module _ (s : DivisionRows) where
   turn_decides t = Decides-and _ _ (leb-true 1 t.order, le-leb 1 t.order) (in_turn_decides t _)
 
 -- the four parts of the test
-parts : (d : ℕ) (s : DivisionRows) → Decides (is_share d s) ((are_owned d s ≡ true) × ((list_all (vehicle_agrees s) s.vehicles ≡ true) × ((list_all (assignment_agrees s) s.assignments ≡ true) × (list_all (turn_agrees s) s.turns ≡ true))))
+parts : (d : ℕ) (s : DivisionRows)
+    → Decides (is_share d s) ((are_owned d s ≡ true)
+    × ((list_all (vehicle_agrees s) s.vehicles ≡ true)
+    × ((list_all (assignment_agrees s) s.assignments ≡ true)
+    × (list_all (turn_agrees s) s.turns ≡ true))))
 unfolding is_share
 parts d s = Decides-and _ _ (itself _) (Decides-and _ _ (itself _) (Decides-and _ _ (itself _) (itself _)))
 
@@ -62,7 +69,9 @@ share_agrees d s h =
       turns = λ c n. at_each_key numbered_cmp turn_key numbered_total exact_numbered _ (λ k t. TurnAgrees s k.0 t) (turn_decides s) s.turns tests.1.1.1 (c, n);
     }
 
-pub share_decides : (d : ℕ) (s : DivisionRows) → IsKeyed callsign_cmp vehicle_key s.vehicles → IsKeyed callsign_cmp assignment_key s.assignments → IsKeyed numbered_cmp turn_key s.turns → Decides (is_share d s) (IsShare d s)
+pub share_decides : (d : ℕ) (s : DivisionRows) → IsKeyed callsign_cmp vehicle_key s.vehicles
+    → IsKeyed callsign_cmp assignment_key s.assignments → IsKeyed numbered_cmp turn_key s.turns
+    → Decides (is_share d s) (IsShare d s)
 share_decides d s vehicles assignments turns = (
   share_agrees d s,
   λ h. (parts d s).1 (

@@ -11,7 +11,8 @@ use Rattle.room_types.specs.declared.codes.Outcome.TheVariants.{Normal, Skipped,
 use Rattle.room_types.specs.declared.codes.State.{State}
 use Rattle.room_types.specs.declared.codes.State.TheVariants.{Active, Closed, Merged}
 
--- what is read from a label (a number, a name) is the one code that has it, and none where no code has it
+-- what is read from a label (a number, a name) is the one code that has it, and none where no code
+-- has it
 pub record Decodes {C L : Type 0} (label_of : C → L) (label : L) (read : Option C) : Type 0 where
   pub has_it : IfSome read (λ c. label_of c ≡ label)
   pub only_one : (c : C) → label_of c ≡ label → read ≡ Some c

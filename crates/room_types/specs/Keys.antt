@@ -29,7 +29,9 @@ option_callsign_cmp (Some c) (Some e) = callsign_cmp c e
 
 -- by rank, since, number and callsign
 abbrev pub entry_cmp : Entry → Entry → Ordering
-entry_cmp a b = ordering_then (nat_cmp a.rank b.rank) (ordering_then (nat_cmp a.since b.since) (ordering_then (nat_cmp a.number b.number) (option_callsign_cmp a.callsign b.callsign)))
+entry_cmp a b = ordering_then (nat_cmp a.rank b.rank)
+    (ordering_then (nat_cmp a.since b.since)
+    (ordering_then (nat_cmp a.number b.number) (option_callsign_cmp a.callsign b.callsign)))
 
 abbrev pub pair_cmp : ℕ × ℕ → ℕ × ℕ → Ordering
 pair_cmp a b = ordering_then (nat_cmp a.0 b.0) (nat_cmp a.1 b.1)

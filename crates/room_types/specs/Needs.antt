@@ -16,7 +16,11 @@ need_of n Support = n.support
 
 -- for each kind the larger number
 abbrev pub larger : Counts → Counts → Counts
-larger a b = record { ambulances = max a.ambulances b.ambulances; cars = max a.cars b.cars; support = max a.support b.support }
+larger a b = record {
+  ambulances = max a.ambulances b.ambulances;
+  cars = max a.cars b.cars;
+  support = max a.support b.support;
+}
 
 -- the numbers that a function gives for each kind
 abbrev pub needs_by : (Kind → ℕ) → Counts

@@ -5,7 +5,8 @@ use Rattle.room_types.specs.declared.tables.Assignment.{Assignment}
 use Rattle.room_types.specs.declared.tables.Turn.{Turn}
 use Rattle.room_types.specs.declared.tables.Vehicle.{Vehicle}
 
--- a busy vehicle's assignment and open turn are its holder's, for one incident, and of its last order
+-- a busy vehicle's assignment and open turn are its holder's, for one incident, and of its last
+-- order
 pub record IsSent (v : Vehicle) (a : Assignment) (t : Turn) : Type 0 where
   pub busy : is_busy v.status ≡ true
   pub assigned_by_holder : a.division ≡ v.holder
@@ -42,7 +43,9 @@ PartsAgree v (Some a) (Some t) = IsSent v a t
 
 -- ---- the same as tests
 abbrev pub is_sent : Vehicle → Assignment → Turn → Bool
-is_sent v a t = is_busy v.status && (a.division == v.holder && (t.division == v.holder && (t.incident == a.incident && (a.order == v.last_order && t.order == v.last_order))))
+is_sent v a t = is_busy v.status && (a.division == v.holder
+    && (t.division == v.holder && (t.incident == a.incident
+    && (a.order == v.last_order && t.order == v.last_order))))
 
 abbrev pub sent_agrees : Vehicle → Option Assignment → Option Turn → Bool
 sent_agrees v None None = not (is_busy v.status)

@@ -32,7 +32,8 @@ assignment_at c s = row_at callsign_cmp assignment_key s.assignments c
 
 -- the turn of the vehicle's last order, where it had an order and that turn is not ended
 abbrev pub open_turn : Vehicle → DivisionRows → Option Turn
-open_turn v s = cond (nat_le 1 v.last_order) (keep (λ t. is_none t.ended) (turn_at v.callsign v.last_order s)) None
+open_turn v s = cond (nat_le 1 v.last_order)
+    (keep (λ t. is_none t.ended) (turn_at v.callsign v.last_order s)) None
 
 -- ---- the agreements, at each key
 -- every row is the division's
@@ -105,7 +106,8 @@ assignment_agrees s a = is_active_if_any (incident_at a.division a.incident s)
 
 abbrev pub is_in_turn : Turn → Option Vehicle → Bool
 is_in_turn t None = true
-is_in_turn t (Some v) = cond (is_some t.ended) (nat_le t.order v.last_order) (t.order == v.last_order)
+is_in_turn t (Some v) =
+    cond (is_some t.ended) (nat_le t.order v.last_order) (t.order == v.last_order)
 
 abbrev pub turn_agrees : DivisionRows → Turn → Bool
 turn_agrees s t = nat_le 1 t.order && is_in_turn t (vehicle_at t.callsign s)

@@ -21,11 +21,13 @@ is_callsign_letter b = (nat_le 65 b && nat_le b 90) || (nat_le 48 b && nat_le b 
 
 -- A to Z, a to z or 0 to 9
 abbrev pub is_token_letter : ℕ → Bool
-is_token_letter b = (nat_le 65 b && nat_le b 90) || ((nat_le 97 b && nat_le b 122) || (nat_le 48 b && nat_le b 57))
+is_token_letter b =
+    (nat_le 65 b && nat_le b 90) || ((nat_le 97 b && nat_le b 122) || (nat_le 48 b && nat_le b 57))
 
 -- 1 to 8 such letters
 abbrev pub is_callsign : List ℕ → Bool
-is_callsign text = nat_le 1 (length text) && nat_le (length text) 8 && list_all is_callsign_letter text
+is_callsign text =
+    nat_le 1 (length text) && nat_le (length text) 8 && list_all is_callsign_letter text
 
 -- 8 to 32 such letters
 abbrev pub is_token : List ℕ → Bool
@@ -35,11 +37,13 @@ abbrev pub same_note : Note → Note → Bool
 same_note a b = is_eq (slice_cmp nat_cmp a b)
 
 -- the part that is used has its length
-pub size_back : (cap n : ℕ) (bytes : List ℕ) → n ≤ cap → length bytes ≡ cap → length (take n bytes) ≡ n
+pub size_back : (cap n : ℕ) (bytes : List ℕ) → n ≤ cap → length bytes ≡ cap
+    → length (take n bytes) ≡ n
 size_back cap n bytes fits full = length-take-le n bytes (omega arith)
 
 -- a text and its zeros are the array
-pub text_back : (cap n : ℕ) (bytes : List ℕ) → n ≤ cap → length bytes ≡ cap → drop n bytes ≡ replicate (cap - n) 0
+pub text_back : (cap n : ℕ) (bytes : List ℕ) → n ≤ cap → length bytes ≡ cap
+    → drop n bytes ≡ replicate (cap - n) 0
     → take n bytes ++ replicate (cap - length (take n bytes)) 0 ≡ bytes
 text_back cap n bytes fits full zeros =
     rw (size_back cap n bytes fits full, ← zeros) (take-append-drop n bytes)

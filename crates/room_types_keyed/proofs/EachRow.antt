@@ -12,13 +12,16 @@ use Rattle.std.proofs.lemmas.Map.Lookups.{CmpEqualImpliesEq}
 use Rattle.room_types_keyed.specs.Keyed.{IsBelowAll, IsKeyed, row_at}
 use Rattle.room_types_keyed.proofs.KeyedLaws.{row_below}
 
-module _ {R K : Type 0} (cmp : K → K → Ordering) (key : R → K) (total : IsTotalOrder cmp) (exact : CmpEqualImpliesEq cmp) where
+module _ {R K : Type 0} (cmp : K → K → Ordering) (key : R → K) (total : IsTotalOrder cmp)
+    (exact : CmpEqualImpliesEq cmp) where
   same_key : (k : K) (x : R) → is_eq (cmp k (key x)) ≡ true → k ≡ key x
   same_key k x q = exact k (key x) ((Equal-is (cmp k (key x))).0 q)
 
-  module _ (p : R → Bool) (P : K → R → Type 0) (decides : (x : R) → Decides (p x) (P (key x) x)) where
+  module _ (p : R → Bool) (P : K → R → Type 0)
+      (decides : (x : R) → Decides (p x) (P (key x) x)) where
     -- all rows pass, so what that tells holds of the row at each key
-    pub at_each_key : (xs : List R) → list_all p xs ≡ true → (k : K) → IfSome (row_at cmp key xs k) (P k)
+    pub at_each_key : (xs : List R) → list_all p xs ≡ true → (k : K)
+        → IfSome (row_at cmp key xs k) (P k)
     at_each_key [] h k = tt
     at_each_key (x ∷ xs) h k = (elim (is_eq (cmp k (key x))) as (λ (b : Bool). is_eq (cmp k (key x)) ≡ b → IfSome (cond b (Some x) (row_at cmp key xs k)) (P k)) [
       | true ↦ λ q. subst (λ j. P j x) (sym (same_key k x q)) ((decides x).0 (and_parts _ _ h).0)
@@ -26,7 +29,8 @@ module _ {R K : Type 0} (cmp : K → K → Ordering) (key : R → K) (total : Is
     ]) refl
 
     -- and back, of rows in key order
-    pub from_each_key : (xs : List R) → IsKeyed cmp key xs → ((k : K) → IfSome (row_at cmp key xs k) (P k)) → list_all p xs ≡ true
+    pub from_each_key : (xs : List R) → IsKeyed cmp key xs
+        → ((k : K) → IfSome (row_at cmp key xs k) (P k)) → list_all p xs ≡ true
     from_each_key [] in_order f = refl
     from_each_key (x ∷ xs) in_order f =
         let here = (decides x).1 (subst (λ o. IfSome (cond (is_eq o) (Some x) (row_at cmp key xs (key x))) (P (key x))) (tied_itself total (key x)) (f (key x))) in

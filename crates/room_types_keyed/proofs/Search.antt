@@ -31,7 +31,8 @@ module _ {R K : Type 0} (cmp : K → K → Ordering) (key : R → K) where
     before : (j k : K) → cmp j k ≡ Greater → cmp k j ≡ Less
     before j k e = total.antisymm k j ∙ ap ordering_reverse e
 
-    below_at : (k : K) (xs : List R) (i : ℕ) (d : R) → IsBelowAll cmp key k xs → i < length xs → cmp k (key (get_or xs i d)) ≡ Less
+    below_at : (k : K) (xs : List R) (i : ℕ) (d : R) → IsBelowAll cmp key k xs → i < length xs
+        → cmp k (key (get_or xs i d)) ≡ Less
     below_at k [] i d h l = absurd (omega arith)
     below_at k (x ∷ xs) zero d h l = h.0
     below_at k (x ∷ xs) (suc i) d h l = below_at k xs i d h.1 (omega arith)
@@ -46,7 +47,8 @@ module _ {R K : Type 0} (cmp : K → K → Ordering) (key : R → K) where
         rw add-one (rw add-one at rest)
 
     -- a place with the key comes after lower keys alone
-    at_found : (xs : List R) (k : K) (i : ℕ) → IsKeyed cmp key xs → i < length xs → HoldsAt (λ y. cmp (key y) k ≡ Equal) xs i → IsAt cmp key xs k i
+    at_found : (xs : List R) (k : K) (i : ℕ) → IsKeyed cmp key xs → i < length xs
+        → HoldsAt (λ y. cmp (key y) k ≡ Equal) xs i → IsAt cmp key xs k i
     at_found [] k i s l h = absurd (omega arith)
     at_found (x ∷ xs) k zero s l h = h x
     at_found (x ∷ xs) k (suc i) s l h =
@@ -54,7 +56,9 @@ module _ {R K : Type 0} (cmp : K → K → Ordering) (key : R → K) where
         (sym (alike_right total _ k (key x) here) ∙ below_at (key x) xs i x s.0 (omega arith), at_found xs k i s.1 (omega arith) h)
 
     -- the place between lower and higher keys is the gap
-    gap_found : (xs : List R) (k : K) (i : ℕ) → i ≤ length xs → IsPartitionPoint (λ y. cmp (key y) k ≡ Less) (λ y. cmp (key y) k ≡ Greater) xs i → IsGapFor cmp key xs k i
+    gap_found : (xs : List R) (k : K) (i : ℕ) → i ≤ length xs
+        → IsPartitionPoint (λ y. cmp (key y) k ≡ Less) (λ y. cmp (key y) k ≡ Greater) xs i
+        → IsGapFor cmp key xs k i
     gap_found [] k zero l h = tt
     gap_found [] k (suc i) l h = absurd (omega arith)
     gap_found (x ∷ xs) k zero l h = h.1 zero x (omega arith) (omega arith)
@@ -64,11 +68,14 @@ module _ {R K : Type 0} (cmp : K → K → Ordering) (key : R → K) where
     )
 
     -- a binary search finds the key's place, or its gap
-    pub searched : (xs : List R) (k : K) (r : Result ℕ ℕ) → IsKeyed cmp key xs → IsSearchInRange r (length xs) → IsBinarySearchResult (λ y. cmp (key y) k) xs r → IfOk r (IsAt cmp key xs k) × IfErr r (IsGapFor cmp key xs k)
+    pub searched : (xs : List R) (k : K) (r : Result ℕ ℕ) → IsKeyed cmp key xs
+        → IsSearchInRange r (length xs) → IsBinarySearchResult (λ y. cmp (key y) k) xs r
+        → IfOk r (IsAt cmp key xs k) × IfErr r (IsGapFor cmp key xs k)
     searched xs k (Ok i) s bound h = (at_found xs k i s bound h, tt)
     searched xs k (Err i) s bound h = (tt, gap_found xs k i bound (h (searchable_from_sorted total key xs k (sorted xs s))))
 
-    gap_after : (xs : List R) (k : K) (i : ℕ) (z : R) → IsKeyed cmp key xs → length xs ≡ suc i → slice_get xs i ≡ Some z → cmp (key z) k ≡ Less → IsGapFor cmp key xs k (suc i)
+    gap_after : (xs : List R) (k : K) (i : ℕ) (z : R) → IsKeyed cmp key xs → length xs ≡ suc i
+        → slice_get xs i ≡ Some z → cmp (key z) k ≡ Less → IsGapFor cmp key xs k (suc i)
     gap_after [] k i z s n e l = absurd (omega arith)
     gap_after (x ∷ []) k zero z s n e l = let same : x ≡ z = cc in (rw same l, tt)
     gap_after (x ∷ []) k (suc i) z s n e l = absurd (omega arith)
@@ -83,39 +90,47 @@ module _ {R K : Type 0} (cmp : K → K → Ordering) (key : R → K) where
     is_less Greater e = cc
 
     -- where the last key is lower, the gap is the end
-    pub gap_at_end : (xs : List R) (k : K) (z : R) → IsKeyed cmp key xs → Some z ≡ slice_get xs (length xs - 1) → is_lt (cmp (key z) k) ≡ true → IsGapFor cmp key xs k (length xs)
+    pub gap_at_end : (xs : List R) (k : K) (z : R) → IsKeyed cmp key xs
+        → Some z ≡ slice_get xs (length xs - 1) → is_lt (cmp (key z) k) ≡ true
+        → IsGapFor cmp key xs k (length xs)
     gap_at_end xs k z s e l =
         let inside = slice_get_within xs (length xs - 1) z (sym e) in
         let n : length xs ≡ suc (length xs - 1) = omega arith in
         subst (λ m. IsGapFor cmp key xs k m) (sym n) (gap_after xs k (length xs - 1) z s n (sym e) (is_less _ l))
 
-    pub row_here : (xs : List R) (k : K) (i : ℕ) (d : R) → IsAt cmp key xs k i → row_at cmp key xs k ≡ Some (get_or xs i d)
+    pub row_here : (xs : List R) (k : K) (i : ℕ) (d : R) → IsAt cmp key xs k i
+        → row_at cmp key xs k ≡ Some (get_or xs i d)
     row_here [] k i d h = absurd h
     row_here (x ∷ xs) k zero d h = rw (tied_back total (key x) k h)
     row_here (x ∷ xs) k (suc i) d h = rw (past (key x) k h.0) (row_here xs k i d h.1)
 
-    pub put_here : (xs : List R) (r : R) (i : ℕ) → IsAt cmp key xs (key r) i → put_row cmp key xs r ≡ set xs i r
+    pub put_here : (xs : List R) (r : R) (i : ℕ) → IsAt cmp key xs (key r) i
+        → put_row cmp key xs r ≡ set xs i r
     put_here [] r i h = absurd h
     put_here (x ∷ xs) r zero h = rw (tied_back total (key x) (key r) h)
     put_here (x ∷ xs) r (suc i) h = rw (past (key x) (key r) h.0) (ap (λ ys. x ∷ ys) (put_here xs r i h.1))
 
-    pub drop_here : (xs : List R) (k : K) (i : ℕ) → IsAt cmp key xs k i → drop_row cmp key xs k ≡ remove xs i
+    pub drop_here : (xs : List R) (k : K) (i : ℕ) → IsAt cmp key xs k i
+        → drop_row cmp key xs k ≡ remove xs i
     drop_here [] k i h = absurd h
     drop_here (x ∷ xs) k zero h = rw (tied_back total (key x) k h)
     drop_here (x ∷ xs) k (suc i) h = rw (past (key x) k h.0) (ap (λ ys. x ∷ ys) (drop_here xs k i h.1))
 
-    pub row_gap : (xs : List R) (k : K) (i : ℕ) → IsKeyed cmp key xs → IsGapFor cmp key xs k i → row_at cmp key xs k ≡ None
+    pub row_gap : (xs : List R) (k : K) (i : ℕ) → IsKeyed cmp key xs → IsGapFor cmp key xs k i
+        → row_at cmp key xs k ≡ None
     row_gap [] k i s h = refl
     row_gap (x ∷ xs) k zero s h = row_below cmp key total (x ∷ xs) k (below_from_less cmp key total k x xs (before (key x) k h) s)
     row_gap (x ∷ xs) k (suc i) s h = rw (past (key x) k h.0) (row_gap xs k i s.1 h.1)
 
-    pub put_gap : (xs : List R) (r : R) (i : ℕ) → IsKeyed cmp key xs → IsGapFor cmp key xs (key r) i → put_row cmp key xs r ≡ insert xs i r
+    pub put_gap : (xs : List R) (r : R) (i : ℕ) → IsKeyed cmp key xs
+        → IsGapFor cmp key xs (key r) i → put_row cmp key xs r ≡ insert xs i r
     put_gap [] r zero s h = refl
     put_gap [] r (suc i) s h = absurd h
     put_gap (x ∷ xs) r zero s h = rw (before (key x) (key r) h)
     put_gap (x ∷ xs) r (suc i) s h = rw (past (key x) (key r) h.0) (ap (λ ys. x ∷ ys) (put_gap xs r i s.1 h.1))
 
-    pub drop_gap : (xs : List R) (k : K) (i : ℕ) → IsKeyed cmp key xs → IsGapFor cmp key xs k i → drop_row cmp key xs k ≡ xs
+    pub drop_gap : (xs : List R) (k : K) (i : ℕ) → IsKeyed cmp key xs → IsGapFor cmp key xs k i
+        → drop_row cmp key xs k ≡ xs
     drop_gap [] k i s h = refl
     drop_gap (x ∷ xs) k zero s h = drop_below cmp key total (x ∷ xs) k (below_from_less cmp key total k x xs (before (key x) k h) s)
     drop_gap (x ∷ xs) k (suc i) s h = rw (past (key x) k h.0) (ap (λ ys. x ∷ ys) (drop_gap xs k i s.1 h.1))
