@@ -67,13 +67,13 @@ KEYS = {("INTEGER",): NUMBER, ("TEXT",): TEXT, ("INTEGER", "INTEGER"): PAIR, ("T
 
 # The rows of a table: their type, and which of its fields are the key.
 class Table:
-    def __init__(self, name, row, kind, fields, loads=(), drops=False, rows=None, of="room", key=None):
+    def __init__(self, name, row, kind, fields, loads=(), drops=False, overwrites=False, rows=None, of="room", key=None):
         self.name, self.row, self.kind, self.fields = name, row, kind, fields
         self.defined = DEFINED[name]
         self.columns, self.tree, self.has_rowid = self.defined.columns, self.defined.tree, self.defined.has_rowid
         self.at, self.place = self.defined.at, self.defined.place
         self.key = key or KEYS[self.defined.key_kinds]
-        self.loads, self.drops, self.rows, self.of = loads, drops, rows or f"{of}.{name}", of
+        self.loads, self.drops, self.overwrites, self.rows, self.of = loads, drops, overwrites, rows or f"{of}.{name}", of
 
     def places(self, names):
         return "(" + "".join(f"{self.place(name)} ∷ " for name in names) + "[])"
@@ -141,7 +141,7 @@ TABLES = [
     Table("areas", "area", "ℕ × Area", ["x.0"], rows="(numbered 1 room.plan)"),
     Table("terminals", "terminal", "Terminal", ["x.token"], of="house", key=TOKEN),
     Table("divisions", "division", "Division", ["x.number"]),
-    Table("incidents", "incident", "Incident", ["x.division", "x.number"], loads=[
+    Table("incidents", "incident", "Incident", ["x.division", "x.number"], overwrites=True, loads=[
         load("active_incidents", "ACTIVE_INCIDENTS", "(d : ℕ)", "λ x. is_active x.state && x.division == d",
              equal("state", "number (state_number Active)", "equal-active x.state"), equal_number("division", "d")),
         load("incidents_opened", "INCIDENTS_OPENED", "(from to : ℤ) (d : ℕ)", "λ x. int_le from (pos x.opened) && (int_lt (pos x.opened) to && x.division == d)",
@@ -153,8 +153,8 @@ TABLES = [
              compared("Ge", "at_least", "opened", "Int from", "at_least-integers (pos x.opened) from"), equal_by_value("division", "number d", "equal-numbers x.division d")),
     ]),
     Table("calls", "call", "Call", ["x.position", "x.serial"], loads=[incident_rows("calls_of", "CALLS_OF")]),
-    Table("vehicles", "vehicle", "Vehicle", ["x.callsign"], loads=[owned("vehicles_held", "VEHICLES_HELD", "vehicle", "holder")]),
-    Table("turns", "turn", "Turn", ["x.callsign", "x.order"], loads=[incident_rows("turns_of", "TURNS_OF")]),
+    Table("vehicles", "vehicle", "Vehicle", ["x.callsign"], overwrites=True, loads=[owned("vehicles_held", "VEHICLES_HELD", "vehicle", "holder")]),
+    Table("turns", "turn", "Turn", ["x.callsign", "x.order"], overwrites=True, loads=[incident_rows("turns_of", "TURNS_OF")]),
     Table("assignments", "assignment", "Assignment", ["x.callsign"], drops=True, loads=[owned("assignments_of", "ASSIGNMENTS_OF", "assignment")]),
     Table("points", "point", "Point", ["x.division", "x.number"], loads=[owned("points_of", "POINTS_OF", "point")]),
     Table("loans", "loan", "Loan", ["x.callsign"], drops=True, loads=[party("loans_of", "LOANS_OF", "loan")]),
@@ -192,12 +192,12 @@ home("Rattle.sqlite.specs.Effect", "Database")
 home("Rattle.sqlite.specs.Listing", "understood")
 home("Rattle.sqlite.specs.State", "State Executes")
 home("Rattle.room_tables_sql.specs.Outcomes", "Inside Only")
-home("Rattle.room_tables_sql.specs.Statements", "Selects StandsAlone Upserts Deletes Stores equals equals_by_value at_least below compares either row_values row_update rowid_values rowid_update")
+home("Rattle.room_tables_sql.specs.Statements", "Selects StandsAlone Upserts Overwrites Deletes Stores Covers equals equals_by_value at_least below compares either row_values row_update rowid_values rowid_update")
 home("Rattle.room_tables_sql.specs.Typed", "number")
-home("Rattle.room_tables_sql.proofs.ColumnValues", "cast-Int cast-Null cast-number_or_null")
-home("Rattle.room_tables_sql.proofs.Comparisons", "and_then and_last is_true-Or or_else equal-by_value equal-numbers at_least-numbers tie-numbers tie-texts conflict_of_one conflict_of_two is_eq-then compare_by")
+home("Rattle.room_tables_sql.proofs.ColumnValues", "AreKept cast-Int cast-Null cast-number_or_null")
+home("Rattle.room_tables_sql.proofs.Comparisons", "and_then and_last is_true-Or or_else equal-by_value equal-numbers at_least-numbers tie-numbers tie-texts tie_of_one tie_of_two conflict_of_one conflict_of_two is_eq-then compare_by")
 home("Rattle.room_tables_sql.proofs.Standing", "holds_still holds_none")
-home("Rattle.room_tables_sql.proofs.StoredRows", "stores_row stores_rowid")
+home("Rattle.room_tables_sql.proofs.StoredRows", "stores_row covers_row stores_rowid")
 home("Rattle.room_place.specs.declared.plans.Area", "Area")
 home("Rattle.room_place.specs.declared.plans.Rect", "Rect")
 home("Rattle.room_types.specs.Codes", "outcome_number state_number is_active")
@@ -225,7 +225,7 @@ home("Rattle.room_tables_rows.specs.Stands", "House Stands StandsFor numbered em
 home("Rattle.room_tables_schema.specs.Definitions", "IsBlank")
 home("Rattle.room_tables_rows.specs.Writes", "Changes")
 home("Rattle.room_tables_rows.proofs.Tests", "equal-active equal-false at_least-integers below-integers at_most-numbers and_three and_six cast-text_or_null")
-home("Rattle.room_tables_rows.specs.Tables", "IsHeld SelectsChosen PutsRow IsTable IsDropped")
+home("Rattle.room_tables_rows.specs.Tables", "IsHeld SelectsChosen PutsRow IsTable IsDropped IsOverwritten")
 home("Rattle.room_tables_rows.proofs.Loads", "Shows ShowsRow ShowsAll chosen_rows row_of_key all_rows")
 home("Rattle.room_tables_rows.proofs.Puts", "put_changes")
 home("Rattle.room_tables_rows.proofs.Kept", " ".join(f"with_{t.name}" for t in TABLES))
@@ -361,9 +361,8 @@ pub {l['name']}_are : {l['args']} → Shows {t.row}_row {l['text']}.now ({params
     return out + writes(t, at)
 
 
-# what is stored of a row in each column, and how a conflict with the row of its key is told
-def stored(t):
-    n, key, places = len(t.columns), t.key_places(), t.all_places()
+# that each column keeps what is stored in it
+def kept_columns(t):
     needed = {"INTEGER": "cast-Int _", "TEXT": "refl", "BLOB": "refl"}
     others = {"INTEGER": "cast-number_or_null _", "TEXT": "cast-text_or_null _"}
     kept = [(needed if column.is_needed else others)[column.kind] for column in t.columns]
@@ -372,15 +371,23 @@ def stored(t):
     nested = "tt"
     for proof in reversed(kept):
         nested = f"({proof}, {nested})"
+    return nested
+
+
+# how a row of a tree is told by the key of another: it is in that one's way, or has its key
+def tie(t, why):
     fields = [("Text " if "Text" in p else "number ") + f for p, f in zip(t.key["params"], t.fields)]
-    if len(fields) == 1:
-        tie = f"conflict_of_one (column r {t.place(t.defined.key[0])}) ({fields[0]}) refl"
-    else:
-        one, other = map(t.place, t.defined.key)
-        tie = f"conflict_of_two (column r {one}) (column r {other}) ({fields[0]}) ({fields[1]}) refl refl"
+    columns = "".join(f" (column r {t.place(name)})" for name in t.defined.key)
+    return f"{why}_of_{('one', 'two')[len(fields) - 1]}{columns}" + "".join(f" ({field})" for field in fields) + " refl" * len(fields)
+
+
+# what is stored of a row, and how a conflict with the row of its key is told
+def stored(t):
+    n, key, places = len(t.columns), t.key_places(), t.all_places()
+    kept, conflict = f"({t.row}_kept x)" if t.overwrites else kept_columns(t), tie(t, "conflict")
     if not t.has_rowid:
-        return f"stores_row room_schema {t.name}_table {places} {key} {n} ({t.row}_row x)\n    {nested} refl (λ id. refl) (λ id r. {tie}) (λ id r. refl) (λ id r. refl)"
-    return f"stores_rowid room_schema {t.name}_table {places} {key} {n} _ _\n    {nested} refl refl (λ r. {tie}) (λ r. refl) (λ r. refl)"
+        return f"stores_row room_schema {t.name}_table {places} {key} {n} ({t.row}_row x)\n    {kept} refl (λ id. refl) (λ id r. {conflict}) (λ id r. refl) (λ id r. refl)"
+    return f"stores_rowid room_schema {t.name}_table {places} {key} {n} _ _\n    {kept} refl refl (λ r. {conflict}) (λ r. refl) (λ r. refl)"
 
 
 def writes(t, at):
@@ -392,7 +399,13 @@ def writes(t, at):
 pub put_{t.row}_means : Upserts room_schema PUT_{one}.now {at} {t.name}_table {key} {n} ({kind}_values {n}) ({kind}_update {n})
 unfolding understood everything
 put_{t.row}_means = record {{ command = refl; plain = (refl, refl) }}
-
+"""
+    if t.overwrites:
+        out += f"""
+{t.row}_kept : (x : {t.kind}) → AreKept {t.name}_table.columns ({t.row}_row x)
+{t.row}_kept x = {kept_columns(t)}
+"""
+    out += f"""
 pub {t.row}_stores : (x : {t.kind}) → Stores room_schema {t.name}_table {t.all_places()} {key} {n} ({kind}_values {n}) ({kind}_update {n}) ({t.row}_row x)
 unfolding Rattle.sqlite_value.specs.Keys.first_key
 {t.row}_stores x = {stored(t)}
@@ -418,6 +431,19 @@ pub {t.name}_are : IsTable {typed} {t.key['cells']} {t.name}_table (λ room. {t.
   leads = λ old new house room x h only is. {after};
 }}
 """
+    if t.overwrites:
+        out += f"""
+pub overwrite_{t.row}_means : Overwrites room_schema OVERWRITE_{one}.now {at} {t.name}_table {key} {n}
+unfolding understood everything
+overwrite_{t.row}_means = record {{ command = refl; plain = (refl, refl) }}
+
+pub {t.row}_covers : (x : {t.kind}) → Covers {t.name}_table {t.all_places()} {key} {n} ({t.row}_row x)
+unfolding Rattle.sqlite_value.specs.Keys.first_key
+{t.row}_covers x = covers_row room_schema {t.name}_table {t.all_places()} {key} {n} ({t.row}_row x) ({t.row}_kept x) (λ id. refl) (λ r. {tie(t, "tie")}) (λ r. refl)
+
+pub {t.name}_overwritten : IsOverwritten {t.name}_table {t.row}_row (λ room. {t.rows}) OVERWRITE_{one}.now
+{t.name}_overwritten = record {{ at = {at}; alone = {t.name}_alone; columns = {n}; overwrites = overwrite_{t.row}_means; covers = {t.row}_covers; stays = λ old new house room h only is. {after} }}
+"""
     if t.drops:
         terms, params, test, same = key_parts(t)
         out += f"""
@@ -437,7 +463,7 @@ pub {t.name}_dropped : IsDropped {typed} {t.key['cells']} {t.name}_table (λ roo
 
 
 def constants(t):
-    names = [f"ALL_{t.name.upper()}", f"{t.row.upper()}_AT", f"PUT_{t.row.upper()}", f"DROP_{t.row.upper()}"] + [l["text"] for l in t.loads]
+    names = [f"ALL_{t.name.upper()}", f"{t.row.upper()}_AT", f"PUT_{t.row.upper()}", f"DROP_{t.row.upper()}", f"OVERWRITE_{t.row.upper()}"] + [l["text"] for l in t.loads]
     return {name: f"Rattle.room_tables_rows.specs.declared.{t.name}.TheConstants" for name in names}
 
 

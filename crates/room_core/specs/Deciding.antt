@@ -10,7 +10,6 @@ use Rattle.room_model.specs.Room.{Room}
 use Rattle.room_model.specs.Shares.{own}
 use Rattle.room_model.specs.Working.{working}
 use Rattle.room_types.specs.declared.answers.Answer.TheVariants as answer
-use Rattle.room_types.specs.declared.asks.Ask.TheVariants as ask
 use Rattle.room_types.specs.declared.refusals.Refusal.TheVariants as refusal
 
 -- The decision and a refusal are the machine's. Memory may be refused in their place, and then
@@ -22,12 +21,6 @@ Decides wanted (Err e) = (e ≡ refusal.Memory) ⊎ (wanted ≡ Err e)
 -- The rows are those of division d's that the ask reads at this moment, or all of them.
 abbrev pub AreRead : ℕ → Ask → ℕ → Room → Room → Type 0
 AreRead d a at rows r = (rows ≡ working d a at r) ⊎ (rows ≡ own d r)
-
--- The report that a crew's ask reads has this number. An order reads none, so that any number
--- serves.
-abbrev pub IsInHand : Ask → ℕ → Type 0
-IsInHand (ask.Report p) n = n ≡ p.number
-IsInHand a n = Unit {0}
 
 -- a kept report gets its kept answer, and its number no other content
 abbrev pub again : Report → Press → Verdict

@@ -67,8 +67,8 @@ decided_so x r p at rows =
     ∙ made_so x p at (outcome_of x.vehicle x.turn p)))
 
 -- ---- a crew's rows of a well-formed room are its holder's
-module _ (c : Callsign) (n : ℕ) (r : Room) (x : CrewRows) (formed : IsWellFormed r)
-    (rows : AreCrewRows c n r x) where
+module _ (c : Callsign) (r : Room) (x : CrewRows) (formed : IsWellFormed r)
+    (rows : AreCrewRows c r x) where
   named : x.vehicle.callsign ≡ c
   named = subst (λ o. IfSome o (λ v. v.callsign ≡ c)) rows.vehicle (row_key callsign_cmp vehicle_key callsigns_total exact_callsigns r.vehicles c)
 
@@ -125,12 +125,12 @@ module _ (c : Callsign) (n : ℕ) (r : Room) (x : CrewRows) (formed : IsWellForm
   }
 
 pub asked_so : (c : Callsign) (r : Room) (x : CrewRows) (p : Press) (at : ℕ) → IsWellFormed r
-    → AreCrewRows c p.number r x → x.report ≡ None
+    → AreCrewRows c r x → kept_report c p.number r ≡ None
     → crew_asks c (Report p) at r ≡ tell (answered (reported x p at))
     (changes_of x (reported x p at))
-unfolding kept_report vehicle_at
+unfolding vehicle_at
 asked_so c r x p at formed rows new =
-    ap (λ k. report_kept k c p at r) (rows.report ∙ new)
+    ap (λ k. report_kept k c p at r) new
     ∙ (ap (λ v. report_somewhere v c p at r) rows.vehicle
-    ∙ (ap (λ k. report_in x.vehicle.holder k p at r) (sym (named c p.number r x formed rows))
-    ∙ decided_so x r p at (are_holders c p.number r x formed rows)))
+    ∙ (ap (λ k. report_in x.vehicle.holder k p at r) (sym (named c r x formed rows))
+    ∙ decided_so x r p at (are_holders c r x formed rows)))

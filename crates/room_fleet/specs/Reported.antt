@@ -22,7 +22,6 @@ goes_back x p at = is_home p.button && is_due at x.loan
 abbrev pub acted : CrewRows → Press → ℕ → Outcome → Reported
 acted x p at o = record {
   vehicle = vehicle_after x.vehicle x.loan p (goes_back x p at);
-  assignment = cond (ends_turn p.button) None x.assignment;
   turn = option_map (turn_after p.button at) x.turn;
   loan = cond (goes_back x p at) None x.loan;
   report = report_row x.vehicle p at o (status_after x.vehicle.status p.button);
@@ -32,7 +31,6 @@ acted x p at o = record {
 abbrev pub kept_alone : CrewRows → Press → ℕ → Outcome → Reported
 kept_alone x p at o = record {
   vehicle = with_report x.vehicle p;
-  assignment = x.assignment;
   turn = x.turn;
   loan = x.loan;
   report = report_row x.vehicle p at o x.vehicle.status;

@@ -6,6 +6,7 @@ ghost use Rattle.room_types.specs.declared.asks.Ask.TheVariants.{Report};
 ghost use Rattle.room_types.specs.declared.asks.Press.{Press};
 ghost use Rattle.room_types.specs.declared.crews.CrewRows.{CrewRows};
 ghost use Rattle.room_model.specs.Decisions.{tell};
+ghost use Rattle.room_model.specs.Queries.{kept_report};
 ghost use Rattle.room_model.specs.Reports.{report_in};
 ghost use Rattle.room_model.specs.Room.{Room};
 ghost use Rattle.room_model.specs.Slices.{AreCrewRows};
@@ -22,7 +23,7 @@ pub fn reports_are_the_rooms()
         (changes_of x (reported x p at)) }
     // In a well-formed room, of one whose number it does not have.
     ensures crew { (c : Callsign) (r : Room) (x : CrewRows) (p : Press) (at : ℕ) → IsWellFormed r
-        → AreCrewRows c p.number r x → x.report ≡ None
+        → AreCrewRows c r x → kept_report c p.number r ≡ None
         → crew_asks c (Report p) at r ≡ tell (answered (reported x p at))
         (changes_of x (reported x p at)) }
 {}

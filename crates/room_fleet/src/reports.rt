@@ -4,19 +4,17 @@ ghost use Rattle.room_model.specs.Moments.{first_of};
 ghost use Rattle.room_model.specs.Reports.{is_due, outcome_of, report_row, turn_after, with_report};
 ghost use Rattle.room_fleet.specs.Reported.{IsKeptAlone, TurnKeepsMoments, acted, kept_alone, reported};
 
-use crate::buttons::{acts, ends_turn, is_home, names_order, press as outcome_at, status_after};
+use crate::buttons::{acts, is_home, names_order, press as outcome_at, status_after};
 use room_types::asks::Press;
 use room_types::codes::{Button, Outcome, Status};
 use room_types::crews::{CrewRows, CrewSlice};
 use room_types::numbers::{LastNumber, Moment};
-use room_types::tables::{Assignment, Loan, Report, Turn, Vehicle};
+use room_types::tables::{Loan, Report, Turn, Vehicle};
 
 /// A vehicle's rows after a report.
 #[derive(Clone, Copy)]
 pub struct Reported {
     pub vehicle: Vehicle,
-    /// None where there was none, and where the report ended the order.
-    pub assignment: Option<Assignment>,
     /// The turn that was open, as ended where the report ended it.
     pub turn: Option<Turn>,
     /// None where there was none, and where the vehicle went back to its lender.
@@ -30,8 +28,8 @@ pub struct Reported {
 /// A number below the greatest is late. Else a button from Mobile to Return of another order than
 /// the last is stale. Else the outcome is the button's at the vehicle's status. A report that is
 /// late, stale or wrong is kept alone. Any other sets the place, the status and the turn's moment.
-/// Return and Home end the turn and the assignment, and Home gives a vehicle back to its lender
-/// where its loan is recalled or over.
+/// Return and Home end the turn, and Home gives a vehicle back to its lender where its loan is
+/// recalled or over.
 #[tactic(auto, using(crate::proofs::MomentLaws::turn_keeps, crate::proofs::MomentLaws::same_turn_keeps))]
 pub fn report(slice: &CrewSlice, press: &Press, at: Moment) -> Reported
     ensures rows { result ≡ reported slice.now.rows press.now at }
@@ -67,10 +65,8 @@ fn act(rows: &CrewRows, press: &Press, at: Moment, outcome: Outcome) -> Reported
         Some(loan) if at_home && is_due(&loan, at) => (given_back(moved, &loan), None),
         loan => (moved, loan),
     };
-    let is_ended = ends_turn(press.button);
     Reported {
         vehicle,
-        assignment: if is_ended { None } else { rows.assignment },
         turn: rows.turn.map(|turn| turn_after(turn, press.button, at)),
         loan,
         report: report_row(&rows.vehicle, press, at, outcome, status),
@@ -83,7 +79,6 @@ fn keep_alone(rows: &CrewRows, press: &Press, at: Moment, outcome: Outcome) -> R
 {
     Reported {
         vehicle: with_report(&rows.vehicle, press),
-        assignment: rows.assignment,
         turn: rows.turn,
         loan: rows.loan,
         report: report_row(&rows.vehicle, press, at, outcome, rows.vehicle.status),

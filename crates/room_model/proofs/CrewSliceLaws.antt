@@ -1,5 +1,5 @@
 -- A vehicle's rows in a well-formed room are a crew's slice.
-use Rattle.std.proofs.Common.{None, Option, ap, subst, sym, true, ℕ, ◌∙◌, ◌≡◌, List}
+use Rattle.std.proofs.Common.{None, Option, Some, ap, subst, sym, true, ℕ, ◌∙◌, ◌≡◌, List}
 use Rattle.std.proofs.lemmas.Cmp.{tied_itself}
 use Rattle.std.specs.Ordering.{is_eq}
 use Rattle.std.specs.Prelude.{IfSome, filter, is_none, ◌&&◌, ◌↔◌}
@@ -7,12 +7,15 @@ use Rattle.room_types_keyed.proofs.EachRow.{row_key}
 use Rattle.room_types_keyed.proofs.KeyedLaws.{row_filter}
 use Rattle.room_types.specs.Crews.{IsCrew}
 use Rattle.room_types_keyed.specs.Keyed.{IsKeyed, keep, row_at}
-use Rattle.room_types.specs.Keys.{assignment_key, callsign_cmp, loan_key, numbered_cmp, report_key, same_callsign, turn_key, vehicle_key}
+use Rattle.room_types.specs.Keys.{assignment_key, callsign_cmp, loan_key, numbered_cmp, same_callsign, turn_key, vehicle_key}
 use Rattle.room_types.specs.Orders.{callsigns_total, exact_callsigns, exact_numbered, numbered_total}
-use Rattle.room_types.specs.Sent.{SentAgrees}
+use Rattle.room_types.specs.Sent.{OrderAgrees}
 use Rattle.room_types.specs.Texts.{Callsign}
 use Rattle.room_types.specs.declared.crews.CrewRows.{CrewRows}
-use Rattle.room_model.proofs.SliceLaws.{if_kept, if_then, is_open, sent_in_room}
+use Rattle.room_types.specs.declared.tables.Assignment.{Assignment}
+use Rattle.room_types.specs.declared.tables.Turn.{Turn}
+use Rattle.room_types.specs.declared.tables.Vehicle.{Vehicle}
+use Rattle.room_model.proofs.SliceLaws.{SentAgrees, if_kept, if_then, is_open, sent_in_room}
 use Rattle.room_model.proofs.Tests.{both_true, is_equal, keep_keep_row, keep_row, none_of}
 use Rattle.room_model.specs.Room.{IsInOrder, Room}
 use Rattle.room_model.specs.Shares.{mine}
@@ -31,47 +34,43 @@ mine_row key xs c in_order =
     row_filter callsign_cmp key callsigns_total (λ x. same_callsign (key x) c) xs c in_order
     ∙ keep_row callsign_cmp key (λ x. same_callsign (key x) c) xs c (λ x h. same_self c (key x) (exact_callsigns c (key x) (is_equal _ h)))
 
-module _ (c : Callsign) (n : ℕ) (r : Room) (in_order : IsInOrder r) where
+module _ (c : Callsign) (r : Room) (in_order : IsInOrder r) where
   mine_turn : (m : ℕ) → keep is_open (row_at numbered_cmp turn_key (mine c r).turns (c, m))
       ≡ keep is_open (row_at numbered_cmp turn_key r.turns (c, m))
   mine_turn m =
       ap (keep is_open) (row_filter numbered_cmp turn_key numbered_total (λ x. same_callsign x.callsign c && is_none x.ended) r.turns (c, m) in_order.turns)
       ∙ keep_keep_row numbered_cmp turn_key is_open (λ x. same_callsign x.callsign c && is_none x.ended) r.turns (c, m) (λ x h open_one. both_true _ _ (same_self c x.callsign (ap (λ (k : Callsign × ℕ). k.0) (exact_numbered (c, m) (turn_key x) (is_equal _ h)))) open_one)
 
-  mine_report : row_at numbered_cmp report_key (mine c r).reports (c, n)
-      ≡ row_at numbered_cmp report_key r.reports (c, n)
-  mine_report =
-      row_filter numbered_cmp report_key numbered_total (λ x. same_callsign x.callsign c) r.reports (c, n) in_order.reports
-      ∙ keep_row numbered_cmp report_key (λ x. same_callsign x.callsign c) r.reports (c, n) (λ x h. same_self c x.callsign (ap (λ (k : Callsign × ℕ). k.0) (exact_numbered (c, n) (report_key x) (is_equal _ h))))
-
-  pub rows_of_mine : (x : CrewRows) → AreCrewRows c n (mine c r) x ↔ AreCrewRows c n r x
+  pub rows_of_mine : (x : CrewRows) → AreCrewRows c (mine c r) x ↔ AreCrewRows c r x
   rows_of_mine x = (
     λ h. record {
       vehicle = sym (mine_row vehicle_key r.vehicles c in_order.vehicles) ∙ h.vehicle;
-      assignment = sym (mine_row assignment_key r.assignments c in_order.assignments) ∙ h.assignment;
       turn = sym (mine_turn x.vehicle.last_order) ∙ h.turn;
       loan = sym (mine_row loan_key r.loans c in_order.loans) ∙ h.loan;
-      report = sym mine_report ∙ h.report;
     },
     λ h. record {
       vehicle = mine_row vehicle_key r.vehicles c in_order.vehicles ∙ h.vehicle;
-      assignment = mine_row assignment_key r.assignments c in_order.assignments ∙ h.assignment;
       turn = mine_turn x.vehicle.last_order ∙ h.turn;
       loan = mine_row loan_key r.loans c in_order.loans ∙ h.loan;
-      report = mine_report ∙ h.report;
     },
   )
 
 -- ---- and they agree
-module _ (c : Callsign) (n : ℕ) (r : Room) (x : CrewRows) (formed : IsWellFormed r)
-    (mine : AreCrewRows c n r x) where
+order_of : (v : Vehicle) (a : Option Assignment) (t : Option Turn) → SentAgrees v a t
+    → OrderAgrees v t
+order_of v None None h = h
+order_of v None (Some t) h = absurd h
+order_of v (Some a) None h = absurd h
+order_of v (Some a) (Some t) h = record { busy = h.busy; ordered_by_holder = h.ordered_by_holder; ordered_last = h.ordered_last }
+
+module _ (c : Callsign) (r : Room) (x : CrewRows) (formed : IsWellFormed r)
+    (mine : AreCrewRows c r x) where
   vehicle_named : x.vehicle.callsign ≡ c
   vehicle_named = subst (λ o. IfSome o (λ v. v.callsign ≡ c)) mine.vehicle (row_key callsign_cmp vehicle_key callsigns_total exact_callsigns r.vehicles c)
 
-  of_vehicle : {X : Type 0} (key : X → Callsign) (xs : List X) (o : Option X)
-      → row_at callsign_cmp key xs c ≡ o → IfSome o (λ y. key y ≡ x.vehicle.callsign)
-  of_vehicle key xs o e = subst (λ p. IfSome p (λ y. key y ≡ x.vehicle.callsign)) e
-      (if_then (λ y. key y ≡ c) (λ y. key y ≡ x.vehicle.callsign) (row_at callsign_cmp key xs c) (λ y f. f ∙ sym vehicle_named) (row_key callsign_cmp key callsigns_total exact_callsigns xs c))
+  loan_named : IfSome x.loan (λ l. l.callsign ≡ x.vehicle.callsign)
+  loan_named = subst (λ o. IfSome o (λ l. l.callsign ≡ x.vehicle.callsign)) mine.loan
+      (if_then (λ l. l.callsign ≡ c) (λ l. l.callsign ≡ x.vehicle.callsign) (row_at callsign_cmp loan_key r.loans c) (λ l e. e ∙ sym vehicle_named) (row_key callsign_cmp loan_key callsigns_total exact_callsigns r.loans c))
 
   turn_named : (m : ℕ) → IfSome (row_at numbered_cmp turn_key r.turns (c, m))
       (λ t. turn_key t ≡ (c, m))
@@ -83,15 +82,10 @@ module _ (c : Callsign) (n : ℕ) (r : Room) (x : CrewRows) (formed : IsWellForm
       let key : turn_key t ≡ (c, x.vehicle.last_order) = subst (λ o. IfSome o (λ t. turn_key t ≡ (c, x.vehicle.last_order))) e (turn_named x.vehicle.last_order) in
       (ap (λ (k : Callsign × ℕ). k.0) key ∙ sym vehicle_named, none_of t.ended open_one)))
 
-  report_named : IfSome x.report (λ y. y.callsign ≡ x.vehicle.callsign)
-  report_named = subst (λ o. IfSome o (λ y. y.callsign ≡ x.vehicle.callsign)) mine.report
-      (if_then (λ y. report_key y ≡ (c, n)) (λ y. y.callsign ≡ x.vehicle.callsign) (row_at numbered_cmp report_key r.reports (c, n)) (λ y f. ap (λ (k : Callsign × ℕ). k.0) f ∙ sym vehicle_named) (row_key numbered_cmp report_key numbered_total exact_numbered r.reports (c, n)))
-
-  sent : SentAgrees x.vehicle x.assignment x.turn
-  sent =
-      subst (λ a. SentAgrees x.vehicle a x.turn) mine.assignment
-      (subst (λ t. SentAgrees x.vehicle (row_at callsign_cmp assignment_key r.assignments c) t) mine.turn
-      (sent_in_room x.vehicle _ _
+  ordered : OrderAgrees x.vehicle x.turn
+  ordered =
+      subst (OrderAgrees x.vehicle) mine.turn
+      (order_of x.vehicle _ _ (sent_in_room x.vehicle _ _
       (subst (λ o. room.AssignmentAgrees o (row_at callsign_cmp assignment_key r.assignments c)) mine.vehicle (formed.assignments c))
       (subst (λ o. room.TurnAgrees o x.vehicle.last_order (row_at numbered_cmp turn_key r.turns (c, x.vehicle.last_order))) mine.vehicle (formed.turns c x.vehicle.last_order))
       (formed.same_incident c x.vehicle.last_order)
@@ -99,9 +93,7 @@ module _ (c : Callsign) (n : ℕ) (r : Room) (x : CrewRows) (formed : IsWellForm
 
   pub rows_are_crew : IsCrew x
   rows_are_crew = record {
-    assignment = of_vehicle assignment_key r.assignments x.assignment mine.assignment;
     turn = turn_open;
-    loan = of_vehicle loan_key r.loans x.loan mine.loan;
-    report = report_named;
-    sent = sent;
+    loan = loan_named;
+    ordered = ordered;
   }

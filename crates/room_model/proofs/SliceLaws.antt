@@ -7,7 +7,7 @@ use Rattle.room_types_keyed.proofs.KeyedLaws.{row_filter}
 use Rattle.room_types_keyed.specs.Keyed.{keep, row_at}
 use Rattle.room_types.specs.Keys.{assignment_key, callsign_cmp, incident_key, numbered_cmp, owns_assignment, owns_call, owns_division, owns_incident, owns_loan, owns_offer, owns_point, owns_report, owns_turn, owns_vehicle, pair_cmp, turn_key, vehicle_key}
 use Rattle.room_types.specs.Orders.{callsigns_total, exact_callsigns, exact_numbered, numbered_total, pairs_total}
-use Rattle.room_types.specs.Sent.{PartsAgree, SentAgrees}
+use Rattle.room_types.specs.Sent.{IsSent, PartsAgree}
 use Rattle.room_types.specs.Codes.{is_active, is_busy}
 use Rattle.room_types.specs.Slices.{AssignmentAgrees, IsActive, IsInTurn, IsShare, TurnAgrees, VehicleAgrees, assignment_at, open_turn, turn_at, vehicle_at}
 use Rattle.room_types.specs.Texts.{Callsign}
@@ -51,6 +51,13 @@ open_idle : (v : Vehicle) (n : ℕ) (t : Turn) (ended : Option ℕ) → room.Ope
     → is_busy v.status ≡ false → is_none ended ≡ false
 open_idle v n t None h idle = let busy = h.2 in cc
 open_idle v n t (Some at) h idle = refl
+
+-- it has an assignment, and has an open turn, exactly where it is busy
+abbrev pub SentAgrees : Vehicle → Option Assignment → Option Turn → Type 0
+SentAgrees v None None = is_busy v.status ≡ false
+SentAgrees v None (Some t) = ⊥
+SentAgrees v (Some a) None = ⊥
+SentAgrees v (Some a) (Some t) = IsSent v a t
 
 pub sent_in_room : (v : Vehicle) (a : Option Assignment) (t : Option Turn)
     → room.AssignmentAgrees (Some v) a → room.TurnAgrees (Some v) v.last_order t

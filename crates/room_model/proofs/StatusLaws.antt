@@ -1,5 +1,6 @@
 -- What a vehicle's status tells of its turns and its assignment.
 use Rattle.std.proofs.Common.{ap, subst, sym, ◌∙◌}
+use Rattle.std.proofs.lemmas.Bool.{false_from_ne_true}
 use Rattle.std.specs.Prelude.{Bool, None, Option, Some, false, refl, true, ℕ, ◌↔◌, ◌≡◌}
 use Rattle.room_place.specs.Choice.{Among}
 use Rattle.room_types.specs.Codes.{is_busy}
@@ -14,10 +15,6 @@ use Rattle.room_model.proofs.OpenTurns.{row_there}
 use Rattle.room_model.proofs.Tests.{row_among, row_key}
 use Rattle.room_model.specs.Room.{IsInOrder, Room}
 use Rattle.room_model.specs.WellFormed.{AssignmentAgrees, AssignmentStands, AssignmentsAgree, AssignmentsStand, HasAssignment, HasOpenTurn, OpenAgrees, StatusTellsAssignments, StatusTellsTurns, TurnAgrees, TurnStands, TurnsAgree, TurnsStand}
-
-not_true : (b : Bool) → (b ≡ true → ⊥) → b ≡ false
-not_true true f = absurd (f refl)
-not_true false f = refl
 
 never_both : (b : Bool) → b ≡ true → b ≡ false → ⊥
 never_both b e f = cc
@@ -81,7 +78,7 @@ module _ (r : Room) (order : IsInOrder r) where
       → AssignmentAgrees o p
   assignment_agrees tells c None None e f h = tt
   assignment_agrees tells c None (Some a) e f h = h
-  assignment_agrees tells c (Some v) None e f h = not_true (is_busy v.status) (λ busy.
+  assignment_agrees tells c (Some v) None e f h = false_from_ne_true (is_busy v.status) (λ busy.
       let x : HasAssignment r c = subst (HasAssignment r) (sym (vehicle_name c v e)) ((tells v (vehicle_among c v e)).0 busy) in
       let found : row_at callsign_cmp assignment_key r.assignments c ≡ Some x.assignment = assignment_found c x in
       cc)
@@ -155,7 +152,7 @@ module _ (r : Room) (order : IsInOrder r) where
       → (o : Option ℕ) → t.ended ≡ o → OpenAgrees v n t o
   open_agrees stand tells c v e n t f h None g =
       ((h.2 g).0, (h.2 g).1, (tells v (vehicle_among c v e)).1 (subst (HasOpenTurn r) (vehicle_name c v e) (has_open_turn c n t f g)))
-  open_agrees stand tells c v e n t f h (Some at) g = λ last. not_true (is_busy v.status) (λ busy.
+  open_agrees stand tells c v e n t f h (Some at) g = λ last. false_from_ne_true (is_busy v.status) (λ busy.
       let x = open_now tells c v e busy in
       let found : row_at numbered_cmp turn_key r.turns (c, n) ≡ Some x.turn = last_found stand c v e x n last in
       let same : t ≡ x.turn = cc in
@@ -168,7 +165,7 @@ module _ (r : Room) (order : IsInOrder r) where
       → row_at numbered_cmp turn_key r.turns (c, n) ≡ p → TurnStands o n p → TurnAgrees o n p
   turn_agrees stand tells c n None None e f h = tt
   turn_agrees stand tells c n None (Some t) e f h = h
-  turn_agrees stand tells c n (Some v) None e f h = λ last. not_true (is_busy v.status) (λ busy.
+  turn_agrees stand tells c n (Some v) None e f h = λ last. false_from_ne_true (is_busy v.status) (λ busy.
       let x = open_now tells c v e busy in
       let found : row_at numbered_cmp turn_key r.turns (c, n) ≡ Some x.turn = last_found stand c v e x n last in
       cc)

@@ -30,13 +30,13 @@ pub fn shares_are_slices()
 
 /// What a well-formed room has of a vehicle is a crew's slice.
 pub fn vehicles_are_slices()
-    ensures crew { (c : Callsign) (n : ℕ) (r : Room) (x : CrewRows) →
-        IsWellFormed r → AreCrewRows c n r x →
+    ensures crew { (c : Callsign) (r : Room) (x : CrewRows) →
+        IsWellFormed r → AreCrewRows c r x →
         IsCrew x }
     // What the vehicle has of its own in the room is as much.
-    ensures mine { (c : Callsign) (n : ℕ) (r : Room) (x : CrewRows) →
+    ensures mine { (c : Callsign) (r : Room) (x : CrewRows) →
         IsInOrder r →
-        (AreCrewRows c n (mine c r) x ↔ AreCrewRows c n r x) }
+        (AreCrewRows c (mine c r) x ↔ AreCrewRows c r x) }
 {}
 
 /// What the machine asks of a slice's rows is found at their keys.

@@ -22,6 +22,7 @@ use Rattle.room_store_writes.specs.Enrolling.{Enrols, StandsAfter}
 use Rattle.room_model.specs.Fleets.{enrolled, fates_of}
 use Rattle.room_store.specs.Enrolling.{MayBeEnrolled, StandsAfterRows, StandsInPlan, fate_in, room_after_rows, terminals_after_rows}
 use Rattle.room_store.specs.Keeping.{IsKept, IsRoom}
+use Rattle.room_store.proofs.KnownLaws.{still_known}
 use Rattle.room_store.proofs.StoreLaws.{kept_stands}
 use Rattle.room_store_writes.specs.Houses.{house_of}
 use Rattle.room_store.specs.declared.store.Store.{Store}
@@ -71,14 +72,15 @@ module _ {S : Type 0} (g : Ghosts S) (old new : Store S) (row : FleetRow)
       → StandsInPlan (state g old.conn).now.trees old.plan (house_of old.plan terminals) room
   in_plan is_open = record { stands = is.tables is_open; plan = is.plan }
 
-  pub room_after_row : new.plan ≡ old.plan
+  pub room_after_row : new.plan ≡ old.plan → new.known ≡ old.known
       → Enrols (state g old.conn) (state g new.conn) row
       (StandsInPlan (state g old.conn).now.trees old.plan) (fate_in row)
       → IsRoom g new (terminals_enrolled room terminals row) (room_enrolled room terminals row)
-  room_after_row same wrote = record {
+  room_after_row same same_known wrote = record {
     formed = enrolled_kept room terminals row is.formed;
     fits = terminals_kept room terminals row is.fits;
     plan = rw same (plan_by (fate_of room terminals row) row room ∙ is.plan);
+    known = rw same_known (still_known room terminals row old.known.items is.known);
     tables = λ _. rw same (wrote.stands (house_of old.plan terminals) room (in_plan wrote.was_open));
   }
 

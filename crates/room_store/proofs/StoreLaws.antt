@@ -1,6 +1,6 @@
 -- A store's room, before and after an event.
 use Rattle.std.proofs.Common.{Err, IsTrue, List, Ok, Result, [], ap, false, inl, inr, subst, sym, true, ◌∙◌, ◌∷◌, ◌≡◌}
-use Rattle.std.specs.Prelude.{OnOk, ◌↔◌}
+use Rattle.std.specs.Prelude.{All, OnOk, ◌↔◌}
 use Rattle.sqlite.specs.Effect.{Database}
 use Rattle.sqlite.specs.Held.{state}
 use Rattle.sqlite.specs.State.{HasCleanDisk, State, Survives}
@@ -19,7 +19,7 @@ use Rattle.room_tables_schema.specs.Connections.{HasRoomSchema}
 use Rattle.room_tables_schema.specs.Schema.{room_schema}
 use Rattle.room_store_writes.specs.Writing.{Commits, IsSettled, Leaves}
 use Rattle.room_store.specs.Acting.{IsFor}
-use Rattle.room_store.specs.Keeping.{IsKept, IsReady, IsRoom, LeavesOneOf}
+use Rattle.room_store.specs.Keeping.{IsKept, IsOneOf, IsReady, IsRoom, LeavesOneOf}
 use Rattle.room_store_writes.specs.Houses.{house_of}
 use Rattle.room_store.specs.declared.store.Store.{Store}
 
@@ -36,11 +36,13 @@ ready_tested g held outside tested = record { outside = outside; schema = λ sou
 -- tables that were left stand for the room that they stood for
 pub room_left : {S : Type 0} (g : Ghosts S) (old new : Store S) (terminals : List Terminal)
     (room : Room) → Leaves (state g old.conn) (state g new.conn) → new.plan ≡ old.plan
+    → All (IsOneOf terminals) new.known.items
     → IsRoom g old terminals room → IsRoom g new terminals room
-room_left g old new terminals room left same is = record {
+room_left g old new terminals room left same known is = record {
   formed = is.formed;
   fits = is.fits;
   plan = rw same is.plan;
+  known = known;
   tables = λ is_open. rw same (subst (λ (db : Database). Stands db.trees (house_of old.plan terminals) room) (sym (left.now_is is_open)) (is.tables (left.was_open is_open)));
 }
 
@@ -52,14 +54,15 @@ module _ {S : Type 0} (g : Ghosts S) (old new : Store S) (event : Event)
       → IsFor (state g old.conn).now.trees old.plan event (house_of old.plan terminals) room
   for_room is_open = record { stands = is.tables is_open; formed = is.formed; plan = is.plan; addressed = addressed }
 
-  pub room_moved : IsNumbered event.ask → new.plan ≡ old.plan
+  pub room_moved : IsNumbered event.ask → new.plan ≡ old.plan → new.known ≡ old.known
       → Commits (state g old.conn) (state g new.conn)
       (IsFor (state g old.conn).now.trees old.plan event) (room_after event)
       → IsRoom g new terminals (room_after event room)
-  room_moved is_numbered same wrote = record {
+  room_moved is_numbered same same_known wrote = record {
     formed = event_kept event room is.formed addressed is_numbered;
     fits = terminals_run (event ∷ []) room terminals is.fits;
     plan = rw same (plan_run (event ∷ []) room ∙ is.plan);
+    known = rw same_known is.known;
     tables = λ _. rw same (wrote.stands (house_of old.plan terminals) room (for_room wrote.was_open));
   }
 

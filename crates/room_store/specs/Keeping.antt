@@ -1,11 +1,11 @@
 -- What a store keeps true between calls, and which room it stands for.
-use Rattle.std.specs.Prelude.{List, [], false, IsTrue, ◌∷◌, ◌≡◌, ◌≢◌, ◌⊎◌}
+use Rattle.std.specs.Prelude.{All, List, Some, [], false, IsTrue, ◌∷◌, ◌≡◌, ◌≢◌, ◌⊎◌}
 use Rattle.sqlite.specs.Held.{state}
 use Rattle.sqlite.specs.State.{HasCleanDisk}
 use Rattle.sqlite_trees.specs.Tree.{Trees}
 use Rattle.sqlite_trees.specs.declared.store.Store.{Ghosts}
 use Rattle.room_types.specs.declared.fleet.Terminal.{Terminal}
-use Rattle.room_model.specs.Enrol.{AreTerminals}
+use Rattle.room_model.specs.Enrol.{AreTerminals, terminal_at}
 use Rattle.room_model.specs.Room.{Room}
 use Rattle.room_model.specs.WellFormed.{IsWellFormed}
 use Rattle.room_tables_schema.specs.Schema.{room_schema}
@@ -21,13 +21,18 @@ pub record IsReady {S : Type 0} (g : Ghosts S) (held : Store S) : Type 0 where
       → (state g held.conn).now.schema ≡ room_schema
   pub shut : held.is_sound ≡ false → (state g held.conn).now.schema ≢ room_schema
 
--- It stands for this well-formed room with these terminals. Of a connection that a fault has shut,
--- the tables tell nothing.
+-- the terminal is one of these: that of its token
+abbrev pub IsOneOf : List Terminal → Terminal → Type 0
+IsOneOf terminals t = terminal_at t.token terminals ≡ Some t
+
+-- It stands for this well-formed room with these terminals, and those that it knows are of these.
+-- Of a connection that a fault has shut, the tables tell nothing.
 pub record IsRoom {S : Type 0} (g : Ghosts S) (held : Store S) (terminals : List Terminal)
     (room : Room) : Type 0 where
   pub formed : IsWellFormed room
   pub fits : AreTerminals room terminals
   pub plan : room.plan ≡ held.plan.areas
+  pub known : All (IsOneOf terminals) held.known.items
   pub tables : IsTrue (state g held.conn).is_open
       → Stands (state g held.conn).now.trees (house_of held.plan terminals) room
 

@@ -103,6 +103,7 @@ impl<S: Alter> Store<S> {
                 Ok(()) => Ok(Store {
                     conn,
                     plan: own,
+                    known: Vec::new(alloc),
                     is_sound: true,
                 }),
                 Err(fault) => Err((CreateFault::from(fault), conn)),

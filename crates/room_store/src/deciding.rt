@@ -1,5 +1,5 @@
 //! What the room in the tables decides of an event. Nothing is written.
-ghost use Rattle.std.specs.Prelude.{◌≡◌, ◌⊎◌, false, IfErr, IfOk, OnOk, OnErr};
+ghost use Rattle.std.specs.Prelude.{◌≡◌, ◌⊎◌, false, IsTrue, IfErr, IfOk, OnOk, OnErr};
 ghost use Rattle.sqlite.specs.Held.{state};
 ghost use Rattle.sqlite.specs.State.{HasCleanDisk, IsUnchanged, Survives};
 ghost use Rattle.room_tables_schema.specs.Connections.{HasRoomSchema};
@@ -10,31 +10,32 @@ ghost use Rattle.room_types.specs.declared.asks.Ask.TheVariants.{Call as CallAsk
 ghost use Rattle.room_types.specs.declared.asks.Who.TheVariants.{Position};
 ghost use Rattle.room_model.specs.Calls.{new_call};
 ghost use Rattle.room_model.specs.Decisions.{Verdict};
+ghost use Rattle.room_model.specs.Reports.{show_order, take_report};
 ghost use Rattle.room_model.specs.Room.{Room};
 ghost use Rattle.room_model.specs.Slices.{room_of};
-ghost use Rattle.room_model.specs.Step.{IsAddressed, decided};
+ghost use Rattle.room_model.specs.Step.{crew_asks, decided};
 ghost use Rattle.room_model.specs.WellFormed.{IsWellFormed};
 ghost use Rattle.room_tables.specs.Stands.{House};
 ghost use Rattle.room_tables.specs.Finding.{Finds};
-ghost use Rattle.room_model.specs.Events.{by_crew};
 ghost use Rattle.room_store.specs.Acting.{IsFor, IsIn};
+ghost use Rattle.room_store_reads.specs.CrewParts.{HasVehicle};
 
 use room_core::calls::{decide_again, decide_call};
-use room_core::crews::{decide_crew, number_in_hand};
+use room_core::crews::{decide_order, decide_report, decide_report_again};
 use room_core::decisions::Decision;
 use room_core::desks::decide_desk;
 use room_place::plans::{DivisionNumber, Plan};
-use room_store_reads::crews::load_crew;
+use room_store_reads::crews::{load_assignment, load_crew, load_report};
 use room_store_reads::working::load_working;
 use room_tables::loading::row_at;
 use room_tables_schema::faults::Fault;
-use room_types::asks::{Ask, CallForm, Event, NewCall, Who};
+use room_types::asks::{Ask, CallForm, Event, NewCall, Press, Who};
 use room_types::callsign::Callsign;
 use room_types::crews::CrewSlice;
 use room_types::numbers::{Moment, PositionNumber};
 use room_types::refusals::Refusal;
 use room_types::slices::Slice;
-use room_types::tables::Call;
+use room_types::tables::{Call, Vehicle};
 use sqlite::{Alter, Connection};
 use std::alloc::Global;
 
@@ -62,7 +63,7 @@ pub(crate) fn decide<S: Alter>(
 {
     match &event.who {
         Who::Desk(division) => for_division(alloc, conn, plan, *division, event),
-        Who::Crew(callsign) => for_crew(alloc, conn, plan, callsign, &event.ask, event.at),
+        Who::Crew(callsign) => for_crew(alloc, conn, callsign, &event.ask, event.at),
         Who::Position(position) => match &event.ask {
             Ask::Call(form) => for_call(alloc, conn, plan, *position, form, event),
             _ => Err(Fault::Storage),
@@ -117,23 +118,64 @@ fn decide_on(alloc: Global, plan: &Plan, slice: &Slice, event: &Event) -> Result
 fn for_crew<S: Alter>(
     alloc: Global,
     conn: &mut Connection<S>,
-    plan: &Plan,
     callsign: &Callsign,
     ask: &Ask,
     at: Moment,
 ) -> Result<Result<Decision, Refusal>, Fault>
     requires room { HasRoomSchema S.Store conn.old }
     ensures decided { Finds S.Store conn.old conn.new result (λ room x. IsWellFormed room
-        → room.plan ≡ plan.now.areas → IsAddressed (by_crew callsign.now ask.now at) room
-        → x ≡ decided (by_crew callsign.now ask.now at) room) }
+        → x ≡ crew_asks callsign.now ask.now at room) }
     ensures reads { ReadsOnly S.Store conn.old conn.new result }
 {
-    let found = load_crew(conn, callsign, number_in_hand(ask))?;
+    let found = row_at::<Vehicle, S>(conn, callsign)?;
     match found {
-        Some(rows) => match CrewSlice::build(rows) {
-            Some(slice) => machines(decide_crew(alloc, &slice, ask, at)),
-            None => Err(Fault::Storage),
+        Some(vehicle) => match ask {
+            Ask::Order => for_order(alloc, conn, &vehicle),
+            Ask::Report(press) => for_report(alloc, conn, &vehicle, press, at),
+            _ => Ok(Err(Refusal::WrongRole)),
         },
+        None => Err(Fault::Storage),
+    }
+}
+
+fn for_order<S: Alter>(
+    alloc: Global,
+    conn: &mut Connection<S>,
+    vehicle: &Vehicle,
+) -> Result<Result<Decision, Refusal>, Fault>
+    requires room { HasRoomSchema S.Store conn.old }
+    requires open { HasCleanDisk (state S.Store conn.old)
+        → IsTrue (state S.Store conn.old).is_open }
+    ensures decided { Finds S.Store conn.old conn.new result (λ room x. IsWellFormed room
+        → HasVehicle vehicle.now room → x ≡ show_order vehicle.now.callsign room) }
+    ensures reads { ReadsOnly S.Store conn.old conn.new result }
+{
+    let assignment = load_assignment(conn, vehicle)?;
+    Ok(Ok(decide_order(alloc, vehicle, assignment)))
+}
+
+// A report, kept already or new.
+fn for_report<S: Alter>(
+    alloc: Global,
+    conn: &mut Connection<S>,
+    vehicle: &Vehicle,
+    press: &Press,
+    at: Moment,
+) -> Result<Result<Decision, Refusal>, Fault>
+    requires room { HasRoomSchema S.Store conn.old }
+    requires open { HasCleanDisk (state S.Store conn.old)
+        → IsTrue (state S.Store conn.old).is_open }
+    ensures decided { Finds S.Store conn.old conn.new result (λ room x. IsWellFormed room
+        → HasVehicle vehicle.now room → x ≡ take_report vehicle.now.callsign press.now at room) }
+    ensures reads { ReadsOnly S.Store conn.old conn.new result }
+{
+    let found = load_report(conn, vehicle, press.number)?;
+    if let Some(kept) = found {
+        return Ok(decide_report_again(alloc, &kept, press));
+    }
+    let rows = load_crew(conn, vehicle)?;
+    match CrewSlice::build(rows) {
+        Some(slice) => machines(decide_report(alloc, &slice, press, at)),
         None => Err(Fault::Storage),
     }
 }

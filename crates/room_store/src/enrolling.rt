@@ -64,6 +64,7 @@ impl<S: Alter> Store<S> {
         requires ready { IsReady S.Store self.old }
         ensures ready { IsReady S.Store self.new }
         ensures plan { self.new.plan ≡ self.old.plan }
+        ensures known { self.new.known ≡ self.old.known }
         ensures fate { HasCleanDisk (state S.Store self.new.conn)
             → OnOk result ((terminals : List Known) (room : Room)
             → IsRoom S.Store self.old terminals room

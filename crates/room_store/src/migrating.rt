@@ -67,6 +67,7 @@ impl<S: Alter> Store<S> {
             Ok(plan) => Ok(Store {
                 conn,
                 plan,
+                known: Vec::new(alloc),
                 is_sound: true,
             }),
             Err(fault) => Err((fault, conn)),

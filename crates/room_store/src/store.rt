@@ -19,6 +19,7 @@ ghost use Rattle.room_store_writes.specs.Houses.{house_of};
 
 use crate::acting::{act_on, know_number};
 use crate::faults::refusal_of;
+use crate::knowing::{keep, place_of};
 use room_place::plans::Plan;
 use room_tables::terminals::terminal_at;
 use room_tables_schema::testing::is_room;
@@ -38,6 +39,8 @@ use std::alloc::Global;
 pub struct Store<S: Alter> {
     pub(crate) conn: Connection<S>,
     pub(crate) plan: Plan,
+    // Terminals that were looked up, in the order of their tokens. Each is one of the room's.
+    pub(crate) known: Vec<Terminal>,
     pub(crate) is_sound: bool,
 }
 
@@ -68,12 +71,14 @@ impl<S: Alter> Store<S> {
         let Store {
             conn,
             plan: _,
+            known: _,
             is_sound: _,
         } = self;
         conn
     }
 
-    /// Who shows a token: none where no terminal has it. A refusal is of memory or of storage.
+    /// Who shows a token: none where no terminal has it. For a terminal that is known nothing is
+    /// read. A refusal is of memory or of storage.
     pub fn who(&mut self, token: &Token) -> Result<Option<Who>, Refusal>
         requires ready { IsReady S.Store self.old }
         ensures ready { IsReady S.Store self.new }
@@ -81,10 +86,14 @@ impl<S: Alter> Store<S> {
         ensures known { HasCleanDisk (state S.Store self.new.conn)
             → IfOk result (λ who. (terminals : List Known) (room : Room)
             → IsRoom S.Store self.old terminals room → who ≡ who_at terminals token.now) }
+        ensures same { HasCleanDisk (state S.Store self.new.conn)
+            → (terminals : List Known) (room : Room) → IsRoom S.Store self.old terminals room
+            → IsRoom S.Store self.new terminals room }
         ensures leaves { HasCleanDisk (state S.Store self.new.conn)
             → Leaves (state S.Store self.old.conn) (state S.Store self.new.conn) }
         ensures stays_open { HasCleanDisk (state S.Store self.new.conn)
-            → OnOk result (IsTrue (state S.Store self.new.conn).is_open) }
+            → OnOk result (IsTrue (state S.Store self.old.conn).is_open
+            → IsTrue (state S.Store self.new.conn).is_open) }
         ensures wants { IfErr result IsWant }
         ensures survives { Survives (state S.Store self.old.conn) (state S.Store self.new.conn)
             (λ _. ⊥) }
@@ -92,9 +101,16 @@ impl<S: Alter> Store<S> {
         if !self.is_sound {
             return Err(Refusal::Storage);
         }
+        let at = match place_of(&self.known, token) {
+            Ok(at) => return Ok(Some(self.known[at].who)),
+            Err(at) => at,
+        };
         let _ = self.conn.is_autocommit();
         match terminal_at(&mut self.conn, token) {
-            Ok(terminal) => Ok(who_of(terminal)),
+            Ok(terminal) => {
+                keep(&mut self.known, at, &terminal);
+                Ok(who_of(terminal))
+            }
             Err(fault) => {
                 self.test_file();
                 Err(refusal_of(fault))
@@ -117,6 +133,7 @@ impl<S: Alter> Store<S> {
             → FnOnceReturnsAt F.FnOnce render answer r → IfErr r (λ e. e ≡ Memory) }
         ensures ready { IsReady S.Store self.new }
         ensures plan { self.new.plan ≡ self.old.plan }
+        ensures known { self.new.known ≡ self.old.known }
         ensures bytes { HasCleanDisk (state S.Store self.new.conn)
             → IfOk result (λ bytes. (terminals : List Known) (room : Room)
             → IsRoom S.Store self.old terminals room → IsAddressed event.now room
@@ -160,6 +177,7 @@ impl<S: Alter> Store<S> {
             ↔ ((state S.Store self.new.conn).now.schema ≡ room_schema) }
         ensures conn { self.new.conn ≡ self.old.conn }
         ensures plan { self.new.plan ≡ self.old.plan }
+        ensures known { self.new.known ≡ self.old.known }
     {
         self.is_sound = is_room(self.conn.schema());
     }

@@ -3,15 +3,25 @@ use Rattle.std.proofs.Common.{None, Option, Some, ap, arith, cond, false, is_non
 use Rattle.room_types_keyed.specs.Keyed.{keep, row_at}
 use Rattle.room_types.specs.Codes.{is_busy}
 use Rattle.room_types.specs.Keys.{assignment_key, callsign_cmp, loan_key, numbered_cmp, report_key, turn_key, vehicle_key}
+use Rattle.room_types.specs.Orders.{callsigns_total, exact_callsigns}
 use Rattle.room_types.specs.Texts.{Callsign}
 use Rattle.room_types.specs.declared.tables.Assignment.{Assignment}
 use Rattle.room_types.specs.declared.tables.Loan.{Loan}
 use Rattle.room_types.specs.declared.tables.Report.{Report}
 use Rattle.room_types.specs.declared.tables.Turn.{Turn}
 use Rattle.room_types.specs.declared.tables.Vehicle.{Vehicle}
+use Rattle.room_model.proofs.Tests.{row_key}
 use Rattle.room_model.specs.Room.{Room}
 use Rattle.room_model.specs.WellFormed.{AssignmentAgrees, IsWellFormed, LoanAgrees, OpenAgrees, ReportAgrees, TurnAgrees}
 use Rattle.room_store_reads.specs.CrewParts.{HasVehicle}
+
+-- a row that was found at a key is the vehicle's of that callsign
+pub found_here : (c : Callsign) (v : Vehicle) (room : Room)
+    → row_at callsign_cmp vehicle_key room.vehicles c ≡ Some v
+    → (v.callsign ≡ c) × HasVehicle v room
+found_here c v room there =
+    let same : v.callsign ≡ c = sym (row_key callsign_cmp vehicle_key callsigns_total exact_callsigns room.vehicles c v there) in
+    (same, rw (sym same) at there)
 
 pub turn_of_order : (c : Callsign) (room : Room) {n m : ℕ} {found : Option Turn} → n ≡ m
     → found ≡ row_at numbered_cmp turn_key room.turns (c, n)

@@ -1,4 +1,4 @@
-//! The rows of a vehicle that its crew's request may read, loaded by key.
+//! The rows of a vehicle that its crew's requests read, loaded by key.
 ghost use Rattle.std.specs.Prelude.{◌≡◌, IsTrue, is_none};
 ghost use Rattle.sqlite.specs.Held.{state};
 ghost use Rattle.sqlite.specs.State.{HasCleanDisk};
@@ -6,84 +6,93 @@ ghost use Rattle.room_tables.specs.Finding.{Finds};
 ghost use Rattle.room_tables_schema.specs.Connections.{HasRoomSchema};
 ghost use Rattle.room_tables_sql.specs.Outcomes.{ReadsOnly};
 ghost use Rattle.room_types_keyed.specs.Keyed.{keep, row_at};
+ghost use Rattle.room_model.specs.Slices.{AreCrewRows};
 ghost use Rattle.room_model.specs.WellFormed.{IsWellFormed};
-ghost use Rattle.room_types.specs.Keys.{callsign_cmp, loan_key, numbered_cmp, report_key};
-ghost use Rattle.room_store_reads.specs.CrewParts.{HasVehicle, IsSent, IsCrewOf};
+ghost use Rattle.room_types.specs.Keys.{assignment_key, callsign_cmp, loan_key, numbered_cmp, report_key};
+ghost use Rattle.room_store_reads.specs.CrewParts.{HasVehicle, last_open_turn};
 
 use room_tables::loading::row_at;
 use room_tables_schema::faults::Fault;
-use room_types::callsign::Callsign;
 use room_types::crews::CrewRows;
 use room_types::numbers::Number;
 use room_types::tables::{Assignment, Loan, Report, Turn, Vehicle};
 use sqlite::{Alter, Connection};
 
-/// The rows of a vehicle, and of its reports that of one number; none where there is no such
-/// vehicle.
-pub fn load_crew<S: Alter>(
-    conn: &mut Connection<S>,
-    callsign: &Callsign,
-    number: Number,
-) -> Result<Option<CrewRows>, Fault>
-    requires room { HasRoomSchema S.Store conn.old }
-    ensures rows { Finds S.Store conn.old conn.new result (λ room x. IsWellFormed room
-        → IsCrewOf callsign.now number room x) }
-    ensures reads { ReadsOnly S.Store conn.old conn.new result }
-{
-    let found = row_at::<Vehicle, S>(conn, callsign)?;
-    match found {
-        Some(vehicle) => {
-            let sent = load_sent(conn, &vehicle)?;
-            let loan = load_loan(conn, &vehicle)?;
-            let report = load_report(conn, &vehicle, number)?;
-            Ok(Some(CrewRows {
-                vehicle,
-                assignment: sent.assignment,
-                turn: sent.turn,
-                loan,
-                report,
-            }))
-        }
-        None => Ok(None),
-    }
-}
-
-// What the vehicle is sent to.
-#[derive(Drop)]
-struct Sent {
-    assignment: Option<Assignment>,
-    turn: Option<Turn>,
-}
-
-// What a vehicle is sent to, where it is busy: else it has no assignment and no open turn.
-fn load_sent<S: Alter>(conn: &mut Connection<S>, vehicle: &Vehicle) -> Result<Sent, Fault>
+/// What a new report reads of a vehicle that was found: beside its row its open turn and its loan.
+pub fn load_crew<S: Alter>(conn: &mut Connection<S>, vehicle: &Vehicle) -> Result<CrewRows, Fault>
     requires room { HasRoomSchema S.Store conn.old }
     requires open { HasCleanDisk (state S.Store conn.old)
         → IsTrue (state S.Store conn.old).is_open }
     ensures rows { Finds S.Store conn.old conn.new result (λ room x. IsWellFormed room
-        → HasVehicle vehicle.now room → IsSent vehicle.now room x) }
+        → HasVehicle vehicle.now room → (x.vehicle ≡ vehicle.now)
+        × AreCrewRows vehicle.now.callsign room x) }
+    ensures reads { ReadsOnly S.Store conn.old conn.new result }
+{
+    let turn = load_turn(conn, vehicle)?;
+    let loan = load_loan(conn, vehicle)?;
+    Ok(CrewRows {
+        vehicle: *vehicle,
+        turn,
+        loan,
+    })
+}
+
+/// The vehicle's assignment, where it is busy: else it has none.
+pub fn load_assignment<S: Alter>(
+    conn: &mut Connection<S>,
+    vehicle: &Vehicle,
+) -> Result<Option<Assignment>, Fault>
+    requires room { HasRoomSchema S.Store conn.old }
+    requires open { HasCleanDisk (state S.Store conn.old)
+        → IsTrue (state S.Store conn.old).is_open }
+    ensures row { Finds S.Store conn.old conn.new result (λ room x. IsWellFormed room
+        → HasVehicle vehicle.now room
+        → row_at callsign_cmp assignment_key room.assignments vehicle.now.callsign ≡ x) }
     ensures reads { ReadsOnly S.Store conn.old conn.new result }
 {
     if !vehicle.status.is_busy() {
-        return Ok(Sent {
-            assignment: None,
-            turn: None,
-        });
+        return Ok(None);
     }
-    let assignment = row_at::<Assignment, S>(conn, &vehicle.callsign)?;
-    match Number::new(vehicle.last_order.get()) {
-        Some(order) => {
-            let last = row_at::<Turn, S>(conn, &(vehicle.callsign, order))?;
-            Ok(Sent {
-                assignment,
-                turn: not_ended(last),
-            })
-        }
-        None => Ok(Sent {
-            assignment,
-            turn: None,
-        }),
+    row_at::<Assignment, S>(conn, &vehicle.callsign)
+}
+
+/// The vehicle's report of a number, where that isn't above its last: else it has none.
+pub fn load_report<S: Alter>(
+    conn: &mut Connection<S>,
+    vehicle: &Vehicle,
+    number: Number,
+) -> Result<Option<Report>, Fault>
+    requires room { HasRoomSchema S.Store conn.old }
+    requires open { HasCleanDisk (state S.Store conn.old)
+        → IsTrue (state S.Store conn.old).is_open }
+    ensures row { Finds S.Store conn.old conn.new result (λ room x. IsWellFormed room
+        → HasVehicle vehicle.now room
+        → row_at numbered_cmp report_key room.reports (vehicle.now.callsign, number) ≡ x) }
+    ensures reads { ReadsOnly S.Store conn.old conn.new result }
+{
+    if vehicle.last_report.get() < number.get() {
+        return Ok(None);
     }
+    row_at::<Report, S>(conn, &(vehicle.callsign, number))
+}
+
+// The open turn of the vehicle's last order, where it is busy: else it has none.
+fn load_turn<S: Alter>(conn: &mut Connection<S>, vehicle: &Vehicle) -> Result<Option<Turn>, Fault>
+    requires room { HasRoomSchema S.Store conn.old }
+    requires open { HasCleanDisk (state S.Store conn.old)
+        → IsTrue (state S.Store conn.old).is_open }
+    ensures row { Finds S.Store conn.old conn.new result (λ room x. IsWellFormed room
+        → HasVehicle vehicle.now room → last_open_turn vehicle.now room ≡ x) }
+    ensures reads { ReadsOnly S.Store conn.old conn.new result }
+{
+    if !vehicle.status.is_busy() {
+        return Ok(None);
+    }
+    let Some(order) = Number::new(vehicle.last_order.get()) else {
+        return Ok(None);
+    };
+    let last = row_at::<Turn, S>(conn, &(vehicle.callsign, order))?;
+    Ok(not_ended(last))
 }
 
 fn not_ended(turn: Option<Turn>) -> Option<Turn>
@@ -109,24 +118,4 @@ fn load_loan<S: Alter>(conn: &mut Connection<S>, vehicle: &Vehicle) -> Result<Op
         return Ok(None);
     }
     row_at::<Loan, S>(conn, &vehicle.callsign)
-}
-
-// The vehicle's report of a number, where that isn't above its last: else it has none.
-fn load_report<S: Alter>(
-    conn: &mut Connection<S>,
-    vehicle: &Vehicle,
-    number: Number,
-) -> Result<Option<Report>, Fault>
-    requires room { HasRoomSchema S.Store conn.old }
-    requires open { HasCleanDisk (state S.Store conn.old)
-        → IsTrue (state S.Store conn.old).is_open }
-    ensures row { Finds S.Store conn.old conn.new result (λ room x. IsWellFormed room
-        → HasVehicle vehicle.now room
-        → row_at numbered_cmp report_key room.reports (vehicle.now.callsign, number) ≡ x) }
-    ensures reads { ReadsOnly S.Store conn.old conn.new result }
-{
-    if vehicle.last_report.get() < number.get() {
-        return Ok(None);
-    }
-    row_at::<Report, S>(conn, &(vehicle.callsign, number))
 }

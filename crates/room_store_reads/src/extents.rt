@@ -28,7 +28,8 @@ pub enum Extent<K> {
     Everything,
 }
 
-/// As many of the rows that a division owns.
+/// As many of the rows that a division owns. A read tells whether a fault has shut the connection,
+/// so it has to be known to be open only where nothing is read.
 pub fn load_extent<R: Owned, S: Alter>(
     alloc: Global,
     conn: &mut Connection<S>,

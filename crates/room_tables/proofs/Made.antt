@@ -1,25 +1,28 @@
--- The statement of a change makes it.
-use Rattle.std.proofs.Common.{◌≡◌, List, Ordering, ℕ}
+-- The statement of a change makes it, or the two that do.
+use Rattle.std.proofs.Common.{◌≡◌, ◌≢◌, ◌==◌, arith, false, if◌then◌else◌, List, Ok, Ordering, ℕ, ◌∙◌}
+use Rattle.std.proofs.lemmas.Bool.Decides.{nat_tests}
 use Rattle.sqlite_value.specs.Order.{Row}
 use Rattle.sqlite_schema.specs.declared.schema.Table.{Table}
-use Rattle.sqlite.specs.State.{State}
-use Rattle.room_model.specs.Room.{Room}
+use Rattle.sqlite.specs.State.{Executes, State}
+use Rattle.room_model.specs.Room.{Room, apply_one}
 use Rattle.room_types.specs.declared.changes.Change.{Change}
 use Rattle.room_types.specs.declared.changes.Change.TheVariants as change
-use Rattle.room_tables_rows.specs.Tables.{IsDropped, IsTable, Texts}
-use Rattle.room_tables_rows.specs.Writes.{Makes}
-use Rattle.room_tables_rows.proofs.Puts.{drop_makes, put_makes}
+use Rattle.room_tables_sql.specs.Outcomes.{Inside}
+use Rattle.room_tables_schema.specs.Schema.{room_schema}
+use Rattle.room_tables_rows.specs.Tables.{IsDropped, IsOverwritten, IsTable, Texts}
+use Rattle.room_tables_rows.specs.Writes.{Changes, Makes}
+use Rattle.room_tables_rows.proofs.Puts.{drop_makes, overwrite_makes, put_makes}
 use Rattle.room_tables_rows.proofs.DivisionsTable.{divisions_are}
-use Rattle.room_tables_rows.proofs.IncidentsTable.{incidents_are}
+use Rattle.room_tables_rows.proofs.IncidentsTable.{incidents_are, incidents_overwritten}
 use Rattle.room_tables_rows.proofs.CallsTable.{calls_are}
-use Rattle.room_tables_rows.proofs.VehiclesTable.{vehicles_are}
-use Rattle.room_tables_rows.proofs.TurnsTable.{turns_are}
+use Rattle.room_tables_rows.proofs.VehiclesTable.{vehicles_are, vehicles_overwritten}
+use Rattle.room_tables_rows.proofs.TurnsTable.{turns_are, turns_overwritten}
 use Rattle.room_tables_rows.proofs.AssignmentsTable.{assignments_are, assignments_dropped}
 use Rattle.room_tables_rows.proofs.PointsTable.{points_are}
 use Rattle.room_tables_rows.proofs.LoansTable.{loans_are, loans_dropped}
 use Rattle.room_tables_rows.proofs.OffersTable.{offers_are, offers_dropped}
 use Rattle.room_tables_rows.proofs.ReportsTable.{reports_are}
-use Rattle.room_tables.specs.Running.{IsStatement, Ran}
+use Rattle.room_tables.specs.Running.{AreStatements, IsStatement, Ran}
 
 module _ {old new : State} {text : List ℕ} {params : Row} (it : Ran text params old new) where
   module _ {X K : Type 0} {order : K → K → Ordering} {key : X → K} {row : X → Row}
@@ -48,3 +51,41 @@ module _ {old new : State} {text : List ℕ} {params : Row} (it : Ran text param
   makes (change.DropLoan key) same = drops loans_are loans_dropped key same
   makes (change.DropOffer key) same = drops offers_are offers_dropped key same
   makes (change.Settle callsign division) same = absurd same
+
+-- a row was written over, or none was
+abbrev pub Overwrites : State → State → ℕ → Change → Type 0
+Overwrites old new count made = Changes old new (λ house. house)
+    (λ room. if count == 0 then room else apply_one room made)
+
+module _ (old new : State) (text : List ℕ) (params : Row) (count : ℕ)
+    (has : old.now.schema ≡ room_schema) (inside : Inside old new)
+    (ran : Executes text params old new (Ok count)) where
+  overwrites_in : {X K : Type 0} {order : K → K → Ordering} {key : X → K} {row : X → Row}
+      {key_row : K → Row} {table : Table} {rows : Room → List X} {put : X → Change} {texts : Texts}
+      (is : IsTable order key row key_row table rows put texts) (over : List ℕ)
+      → IsOverwritten table row rows over → (x : X) → text ≡ over → params ≡ row x
+      → Overwrites old new count (put x)
+  overwrites_in is over written x same values = overwrite_makes is over written x old new count has inside (rw (same, values) at ran)
+
+  pub overwrites : (put : List ℕ) (made : Change) → AreStatements text put params made
+      → Overwrites old new count made
+  overwrites put (change.PutIncident row) is = overwrites_in incidents_are _ incidents_overwritten row is.0 is.1.1
+  overwrites put (change.PutVehicle row) is = overwrites_in vehicles_are _ vehicles_overwritten row is.0 is.1.1
+  overwrites put (change.PutTurn row) is = overwrites_in turns_are _ turns_overwritten row is.0 is.1.1
+  overwrites put _ is = absurd is.0
+
+-- where one was, that is the change
+pub overwritten : (old new : State) (count : ℕ) (made : Change) → count ≢ 0
+    → Overwrites old new count made → Makes old new made
+overwritten old new count made some over = let is : (count == 0) ≡ false = grind (arith, nat_tests) in rw is at over
+
+-- where none was, it is that of the put after it
+pub put_then : (old mid new : State) (count : ℕ) (made : Change) → count ≡ 0
+    → Overwrites old mid count made → Makes mid new made → Makes old new made
+put_then old mid new count made none over put =
+    let before : Changes old mid (λ house. house) (λ room. room) = rw none at over in
+    record {
+      inside = record { was_open = before.inside.was_open; is_open = put.inside.is_open; now_is = put.inside.now_is; committed_is = put.inside.committed_is ∙ before.inside.committed_is; mode = put.inside.mode };
+      schema = put.schema;
+      stands = λ house room h. put.stands house room (before.stands house room h);
+    }

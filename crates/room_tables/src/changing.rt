@@ -3,10 +3,12 @@
 ghost use Rattle.std.specs.Prelude.{◌≡◌, OnOk};
 ghost use Rattle.sqlite.specs.Held.{state};
 ghost use Rattle.sqlite.specs.State.{HasCleanDisk};
+ghost use Rattle.sqlite.specs.Values.{bound};
 ghost use Rattle.room_tables.specs.Failures.{TellsWhyUnwritten};
-ghost use Rattle.room_tables.specs.Running.{IsWay};
+ghost use Rattle.room_tables.specs.Running.{AreStatements, IsWay};
 ghost use Rattle.room_tables_schema.specs.Connections.{MayWrite};
-ghost use Rattle.room_tables_sql.specs.Outcomes.{WritesInside};
+ghost use Rattle.room_tables_sql.specs.Outcomes.{CommitsNothing, WritesInside};
+ghost use Rattle.room_types.specs.declared.changes.Change.{Change as ChangeModel};
 ghost use Rattle.room_types.specs.declared.changes.Change.TheVariants.{Settle};
 ghost use Rattle.room_tables_rows.specs.Writes.{Makes};
 
@@ -17,21 +19,23 @@ use room_place::plans::DivisionNumber;
 use room_tables_rows::assignments::{DROP_ASSIGNMENT, PUT_ASSIGNMENT};
 use room_tables_rows::calls::PUT_CALL;
 use room_tables_rows::divisions::PUT_DIVISION;
-use room_tables_rows::incidents::PUT_INCIDENT;
+use room_tables_rows::incidents::{OVERWRITE_INCIDENT, PUT_INCIDENT};
 use room_tables_rows::loans::{DROP_LOAN, PUT_LOAN};
 use room_tables_rows::offers::{DROP_OFFER, PUT_OFFER};
 use room_tables_rows::points::PUT_POINT;
 use room_tables_rows::reports::PUT_REPORT;
 use room_tables_rows::rows::{Columns, StoredRow};
-use room_tables_rows::turns::PUT_TURN;
-use room_tables_rows::vehicles::{PUT_VEHICLE, VEHICLE_AT};
+use room_tables_rows::turns::{OVERWRITE_TURN, PUT_TURN};
+use room_tables_rows::vehicles::{OVERWRITE_VEHICLE, PUT_VEHICLE, VEHICLE_AT};
 use room_tables_schema::faults::Fault;
 use room_tables_sql::reading::select_inside;
+use room_tables_sql::writing::write;
 use room_types::callsign::Callsign;
 use room_types::changes::Change;
 use room_types::codes::Status;
 use room_types::tables::{Assignment, Loan, Offer, Vehicle};
 use sqlite::{Alter, Transaction};
+use sqlite_value::value::ValueRef;
 
 /// Puts a row in its key's place.
 pub fn put<X: Table, S: Alter>(tx: &mut Transaction<'_, S>, row: &X) -> Result<(), Fault>
@@ -74,9 +78,11 @@ pub fn settle<S: Alter>(
     )
 }
 
-// How a change is made: by a statement with these values, or by settling a vehicle.
+// How a change is made: by a statement with these values; by one that writes a row over, or by the
+// next, where no row is there; or by settling a vehicle.
 enum Way<'a> {
     Statement(&'static str, Columns<'a>),
+    Overwriting(&'static str, &'static str, Columns<'a>),
     Settling(&'a Callsign, DivisionNumber),
 }
 
@@ -86,10 +92,14 @@ fn way_of(change: &Change) -> Way<'_>
 {
     match change {
         Change::PutDivision(row) => Way::Statement(PUT_DIVISION, row.columns()),
-        Change::PutIncident(row) => Way::Statement(PUT_INCIDENT, row.columns()),
+        Change::PutIncident(row) => Way::Overwriting(
+            OVERWRITE_INCIDENT,
+            PUT_INCIDENT,
+            row.columns(),
+        ),
         Change::PutCall(row) => Way::Statement(PUT_CALL, row.columns()),
-        Change::PutVehicle(row) => Way::Statement(PUT_VEHICLE, row.columns()),
-        Change::PutTurn(row) => Way::Statement(PUT_TURN, row.columns()),
+        Change::PutVehicle(row) => Way::Overwriting(OVERWRITE_VEHICLE, PUT_VEHICLE, row.columns()),
+        Change::PutTurn(row) => Way::Overwriting(OVERWRITE_TURN, PUT_TURN, row.columns()),
         Change::PutAssignment(row) => Way::Statement(PUT_ASSIGNMENT, row.columns()),
         Change::PutPoint(row) => Way::Statement(PUT_POINT, row.columns()),
         Change::PutLoan(row) => Way::Statement(PUT_LOAN, row.columns()),
@@ -104,17 +114,41 @@ fn way_of(change: &Change) -> Way<'_>
     }
 }
 
+// Writes a row over the one with its key, or puts it, where none has that. A row that changes is
+// nearly always there, and an update costs two thirds of an upsert.
+fn overwrite<S: Alter>(
+    tx: &mut Transaction<'_, S>,
+    over: &str,
+    put: &str,
+    values: &[ValueRef<'_>],
+) -> Result<(), Fault>
+    requires inside { MayWrite S.Store tx.old.conn.now }
+    requires statements { (made : ChangeModel)
+        × AreStatements over.now put.now (bound values.now) made }
+    ensures ok { HasCleanDisk (state S.Store tx.new.conn.now)
+        → OnOk result ((made : ChangeModel) → AreStatements over.now put.now (bound values.now) made
+        → Makes (state S.Store tx.old.conn.now) (state S.Store tx.new.conn.now) made) }
+    ensures commits { CommitsNothing S.Store tx.old.conn.now tx.new.conn.now }
+    ensures same_reference { tx.new.conn.ghost_name ≡ tx.old.conn.ghost_name }
+{
+    if write(tx, over, values)? == 0 {
+        return run(tx, put, values);
+    }
+    Ok(())
+}
+
 /// Applies one change of the room's rows.
 pub fn apply<S: Alter>(tx: &mut Transaction<'_, S>, change: &Change) -> Result<(), Fault>
     requires inside { MayWrite S.Store tx.old.conn.now }
     ensures ok { HasCleanDisk (state S.Store tx.new.conn.now)
         → OnOk result (Makes (state S.Store tx.old.conn.now)
         (state S.Store tx.new.conn.now) change.now) }
-    ensures writes { WritesInside S.Store tx.old.conn.now tx.new.conn.now result }
+    ensures commits { CommitsNothing S.Store tx.old.conn.now tx.new.conn.now }
     ensures same_reference { tx.new.conn.ghost_name ≡ tx.old.conn.ghost_name }
 {
     match way_of(change) {
         Way::Statement(text, values) => run(tx, text, values.as_slice()),
+        Way::Overwriting(over, put, values) => overwrite(tx, over, put, values.as_slice()),
         Way::Settling(callsign, division) => settle(tx, callsign, division),
     }
 }

@@ -8,13 +8,13 @@ use Rattle.room_tables_rows.proofs.Tests.{and_six, at_least-integers, at_most-nu
 use Rattle.room_tables_rows.specs.Incidents.{incident_row}
 use Rattle.room_tables_rows.specs.Keys.{pair_cells}
 use Rattle.room_tables_rows.specs.Stands.{House}
-use Rattle.room_tables_rows.specs.Tables.{IsHeld, IsTable, PutsRow, SelectsChosen}
-use Rattle.room_tables_rows.specs.declared.incidents.TheConstants.{ACTIVE_INCIDENTS, ALL_INCIDENTS, INCIDENTS_OPENED, INCIDENTS_SINCE, INCIDENT_AT, PUT_INCIDENT}
+use Rattle.room_tables_rows.specs.Tables.{IsHeld, IsOverwritten, IsTable, PutsRow, SelectsChosen}
+use Rattle.room_tables_rows.specs.declared.incidents.TheConstants.{ACTIVE_INCIDENTS, ALL_INCIDENTS, INCIDENTS_OPENED, INCIDENTS_SINCE, INCIDENT_AT, OVERWRITE_INCIDENT, PUT_INCIDENT}
 use Rattle.room_tables_schema.specs.Schema.{incidents_table, room_schema}
-use Rattle.room_tables_sql.proofs.ColumnValues.{cast-Int, cast-number_or_null}
-use Rattle.room_tables_sql.proofs.Comparisons.{and_last, and_then, at_least-numbers, compare_by, conflict_of_two, equal-by_value, equal-numbers, is_eq-then, tie-numbers}
-use Rattle.room_tables_sql.proofs.StoredRows.{stores_row}
-use Rattle.room_tables_sql.specs.Statements.{Selects, StandsAlone, Stores, Upserts, at_least, below, compares, equals, equals_by_value, row_update, row_values}
+use Rattle.room_tables_sql.proofs.ColumnValues.{AreKept, cast-Int, cast-number_or_null}
+use Rattle.room_tables_sql.proofs.Comparisons.{and_last, and_then, at_least-numbers, compare_by, conflict_of_two, equal-by_value, equal-numbers, is_eq-then, tie-numbers, tie_of_two}
+use Rattle.room_tables_sql.proofs.StoredRows.{covers_row, stores_row}
+use Rattle.room_tables_sql.specs.Statements.{Covers, Overwrites, Selects, StandsAlone, Stores, Upserts, at_least, below, compares, equals, equals_by_value, row_update, row_values}
 use Rattle.room_tables_sql.specs.Typed.{number}
 use Rattle.room_types.specs.Codes.{is_active, state_number}
 use Rattle.room_types.specs.Keys.{incident_key, pair_cmp}
@@ -86,10 +86,13 @@ pub put_incident_means : Upserts room_schema PUT_INCIDENT.now 4 incidents_table 
 unfolding understood everything
 put_incident_means = record { command = refl; plain = (refl, refl) }
 
+incident_kept : (x : Incident) → AreKept incidents_table.columns (incident_row x)
+incident_kept x = (cast-Int _, (cast-Int _, (cast-Int _, (cast-Int _, (cast-Int _, (cast-Int _, (cast-Int _, (cast-Int _, (cast-Int _, (cast-number_or_null _, (cast-Int _, (cast-number_or_null _, tt))))))))))))
+
 pub incident_stores : (x : Incident) → Stores room_schema incidents_table (1 ∷ 2 ∷ 3 ∷ 4 ∷ 5 ∷ 6 ∷ 7 ∷ 8 ∷ 9 ∷ 10 ∷ 11 ∷ 12 ∷ []) (1 ∷ 2 ∷ []) 12 (row_values 12) (row_update 12) (incident_row x)
 unfolding Rattle.sqlite_value.specs.Keys.first_key
 incident_stores x = stores_row room_schema incidents_table (1 ∷ 2 ∷ 3 ∷ 4 ∷ 5 ∷ 6 ∷ 7 ∷ 8 ∷ 9 ∷ 10 ∷ 11 ∷ 12 ∷ []) (1 ∷ 2 ∷ []) 12 (incident_row x)
-    (cast-Int _, (cast-Int _, (cast-Int _, (cast-Int _, (cast-Int _, (cast-Int _, (cast-Int _, (cast-Int _, (cast-Int _, (cast-number_or_null _, (cast-Int _, (cast-number_or_null _, tt)))))))))))) refl (λ id. refl) (λ id r. conflict_of_two (column r 1) (column r 2) (number x.division) (number x.number) refl refl) (λ id r. refl) (λ id r. refl)
+    (incident_kept x) refl (λ id. refl) (λ id r. conflict_of_two (column r 1) (column r 2) (number x.division) (number x.number) refl refl) (λ id r. refl) (λ id r. refl)
 
 pub incident_puts : PutsRow incidents_table incident_row 4 PUT_INCIDENT.now
 incident_puts = record { columns = 12; values = row_values 12; update = row_update 12; upserts = put_incident_means; stores = incident_stores }
@@ -102,3 +105,14 @@ incidents_are = record {
   puts = incident_puts;
   leads = λ old new house room x h only is. with_incidents old new house room h only _ is;
 }
+
+pub overwrite_incident_means : Overwrites room_schema OVERWRITE_INCIDENT.now 4 incidents_table (1 ∷ 2 ∷ []) 12
+unfolding understood everything
+overwrite_incident_means = record { command = refl; plain = (refl, refl) }
+
+pub incident_covers : (x : Incident) → Covers incidents_table (1 ∷ 2 ∷ 3 ∷ 4 ∷ 5 ∷ 6 ∷ 7 ∷ 8 ∷ 9 ∷ 10 ∷ 11 ∷ 12 ∷ []) (1 ∷ 2 ∷ []) 12 (incident_row x)
+unfolding Rattle.sqlite_value.specs.Keys.first_key
+incident_covers x = covers_row room_schema incidents_table (1 ∷ 2 ∷ 3 ∷ 4 ∷ 5 ∷ 6 ∷ 7 ∷ 8 ∷ 9 ∷ 10 ∷ 11 ∷ 12 ∷ []) (1 ∷ 2 ∷ []) 12 (incident_row x) (incident_kept x) (λ id. refl) (λ r. tie_of_two (column r 1) (column r 2) (number x.division) (number x.number) refl refl) (λ r. refl)
+
+pub incidents_overwritten : IsOverwritten incidents_table incident_row (λ room. room.incidents) OVERWRITE_INCIDENT.now
+incidents_overwritten = record { at = 4; alone = incidents_alone; columns = 12; overwrites = overwrite_incident_means; covers = incident_covers; stays = λ old new house room h only is. with_incidents old new house room h only _ is }

@@ -1,5 +1,6 @@
--- From an upsert or a deletion to the house and the room that the tables stand for afterwards.
-use Rattle.std.proofs.Common.{◌≡◌, ℕ, List, Bool, Ok, ◌∙◌, Ordering, is_eq}
+-- From an upsert, an update or a deletion to the house and the room that the tables stand for
+-- afterwards.
+use Rattle.std.proofs.Common.{◌≡◌, ◌==◌, ℕ, List, Bool, true, false, if◌then◌else◌, Ok, ◌∙◌, Ordering, is_eq}
 use Rattle.sqlite_value.specs.Order.{Row}
 use Rattle.sqlite_schema.specs.declared.schema.Table.{Table}
 use Rattle.sqlite.specs.Effect.{Database}
@@ -8,13 +9,14 @@ use Rattle.room_types_keyed.specs.Keyed.{put_row, drop_row}
 use Rattle.room_types.specs.declared.changes.Change.{Change}
 use Rattle.room_tables_sql.specs.Outcomes.{Inside, Only}
 use Rattle.room_tables_sql.specs.Statements.{StandsAlone}
-use Rattle.room_tables_sql.proofs.TypedTables.{upsert_puts, deletion_drops}
+use Rattle.room_tables_sql.proofs.TypedTables.{upsert_puts, overwrite_puts, deletion_drops}
+use Rattle.room_tables_sql.proofs.Overwrites.{overwritten}
 use Rattle.room_tables_sql.proofs.Upserts.{upserted_schema}
 use Rattle.room_tables_sql.proofs.Deletions.{deleted}
 use Rattle.room_model.specs.Room.{Room, apply_one}
 use Rattle.room_tables_schema.specs.Schema.{room_schema}
 use Rattle.room_tables_rows.specs.Stands.{House, Stands, StandsFor, places}
-use Rattle.room_tables_rows.specs.Tables.{DeletesChosen, IsDropped, IsHeld, IsTable, PutsRow, Texts}
+use Rattle.room_tables_rows.specs.Tables.{DeletesChosen, IsDropped, IsHeld, IsOverwritten, IsTable, PutsRow, Texts}
 use Rattle.room_tables_rows.specs.Writes.{Changes, Makes}
 
 module _ {X K : Type 0} {order : K → K → Ordering} {key : X → K} {row : X → Row} {table : Table}
@@ -64,7 +66,31 @@ module _ {X K : Type 0} {order : K → K → Ordering} {key : X → K} {row : X 
       → Inside old new → Executes texts.put (row x) old new (Ok count) → Makes old new (put x)
   put_makes x = put_changes is.is_held texts.put is.puts x (λ house. house) (λ room. apply_one room (put x)) (λ old new house room. is.leads old new house room x)
 
-  -- .. and so is a drop
+  -- .. and so is a row that is written over, where one was there
+  pub overwrite_makes : (text : List ℕ) → IsOverwritten table row rows text → (x : X)
+      (old new : State) (count : ℕ) → old.now.schema ≡ room_schema → Inside old new
+      → Executes text (row x) old new (Ok count)
+      → Changes old new (λ house. house)
+      (λ room. if count == 0 then room else apply_one room (put x))
+  overwrite_makes text over x old new count has inside ran =
+      record {
+        inside = inside;
+        schema = (overwritten room_schema text over.at table over.alone (places table) table.primary over.columns over.overwrites (row x) (over.covers x) old new count has ran).0.schema_is ∙ has;
+        stands = λ house room h.
+            let it = overwrite_puts order key row room_schema text old new over.at table (places table) table.primary over.columns count x (rows room) over.alone over.overwrites is.is_held.faithful (over.covers x) has ran
+            (is.is_held.held old.now.trees house room h) in
+            after house room h it.0 (count == 0) it.1;
+      }
+    where
+      after : (house : House) (room : Room) → Stands old.now.trees house room
+          → Only room_schema table.tree old.now new.now → (none : Bool)
+          → StandsFor new.now.trees table row
+          (if none then rows room else put_row order key (rows room) x)
+          → Stands new.now.trees house (if none then room else apply_one room (put x))
+      after house room h only true now = over.stays old.now new.now house room h only now
+      after house room h only false now = is.leads old.now new.now house room x h only now
+
+  -- .. and a drop
   pub drop_makes : (drop : K → Change) (text : List ℕ)
       → IsDropped order key row key_row table rows drop text
       → (k : K) (old new : State) (count : ℕ) → old.now.schema ≡ room_schema → Inside old new

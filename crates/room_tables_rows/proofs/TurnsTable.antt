@@ -5,14 +5,14 @@ use Rattle.room_tables_rows.proofs.Loads.{Shows, chosen_rows}
 use Rattle.room_tables_rows.proofs.RowLaws.{turn_faithful}
 use Rattle.room_tables_rows.specs.Keys.{numbered_cells}
 use Rattle.room_tables_rows.specs.Stands.{House}
-use Rattle.room_tables_rows.specs.Tables.{IsHeld, IsTable, PutsRow, SelectsChosen}
+use Rattle.room_tables_rows.specs.Tables.{IsHeld, IsOverwritten, IsTable, PutsRow, SelectsChosen}
 use Rattle.room_tables_rows.specs.Turns.{turn_row}
-use Rattle.room_tables_rows.specs.declared.turns.TheConstants.{ALL_TURNS, PUT_TURN, TURNS_OF, TURN_AT}
+use Rattle.room_tables_rows.specs.declared.turns.TheConstants.{ALL_TURNS, OVERWRITE_TURN, PUT_TURN, TURNS_OF, TURN_AT}
 use Rattle.room_tables_schema.specs.Schema.{room_schema, turns_table}
-use Rattle.room_tables_sql.proofs.ColumnValues.{cast-Int, cast-number_or_null}
-use Rattle.room_tables_sql.proofs.Comparisons.{and_last, and_then, conflict_of_two, equal-numbers, is_eq-then, tie-numbers, tie-texts}
-use Rattle.room_tables_sql.proofs.StoredRows.{stores_row}
-use Rattle.room_tables_sql.specs.Statements.{Selects, StandsAlone, Stores, Upserts, equals, row_update, row_values}
+use Rattle.room_tables_sql.proofs.ColumnValues.{AreKept, cast-Int, cast-number_or_null}
+use Rattle.room_tables_sql.proofs.Comparisons.{and_last, and_then, conflict_of_two, equal-numbers, is_eq-then, tie-numbers, tie-texts, tie_of_two}
+use Rattle.room_tables_sql.proofs.StoredRows.{covers_row, stores_row}
+use Rattle.room_tables_sql.specs.Statements.{Covers, Overwrites, Selects, StandsAlone, Stores, Upserts, equals, row_update, row_values}
 use Rattle.room_tables_sql.specs.Typed.{number}
 use Rattle.room_types.specs.Keys.{callsign_cmp, numbered_cmp, turn_key}
 use Rattle.room_types.specs.Texts.{Callsign}
@@ -61,10 +61,13 @@ pub put_turn_means : Upserts room_schema PUT_TURN.now 7 turns_table (1 ∷ 2 ∷
 unfolding understood everything
 put_turn_means = record { command = refl; plain = (refl, refl) }
 
+turn_kept : (x : Turn) → AreKept turns_table.columns (turn_row x)
+turn_kept x = (refl, (cast-Int _, (cast-Int _, (cast-Int _, (cast-Int _, (cast-Int _, (cast-number_or_null _, (cast-number_or_null _, (cast-number_or_null _, (cast-number_or_null _, (cast-number_or_null _, (cast-Int _, tt))))))))))))
+
 pub turn_stores : (x : Turn) → Stores room_schema turns_table (1 ∷ 2 ∷ 3 ∷ 4 ∷ 5 ∷ 6 ∷ 7 ∷ 8 ∷ 9 ∷ 10 ∷ 11 ∷ 12 ∷ []) (1 ∷ 2 ∷ []) 12 (row_values 12) (row_update 12) (turn_row x)
 unfolding Rattle.sqlite_value.specs.Keys.first_key
 turn_stores x = stores_row room_schema turns_table (1 ∷ 2 ∷ 3 ∷ 4 ∷ 5 ∷ 6 ∷ 7 ∷ 8 ∷ 9 ∷ 10 ∷ 11 ∷ 12 ∷ []) (1 ∷ 2 ∷ []) 12 (turn_row x)
-    (refl, (cast-Int _, (cast-Int _, (cast-Int _, (cast-Int _, (cast-Int _, (cast-number_or_null _, (cast-number_or_null _, (cast-number_or_null _, (cast-number_or_null _, (cast-number_or_null _, (cast-Int _, tt)))))))))))) refl (λ id. refl) (λ id r. conflict_of_two (column r 1) (column r 2) (Text x.callsign) (number x.order) refl refl) (λ id r. refl) (λ id r. refl)
+    (turn_kept x) refl (λ id. refl) (λ id r. conflict_of_two (column r 1) (column r 2) (Text x.callsign) (number x.order) refl refl) (λ id r. refl) (λ id r. refl)
 
 pub turn_puts : PutsRow turns_table turn_row 7 PUT_TURN.now
 turn_puts = record { columns = 12; values = row_values 12; update = row_update 12; upserts = put_turn_means; stores = turn_stores }
@@ -77,3 +80,14 @@ turns_are = record {
   puts = turn_puts;
   leads = λ old new house room x h only is. with_turns old new house room h only _ is;
 }
+
+pub overwrite_turn_means : Overwrites room_schema OVERWRITE_TURN.now 7 turns_table (1 ∷ 2 ∷ []) 12
+unfolding understood everything
+overwrite_turn_means = record { command = refl; plain = (refl, refl) }
+
+pub turn_covers : (x : Turn) → Covers turns_table (1 ∷ 2 ∷ 3 ∷ 4 ∷ 5 ∷ 6 ∷ 7 ∷ 8 ∷ 9 ∷ 10 ∷ 11 ∷ 12 ∷ []) (1 ∷ 2 ∷ []) 12 (turn_row x)
+unfolding Rattle.sqlite_value.specs.Keys.first_key
+turn_covers x = covers_row room_schema turns_table (1 ∷ 2 ∷ 3 ∷ 4 ∷ 5 ∷ 6 ∷ 7 ∷ 8 ∷ 9 ∷ 10 ∷ 11 ∷ 12 ∷ []) (1 ∷ 2 ∷ []) 12 (turn_row x) (turn_kept x) (λ id. refl) (λ r. tie_of_two (column r 1) (column r 2) (Text x.callsign) (number x.order) refl refl) (λ r. refl)
+
+pub turns_overwritten : IsOverwritten turns_table turn_row (λ room. room.turns) OVERWRITE_TURN.now
+turns_overwritten = record { at = 7; alone = turns_alone; columns = 12; overwrites = overwrite_turn_means; covers = turn_covers; stays = λ old new house room h only is. with_turns old new house room h only _ is }

@@ -4,14 +4,14 @@ use Rattle.room_tables_rows.proofs.Kept.{with_vehicles}
 use Rattle.room_tables_rows.proofs.RowLaws.{vehicle_faithful}
 use Rattle.room_tables_rows.specs.Keys.{text_cells}
 use Rattle.room_tables_rows.specs.Stands.{House}
-use Rattle.room_tables_rows.specs.Tables.{IsHeld, IsTable, PutsRow, SelectsChosen}
+use Rattle.room_tables_rows.specs.Tables.{IsHeld, IsOverwritten, IsTable, PutsRow, SelectsChosen}
 use Rattle.room_tables_rows.specs.Vehicles.{vehicle_row}
-use Rattle.room_tables_rows.specs.declared.vehicles.TheConstants.{ALL_VEHICLES, PUT_VEHICLE, VEHICLES_HELD, VEHICLE_AT}
+use Rattle.room_tables_rows.specs.declared.vehicles.TheConstants.{ALL_VEHICLES, OVERWRITE_VEHICLE, PUT_VEHICLE, VEHICLES_HELD, VEHICLE_AT}
 use Rattle.room_tables_schema.specs.Schema.{room_schema, vehicles_table}
-use Rattle.room_tables_sql.proofs.ColumnValues.{cast-Int, cast-number_or_null}
-use Rattle.room_tables_sql.proofs.Comparisons.{and_last, conflict_of_one, equal-numbers, tie-texts}
-use Rattle.room_tables_sql.proofs.StoredRows.{stores_row}
-use Rattle.room_tables_sql.specs.Statements.{Selects, StandsAlone, Stores, Upserts, equals, row_update, row_values}
+use Rattle.room_tables_sql.proofs.ColumnValues.{AreKept, cast-Int, cast-number_or_null}
+use Rattle.room_tables_sql.proofs.Comparisons.{and_last, conflict_of_one, equal-numbers, tie-texts, tie_of_one}
+use Rattle.room_tables_sql.proofs.StoredRows.{covers_row, stores_row}
+use Rattle.room_tables_sql.specs.Statements.{Covers, Overwrites, Selects, StandsAlone, Stores, Upserts, equals, row_update, row_values}
 use Rattle.room_tables_sql.specs.Typed.{number}
 use Rattle.room_types.specs.Keys.{callsign_cmp, owns_vehicle, vehicle_key}
 use Rattle.room_types.specs.Texts.{Callsign}
@@ -57,10 +57,13 @@ pub put_vehicle_means : Upserts room_schema PUT_VEHICLE.now 6 vehicles_table (1 
 unfolding understood everything
 put_vehicle_means = record { command = refl; plain = (refl, refl) }
 
+vehicle_kept : (x : Vehicle) → AreKept vehicles_table.columns (vehicle_row x)
+vehicle_kept x = (refl, (cast-Int _, (cast-Int _, (cast-Int _, (cast-Int _, (cast-Int _, (cast-Int _, (cast-Int _, (cast-number_or_null _, (cast-Int _, (cast-Int _, tt)))))))))))
+
 pub vehicle_stores : (x : Vehicle) → Stores room_schema vehicles_table (1 ∷ 2 ∷ 3 ∷ 4 ∷ 5 ∷ 6 ∷ 7 ∷ 8 ∷ 9 ∷ 10 ∷ 11 ∷ []) (1 ∷ []) 11 (row_values 11) (row_update 11) (vehicle_row x)
 unfolding Rattle.sqlite_value.specs.Keys.first_key
 vehicle_stores x = stores_row room_schema vehicles_table (1 ∷ 2 ∷ 3 ∷ 4 ∷ 5 ∷ 6 ∷ 7 ∷ 8 ∷ 9 ∷ 10 ∷ 11 ∷ []) (1 ∷ []) 11 (vehicle_row x)
-    (refl, (cast-Int _, (cast-Int _, (cast-Int _, (cast-Int _, (cast-Int _, (cast-Int _, (cast-Int _, (cast-number_or_null _, (cast-Int _, (cast-Int _, tt))))))))))) refl (λ id. refl) (λ id r. conflict_of_one (column r 1) (Text x.callsign) refl) (λ id r. refl) (λ id r. refl)
+    (vehicle_kept x) refl (λ id. refl) (λ id r. conflict_of_one (column r 1) (Text x.callsign) refl) (λ id r. refl) (λ id r. refl)
 
 pub vehicle_puts : PutsRow vehicles_table vehicle_row 6 PUT_VEHICLE.now
 vehicle_puts = record { columns = 11; values = row_values 11; update = row_update 11; upserts = put_vehicle_means; stores = vehicle_stores }
@@ -73,3 +76,14 @@ vehicles_are = record {
   puts = vehicle_puts;
   leads = λ old new house room x h only is. with_vehicles old new house room h only _ is;
 }
+
+pub overwrite_vehicle_means : Overwrites room_schema OVERWRITE_VEHICLE.now 6 vehicles_table (1 ∷ []) 11
+unfolding understood everything
+overwrite_vehicle_means = record { command = refl; plain = (refl, refl) }
+
+pub vehicle_covers : (x : Vehicle) → Covers vehicles_table (1 ∷ 2 ∷ 3 ∷ 4 ∷ 5 ∷ 6 ∷ 7 ∷ 8 ∷ 9 ∷ 10 ∷ 11 ∷ []) (1 ∷ []) 11 (vehicle_row x)
+unfolding Rattle.sqlite_value.specs.Keys.first_key
+vehicle_covers x = covers_row room_schema vehicles_table (1 ∷ 2 ∷ 3 ∷ 4 ∷ 5 ∷ 6 ∷ 7 ∷ 8 ∷ 9 ∷ 10 ∷ 11 ∷ []) (1 ∷ []) 11 (vehicle_row x) (vehicle_kept x) (λ id. refl) (λ r. tie_of_one (column r 1) (Text x.callsign) refl) (λ r. refl)
+
+pub vehicles_overwritten : IsOverwritten vehicles_table vehicle_row (λ room. room.vehicles) OVERWRITE_VEHICLE.now
+vehicles_overwritten = record { at = 6; alone = vehicles_alone; columns = 11; overwrites = overwrite_vehicle_means; covers = vehicle_covers; stays = λ old new house room h only is. with_vehicles old new house room h only _ is }

@@ -8,7 +8,7 @@ use Rattle.sqlite_sql.specs.Term.{Term}
 use Rattle.sqlite_schema.specs.declared.schema.Table.{Table}
 use Rattle.sqlite.specs.Effect.{Database}
 use Rattle.room_tables_sql.specs.Outcomes.{Only}
-use Rattle.room_tables_sql.specs.Statements.{passes, Selects, StandsAlone, Deletes, Upserts, Stores}
+use Rattle.room_tables_sql.specs.Statements.{passes, Selects, StandsAlone, Deletes, Upserts, Stores, Overwrites, Covers}
 use Rattle.room_tables_sql.specs.Tables.{cells}
 use Rattle.room_tables_sql.specs.Typed.{IsFaithful}
 use Rattle.room_types_keyed.specs.Keyed.{put_row, drop_row}
@@ -57,6 +57,18 @@ module _ {X : Type 0} (table : Table) (row : X → Row) where
     pub upserts : Upserts room_schema text at table table.primary columns values update
     pub stores : (x : X) → Stores room_schema table
         (places table) table.primary columns values update (row x)
+
+module _ {X : Type 0} (table : Table) (row : X → Row) (rows : Room → List X) where
+  -- The text writes a row over the one with its key. Where none has that, the room is as before.
+  pub record IsOverwritten (text : List ℕ) : Type 0 where
+    pub at : ℕ
+    pub alone : StandsAlone room_schema at table
+    pub columns : ℕ
+    pub overwrites : Overwrites room_schema text at table table.primary columns
+    pub covers : (x : X) → Covers table (places table) table.primary columns (row x)
+    pub stays : (old new : Database) (house : House) (room : Room)
+        → Stands old.trees house room → Only room_schema table.tree old new
+        → StandsFor new.trees table row (rows room) → Stands new.trees house room
 
 -- the statements that every table of the room's rows has: all rows, the row of a key, and the put
 -- of a row

@@ -115,3 +115,8 @@ pub const PUT_INCIDENT: &str = "INSERT INTO incidents VALUES (?1, ?2, ?3, ?4, ?5
     need1 = excluded.need1, need2 = excluded.need2, need3 = excluded.need3, \
     opened = excluded.opened, first_order = excluded.first_order, state = excluded.state, \
     into_number = excluded.into_number";
+
+pub const OVERWRITE_INCIDENT: &str = "UPDATE incidents SET division = ?1, number = ?2, \
+    east = ?3, north = ?4, class = ?5, need1 = ?6, need2 = ?7, need3 = ?8, opened = ?9, \
+    first_order = ?10, state = ?11, into_number = ?12 \
+    WHERE division = ?1 AND number = ?2";

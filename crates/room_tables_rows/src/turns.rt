@@ -78,3 +78,8 @@ pub const PUT_TURN: &str = "INSERT INTO turns VALUES (?1, ?2, ?3, ?4, ?5, ?6, ?7
     ordered = excluded.ordered, acknowledged = excluded.acknowledged, scene = excluded.scene, \
     left_at = excluded.left_at, hospital = excluded.hospital, ended = excluded.ended, \
     stood_down = excluded.stood_down";
+
+pub const OVERWRITE_TURN: &str = "UPDATE turns SET callsign = ?1, ord = ?2, division = ?3, \
+    incident = ?4, kind = ?5, ordered = ?6, acknowledged = ?7, scene = ?8, left_at = ?9, \
+    hospital = ?10, ended = ?11, stood_down = ?12 \
+    WHERE callsign = ?1 AND ord = ?2";

@@ -71,3 +71,8 @@ pub const PUT_VEHICLE: &str = "INSERT INTO vehicles VALUES (?1, ?2, ?3, ?4, ?5, 
     holder = excluded.holder, kind = excluded.kind, east = excluded.east, \
     north = excluded.north, status = excluded.status, shift_end = excluded.shift_end, \
     post = excluded.post, last_order = excluded.last_order, last_report = excluded.last_report";
+
+pub const OVERWRITE_VEHICLE: &str = "UPDATE vehicles SET callsign = ?1, home = ?2, \
+    holder = ?3, kind = ?4, east = ?5, north = ?6, status = ?7, shift_end = ?8, post = ?9, \
+    last_order = ?10, last_report = ?11 \
+    WHERE callsign = ?1";

@@ -141,16 +141,25 @@ pub key_of_two : {o p q r : Ordering} → o ≡ p → q ≡ r
     → ordering_then o (ordering_then q Equal) ≡ ordering_then p r
 key_of_two {q} e f i = ordering_then (e i) (key_of_one f i)
 
--- a row is in the way of a new one where the key ties, of one column or of two
+-- the key of a row is that of another, of one column or of two
+pub tie_of_one : (a b : Value) → is_null b ≡ false
+    → (equal Binary a b && true) ≡ is_eq (ordering_then (value_cmp a b) Equal)
+tie_of_one a b k = and_last (equal-value_cmp a b k) ∙ ap is_eq (sym (then-Equal (value_cmp a b)))
+
+pub tie_of_two : (a b c d : Value) → is_null c ≡ false → is_null d ≡ false
+    → (equal Binary a c && (equal Binary b d && true))
+    ≡ is_eq (ordering_then (value_cmp a c) (ordering_then (value_cmp b d) Equal))
+tie_of_two a b c d j k = and_then (equal-value_cmp a c j) (tie_of_one b d k) ∙ sym (is_eq-then (value_cmp a c) _)
+
+-- a row is in the way of a new one where the key ties
 pub conflict_of_one : (a b : Value) → is_null b ≡ false
     → ((equal Binary a b && true) || false) ≡ is_eq (ordering_then (value_cmp a b) Equal)
-conflict_of_one a b k = or_false _ ∙ and_last (equal-value_cmp a b k) ∙ ap is_eq (sym (then-Equal (value_cmp a b)))
+conflict_of_one a b k = or_false _ ∙ tie_of_one a b k
 
 pub conflict_of_two : (a b c d : Value) → is_null c ≡ false → is_null d ≡ false
     → ((equal Binary a c && (equal Binary b d && true)) || false)
     ≡ is_eq (ordering_then (value_cmp a c) (ordering_then (value_cmp b d) Equal))
-conflict_of_two a b c d j k =
-    or_false _ ∙ and_then (equal-value_cmp a c j) (and_last (equal-value_cmp b d k) ∙ ap is_eq (sym (then-Equal (value_cmp b d)))) ∙ sym (is_eq-then (value_cmp a c) _)
+conflict_of_two a b c d j k = or_false _ ∙ tie_of_two a b c d j k
 
 int_present : (v : Value) → is_int v ≡ true → is_null v ≡ false
 int_present Null h = absurd (true≢false (sym h))

@@ -1,6 +1,7 @@
 -- What a tree stands for: one list alone, and after an edit what the edit makes of that list.
-use Rattle.std.proofs.Common.{◌≡◌, ℕ, ℤ, List, [], ◌∷◌, map, filter, Bool, true, false, not, sym, subst, ◌∙◌, Ordering, is_eq, IsPermutation}
+use Rattle.std.proofs.Common.{◌≡◌, ℕ, ℤ, List, [], ◌∷◌, map, filter, Bool, true, false, not, sym, ap, subst, ◌∙◌, Ordering, is_eq, IsPermutation}
 use Rattle.std.specs.Cmp.{IsTotalOrder}
+use Rattle.std.proofs.lemmas.Cmp.{tied_back}
 use Rattle.std.proofs.lemmas.List.Sorted.{IsPermutation-refl, IsPermutation-trans, IsPermutation-sym, IsPermutation-map, IsPermutation-cons}
 use Rattle.sqlite_value.specs.Order.{Row}
 use Rattle.sqlite_trees.specs.Tree.{rowid, put_row}
@@ -11,6 +12,7 @@ use Rattle.sqlite_sql.proofs.QueryLemmas.{key_cmp_total}
 use Rattle.sqlite_rules.specs.Lists.{Has}
 use Rattle.sqlite_rules.specs.Edit.{id_in, without_all, is_taken}
 use Rattle.room_tables_sql.specs.Tables.{cells, keys, Holds, put_in, drop_from}
+use Rattle.room_tables_sql.proofs.Comparisons.{is_Equal}
 use Rattle.room_tables_sql.proofs.Rising.{unique, has_permuted, distinct_in, one_image, rises-put_in, rises-filter, put_in_has}
 use Rattle.room_tables_sql.proofs.Numbered.{put_row_has, numbered-put_row, numbered-filter, without_all-passing}
 
@@ -41,6 +43,14 @@ module _ (places key : List ℕ) where
   pub one_key : (tree rows : List Row) (a b : Row) → Holds places key tree rows → Has tree a
       → Has tree b → is_eq (cmp (cells places a) (cells places b)) ≡ true → a ≡ b
   one_key tree rows a b h = one_image cmp total (cells places) tree a b (distinct_in cmp total rows (map (cells places) tree) (IsPermutation-sym _ _ h.same) h.rises)
+
+  -- so are two with the key of a row
+  pub one_tied : (tree rows : List Row) (test : Row → Bool) (x a b : Row)
+      → Holds places key tree rows → ((r : Row) → test r ≡ is_eq (cmp (cells places r) x))
+      → Has tree a → Has tree b → test a ≡ true → test b ≡ true → a ≡ b
+  one_tied tree rows test x a b h tells p q s t =
+      let tie = λ (r : Row) (e : test r ≡ true). is_Equal _ (sym (tells r) ∙ e) in
+      one_key tree rows a b h p q (ap is_eq (total.congr _ _ (cells places b) (tie a s) ∙ tied_back total _ _ (tie b t)))
 
   -- the rows that pass are deleted
   pub holds-without_all : (tree next rows : List Row) (test shows : Row → Bool) (ids : List ℤ)

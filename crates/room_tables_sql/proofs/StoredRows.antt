@@ -1,4 +1,4 @@
--- What the upsert of one row stores, for the two kinds of keys.
+-- What the upsert of one row stores, for the two kinds of keys, and what its update writes over.
 use Rattle.std.proofs.Common.{◌≡◌, ◌+◌, ◌/◌, ℕ, ℤ, List, [], ◌∷◌, ◌++◌, length, Some, ap, ◌∙◌, is_eq}
 use Rattle.sqlite_value.specs.declared.value.Value.{Value}
 use Rattle.sqlite_value.specs.declared.value.Value.TheVariants.{Null, Int}
@@ -16,7 +16,7 @@ use Rattle.sqlite_rules.specs.Edit.{with_rowid}
 use Rattle.sqlite.specs.Effect.{value_rows}
 use Rattle.sqlite.specs.Rows.{shown, stamped}
 use Rattle.room_tables_sql.specs.Tables.{cells, keys}
-use Rattle.room_tables_sql.specs.Statements.{Stores, row_values, row_update, rowid_values, rowid_update}
+use Rattle.room_tables_sql.specs.Statements.{Stores, Covers, passes, row_values, row_update, rowid_values, rowid_update, own_key, own_update}
 use Rattle.room_tables_sql.proofs.ColumnValues.{AreKept, cast_all-kept, cast-Int, cast-Null}
 
 module _ (schema : Schema) (table : Table) (places key : List ℕ) (columns : ℕ) where
@@ -46,6 +46,19 @@ module _ (schema : Schema) (table : Table) (places key : List ℕ) (columns : �
         over_names = over_names;
         over_shows = λ r. ap (cells places) (is_cast (rowid r)) ∙ shows (cast Integer (rowid r));
       }
+
+  -- written over, it stands there too
+  pub covers_row : (row : Row) → AreKept table.columns row
+      → ((id : Value) → cells places (id ∷ row) ≡ row)
+      → ((r : Row) → passes (own_key key) row r
+      ≡ is_eq (key_cmp 0 (keys key) (cells places r) row))
+      → ((r : Row) → eval_all (own_update columns) (row ∷ r ∷ []) ≡ rowid r ∷ rowid r ∷ row)
+      → Covers table places key columns row
+  covers_row row kept shows finds over_is = record {
+    finds = finds;
+    over_is = over_is;
+    over_shows = λ id. (λ i. cells places (cast Integer id ∷ cast_all-kept table.columns row kept i)) ∙ shows (cast Integer id);
+  }
 
   -- the first column is the rowid, and its own place is empty
   pub stores_rowid : (id : ℤ) (row : Row) → AreKept table.columns (Null ∷ row)

@@ -1,5 +1,5 @@
 -- From rows of SQL to rows of a type: the same order, put, drop and selection.
-use Rattle.std.proofs.Common.{◌≡◌, ℕ, List, [], ◌∷◌, map, filter, Bool, not, cond, refl, sym, ap, subst, ◌∙◌, Ordering, Less, Equal, Greater, is_eq}
+use Rattle.std.proofs.Common.{◌≡◌, ℕ, List, [], ◌∷◌, map, filter, Bool, true, false, not, cond, if◌then◌else◌, refl, sym, ap, subst, ◌∙◌, Ordering, Less, Equal, Greater, is_eq}
 use Rattle.std.specs.List.{AllByRecursion}
 use Rattle.std.specs.Cmp.{IsTotalOrder}
 use Rattle.std.specs.Ordering.{match_ordering, ordering_reverse}
@@ -111,6 +111,14 @@ module _ {X K : Type 0} (order : K → K → Ordering) (key : X → K) (row : X 
       → Holds places key_places tree (put_in cmp (row new) (map row xs))
       → Holds places key_places tree (map row (put_row order key xs new))
   holds-put new xs = subst (Holds places key_places tree) (put_typed order key row cmp faithful.ordered faithful.total new xs)
+
+  -- an update puts it, or writes none
+  pub holds-put_if : (none : Bool) (new : X) (xs : List X)
+      → Holds places key_places tree
+      (if none then map row xs else put_in cmp (row new) (map row xs))
+      → Holds places key_places tree (map row (if none then xs else put_row order key xs new))
+  holds-put_if true new xs h = h
+  holds-put_if false new xs h = holds-put new xs h
 
   -- a deletion of the rows with a key drops that key's row
   pub holds-drop : (k : K) (test : Row → Bool) → ((x : X) → test (row x) ≡ is_eq (order k (key x)))

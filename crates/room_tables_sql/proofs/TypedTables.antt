@@ -1,13 +1,14 @@
 -- The statements on a table that stands for a list of typed rows in key order.
-use Rattle.std.proofs.Common.{ℕ, List, map, ◌∙◌, Ordering}
+use Rattle.std.proofs.Common.{◌==◌, ℕ, List, map, ◌∙◌, Ordering}
 use Rattle.sqlite_value.specs.Order.{Row}
 use Rattle.sqlite_schema.specs.declared.schema.Schema.{Schema}
 use Rattle.sqlite.specs.State.{State}
-use Rattle.room_tables_sql.specs.Laws.{StandsForOne, SelectionIsChosen, UpsertPuts, DeletionDrops}
+use Rattle.room_tables_sql.specs.Laws.{StandsForOne, SelectionIsChosen, UpsertPuts, OverwritePuts, DeletionDrops}
 use Rattle.room_tables_sql.proofs.Selections.{selected}
 use Rattle.room_tables_sql.proofs.Deletions.{deleted}
+use Rattle.room_tables_sql.proofs.Overwrites.{overwritten}
 use Rattle.room_tables_sql.proofs.Upserts.{upserted}
-use Rattle.room_tables_sql.proofs.TypedRows.{holds_one_typed, holds-put, holds-drop, keyed_held, read_chosen}
+use Rattle.room_tables_sql.proofs.TypedRows.{holds_one_typed, holds-put, holds-put_if, holds-drop, keyed_held, read_chosen}
 
 module _ {X K : Type 0} (order : K → K → Ordering) (key : X → K) (row : X → Row) where
   pub stands_for_one : StandsForOne order key row
@@ -22,6 +23,11 @@ module _ {X K : Type 0} (order : K → K → Ordering) (key : X → K) (row : X 
     upsert_puts at table places key_places columns values update count x xs alone means faithful stores has ran h =
         let it = upserted schema text at table alone places key_places columns values update means (row x) stores old new count has ran (map row xs) h in
         (it.0, holds-put order key row places key_places faithful (new.now.trees table.tree) x xs it.1)
+
+    pub overwrite_puts : OverwritePuts order key row schema text old new
+    overwrite_puts at table places key_places columns count x xs alone means faithful covers has ran h =
+        let it = overwritten schema text at table alone places key_places columns means (row x) covers old new count has ran in
+        (it.0, holds-put_if order key row places key_places faithful (new.now.trees table.tree) (count == 0) x xs (it.1 (map row xs) h))
 
     pub deletion_drops : DeletionDrops order key row schema text old new
     deletion_drops at table places key_places terms params test count k xs alone means faithful tells same has ran h =

@@ -1,5 +1,5 @@
 -- A write on one table, taken apart into the steps that changed the tree.
-use Rattle.std.proofs.Common.{◌≡◌, ◌≢◌, ◌⊎◌, inl, inr, ℕ, ℤ, List, [], ◌∷◌, Bool, true, false, cond, None, Option, Ok, Err, Result, sym, ap, subst, ◌∙◌, is_lt, length, ◌+◌, ◌/◌}
+use Rattle.std.proofs.Common.{◌≡◌, ◌≢◌, ◌⊎◌, inl, inr, ℕ, ℤ, List, [], ◌∷◌, Bool, true, false, cond, None, Option, Some, Ok, Err, Result, sym, ap, subst, ◌∙◌, is_lt, length, slice_get, unwrap_or, ◌+◌, ◌/◌}
 use Rattle.std.specs.List.{AllByRecursion}
 use Rattle.std.specs.Bool.{MatchBool}
 use Rattle.std.specs.Ordering.{int_cmp}
@@ -10,7 +10,7 @@ use Rattle.sqlite_schema.specs.declared.schema.Table.{Table}
 use Rattle.sqlite_schema.specs.declared.schema.Schema.{Schema}
 use Rattle.sqlite_schema.specs.declared.schema.Keys.TheVariants.{Enforced}
 use Rattle.sqlite_schema.specs.declared.command.Command.{Command}
-use Rattle.sqlite_schema.specs.declared.command.Command.TheVariants.{Delete}
+use Rattle.sqlite_schema.specs.declared.command.Command.TheVariants.{Delete, Update}
 use Rattle.sqlite_schema.specs.declared.command.Upsert.{Upsert}
 use Rattle.sqlite_schema.specs.declared.command.Conflict.TheVariants.{Abort}
 use Rattle.sqlite_schema.specs.declared.command.Source.{Source}
@@ -19,8 +19,8 @@ use Rattle.sqlite_schema.specs.declared.program.Program.{Program}
 use Rattle.sqlite_rules.specs.declared.error.Rowids.TheVariants.{Chosen, Above}
 use Rattle.sqlite_rules.specs.Cast.{cast_row}
 use Rattle.sqlite_rules.specs.Edit.{Edit, with_rowid, Applies}
-use Rattle.sqlite.specs.Does.{Tally, Does, AtPlace, OnRows}
-use Rattle.sqlite.specs.Rows.{Task, Written, Tries, TriesEach, InsertsOr, Deletes as DeletesRows, Counts, count_of, nothing, joined, stamped, rowids_for}
+use Rattle.sqlite.specs.Does.{Tally, Does, AtPlace, OnRows, WritesRows}
+use Rattle.sqlite.specs.Rows.{Task, Written, Tries, TriesEach, InsertsOr, Updates, Deletes as DeletesRows, Counts, count_of, nothing, joined, stamped, rowids_for}
 use Rattle.sqlite.specs.Effect.{Database, IsSource, value_rows}
 use Rattle.sqlite.specs.State.{State, mode_of, Writes}
 use Rattle.room_tables_sql.specs.Outcomes.{Only}
@@ -85,14 +85,33 @@ module _ (schema : Schema) (at : ℕ) (table : Table) (alone : StandsAlone schem
   abbrev does : Command → Database → Tally → Type 0
   does command db tally = Does old.step_limit (mode_of old) params db text None command (Ok (tally, new.now))
 
+  -- a statement on the rows of this table writes these
+  wrote_rows : (command : Command) (tally : Tally)
+      → AtPlace (λ t. OnRows (record task { table = t }) (mode_of old) None command old.now.trees)
+      (slice_get schema.tables at) (Ok (tally, new.now))
+      → (w : Written) × WritesRows task old.now.trees command (Ok w)
+      × (new.now ≡ record { schema = schema; trees = w.trees })
+      × (tally.rows ≡ Some (length w.rows))
+  wrote_rows command tally all =
+      let done = went_on (subst (λ o. AtPlace (λ t. OnRows (record task { table = t }) (mode_of old) None command old.now.trees) o (Ok (tally, new.now))) alone.is_there all) in
+      let is = same_value (went_on (went_on done.2).2).2 in
+      (done.0, done.1, ap (λ (p : Tally × Database). p.1) is, ap (λ (p : Tally × Database). p.0.rows) is)
+
   -- a deletion writes the rows of the table alone
   pub deletes_rows : (q : Program) → Writes old new None (Delete at q) text params count
       → (w : Written) × DeletesRows task q old.now.trees (Ok w)
       × (new.now ≡ record { schema = schema; trees = w.trees })
   deletes_rows q w =
-      let all = subst (λ s. does (Delete at q) (record old.now { schema = s }) w.tally) has w.changed in
-      let done = went_on (subst (λ o. AtPlace (λ t. OnRows (record task { table = t }) (mode_of old) None (Delete at q) old.now.trees) o (Ok (w.tally, new.now))) alone.is_there all) in
-      (done.0, done.1, ap (λ (p : Tally × Database). p.1) (same_value (went_on (went_on done.2).2).2))
+      let it = wrote_rows (Delete at q) w.tally (subst (λ s. does (Delete at q) (record old.now { schema = s }) w.tally) has w.changed) in
+      (it.0, it.1, it.2)
+
+  -- so does an update, and counts them
+  pub updates_rows : (q : Program) → Writes old new None (Update at q) text params count
+      → (w : Written) × Updates task q params old.now.trees (Ok w)
+      × (new.now ≡ record { schema = schema; trees = w.trees }) × (count ≡ length w.rows)
+  updates_rows q w =
+      let it = wrote_rows (Update at q) w.tally (subst (λ s. does (Update at q) (record old.now { schema = s }) w.tally) has w.changed) in
+      (it.0, it.1, it.2, w.counted ∙ ap (λ rows. unwrap_or rows 0) it.3)
 
   -- what was edited, and nothing else
   pub only_edited : (next : Trees) (edit : Edit) → edit.table ≡ table
@@ -111,8 +130,6 @@ module _ (schema : Schema) (at : ℕ) (table : Table) (alone : StandsAlone schem
       (Ok one) × (new.now ≡ record { schema = schema; trees = one.trees })
   upserts_row key columns values update source w is =
       let command = upsert at table key columns values update in
-      let all = subst (λ s. does command (record old.now { schema = s }) w.tally) has w.changed in
-      let done = went_on (subst (λ o. AtPlace (λ t. OnRows (record task { table = t }) (mode_of old) None command old.now.trees) o (Ok (w.tally, new.now))) alone.is_there all) in
-      let now = ap (λ (p : Tally × Database). p.1) (same_value (went_on (went_on done.2).2).2) in
+      let done = wrote_rows command w.tally (subst (λ s. does command (record old.now { schema = s }) w.tally) has w.changed) in
       let one = inserts_one task alone.uncounted (written_over table key columns update ∷ []) (Values values (columns + 1)) source old.now.trees done.0 done.1 (λ rows h. h.1 ∙ is) in
-      (one.0, one.1, now ∙ (λ i. record { schema = schema; trees = one.2 i }))
+      (one.0, one.1, done.2 ∙ (λ i. record { schema = schema; trees = one.2 i }))

@@ -1,6 +1,6 @@
 -- What the statements on one table make of what it stands for: each law from the state before a
 -- call to the state after it.
-use Rattle.std.specs.Prelude.{◌≡◌, ◌↔◌, ℕ, List, [], ◌∷◌, ◌++◌, map, filter, Bool, true, Ok, IsPermutation, IsSorted}
+use Rattle.std.specs.Prelude.{◌≡◌, ◌↔◌, ◌==◌, ℕ, List, [], ◌∷◌, ◌++◌, map, filter, Bool, true, if◌then◌else◌, Ok, IsPermutation, IsSorted}
 use Rattle.std.specs.declared.cmp.Ordering.{Ordering}
 use Rattle.std.specs.Ordering.{is_eq}
 use Rattle.sqlite_value.specs.Order.{Row, column}
@@ -14,7 +14,7 @@ use Rattle.sqlite.specs.State.{State, Shown, Executes}
 use Rattle.room_types_keyed.specs.Keyed.{IsKeyed, put_row, drop_row}
 use Rattle.room_tables_sql.specs.Tables.{cells, keys, AreNumbered, RowidsRise, Holds}
 use Rattle.room_tables_sql.specs.Outcomes.{Only, MakesTable, MakesIndex}
-use Rattle.room_tables_sql.specs.Statements.{passes, Selects, StandsAlone, Deletes, Upserts, Stores, Creates, Indexes}
+use Rattle.room_tables_sql.specs.Statements.{passes, Selects, StandsAlone, Deletes, Upserts, Stores, Overwrites, Covers, Creates, Indexes}
 use Rattle.room_tables_sql.specs.Typed.{IsFaithful}
 
 -- ---- of any tree
@@ -114,6 +114,20 @@ module _ {X K : Type 0} (order : K → K → Ordering) (key : X → K) (row : X 
         → Holds places key_places (old.now.trees table.tree) (map row xs)
         → Only schema table.tree old.now new.now
         × Holds places key_places (new.now.trees table.tree) (map row (put_row order key xs x))
+
+    -- An update of one row puts it in place of the one with its key. Where no row has that, it
+    -- writes none, and the list is as before. It changes no other table.
+    abbrev pub OverwritePuts : Type 0
+    OverwritePuts =
+        (at : ℕ) (table : Table) (places key_places : List ℕ) (columns : ℕ) (count : ℕ) (x : X)
+        (xs : List X)
+        → StandsAlone schema at table → Overwrites schema text at table key_places columns
+        → IsFaithful order key row key_places → Covers table places key_places columns (row x)
+        → old.now.schema ≡ schema → Executes text (row x) old new (Ok count)
+        → Holds places key_places (old.now.trees table.tree) (map row xs)
+        → Only schema table.tree old.now new.now
+        × Holds places key_places (new.now.trees table.tree)
+        (map row (if count == 0 then xs else put_row order key xs x))
 
     -- A deletion of the rows with a key drops its one row, if it is there, and changes no other
     -- table.

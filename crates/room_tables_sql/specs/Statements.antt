@@ -4,6 +4,7 @@
 use Rattle.std.specs.Prelude.{◌≡◌, ◌+◌, ℕ, zero, suc, ◌-◌, pos, negsuc, List, [], ◌∷◌, ◌++◌, map, length, ◌/◌, Bool, false, ℤ, Some, None, Ok, slice_get}
 use Rattle.std.specs.List.{list_all}
 use Rattle.std.specs.Ordering.{is_eq}
+use Rattle.sqlite_value.specs.declared.value.Value.{Value}
 use Rattle.sqlite_value.specs.declared.value.Value.TheVariants.{Null, Int}
 use Rattle.sqlite_value.specs.declared.keys.Collation.TheVariants.{Binary}
 use Rattle.sqlite_value.specs.Keys.{ascending}
@@ -19,7 +20,7 @@ use Rattle.sqlite_schema.specs.declared.schema.Index.{Index}
 use Rattle.sqlite_schema.specs.declared.schema.Schema.{Schema}
 use Rattle.sqlite_schema.specs.declared.schema.Keys.TheVariants.{Enforced}
 use Rattle.sqlite_schema.specs.declared.command.Command.{Command}
-use Rattle.sqlite_schema.specs.declared.command.Command.TheVariants.{Select, Delete, InsertOr, CreateTable, CreateIndex}
+use Rattle.sqlite_schema.specs.declared.command.Command.TheVariants.{Select, Delete, InsertOr, Update, CreateTable, CreateIndex}
 use Rattle.sqlite_schema.specs.declared.command.Upsert.{Upsert}
 use Rattle.sqlite_schema.specs.declared.command.Conflict.TheVariants.{Abort}
 use Rattle.sqlite_schema.specs.declared.command.Source.TheVariants.{Values}
@@ -184,6 +185,31 @@ pub record Stores (schema : Schema) (table : Table) (places key : List ℕ) (col
   pub over_names : (id : ℤ) (r : Row)
       → column (row ++ rowid r ∷ shown table (fresh id)) columns ≡ rowid r
   pub over_shows : (r : Row) → cells places (cast_row table (over r)) ≡ row
+
+-- An update of one row, where SQL picks the rowid, has the row's columns as parameters. It finds the
+-- rows with the columns of its key ..
+abbrev pub own_key : List ℕ → List Term
+own_key = map (λ place. equals place (place - 1))
+
+-- .. and sets all columns
+abbrev pub own_update : ℕ → List Term
+own_update columns = col 1 0 ∷ col 1 0 ∷ params_from 0 columns
+
+-- the text is UPDATE .. SET .. WHERE .. of one row of so many columns
+pub record Overwrites (schema : Schema) (text : List ℕ) (at : ℕ) (table : Table) (key : List ℕ)
+    (columns : ℕ) : Type 0 where
+  pub command : command_of (understood schema text) ≡ Update at
+      (record { lets = []; body = plain_query table.tree (own_update columns) (own_key key) })
+  pub plain : IsPlain (understood schema text)
+
+-- what the update of one row finds in the tree, and puts in its place
+pub record Covers (table : Table) (places key : List ℕ) (columns : ℕ) (row : Row) : Type 0 where
+  -- a row of the tree is found just where it has the same key
+  pub finds : (r : Row) → passes (own_key key) row r
+      ≡ is_eq (key_cmp 0 (keys key) (cells places r) row)
+  pub over_is : (r : Row) → eval_all (own_update columns) (row ∷ r ∷ [])
+      ≡ rowid r ∷ rowid r ∷ row
+  pub over_shows : (id : Value) → cells places (cast_row table (id ∷ row)) ≡ row
 
 -- ---- definitions
 

@@ -18,6 +18,7 @@ ghost use Rattle.room_tables_sql.specs.Laws.{
   NumbersRead,
   SelectionIsChosen,
   UpsertPuts,
+  OverwritePuts,
   DeletionDrops,
 };
 ghost use Rattle.room_tables_sql.specs.Tables.{Holds};
@@ -63,6 +64,15 @@ pub fn an_upsert_puts_its_row<S: Alter, X, K>(before: &Connection<S>, after: &Co
     ensures { (order : K → K → Ordering) (key : X → K) (row : X
         → Row) (schema : Schema) (text : List ℕ)
         → UpsertPuts order key row schema text (state S.Store before.now)
+        (state S.Store after.now) }
+{}
+
+/// An update of one row puts it in place of the one with its key, or writes none where that isn't
+/// there, as its count tells.
+pub fn an_update_puts_its_row<S: Alter, X, K>(before: &Connection<S>, after: &Connection<S>)
+    ensures { (order : K → K → Ordering) (key : X → K) (row : X
+        → Row) (schema : Schema) (text : List ℕ)
+        → OverwritePuts order key row schema text (state S.Store before.now)
         (state S.Store after.now) }
 {}
 

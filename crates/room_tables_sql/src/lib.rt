@@ -8,9 +8,9 @@
 //! 2. For each type of rows it writes `row : X → Row` and proves `IsFaithful`: a row is read back
 //!    as it was written, and SQL's order is that of the keys. `Holds places key (trees t) (map row
 //!    xs)` then says that a tree stands for a list.
-//! 3. For each text it has a `Selects`, `Upserts`, `Deletes`, `Creates` or `Indexes`, whose facts
-//!    are `refl`; for each table a `StandsAlone`; for the rows of an upsert `stores_row` or
-//!    `stores_rowid`.
+//! 3. For each text it has a `Selects`, `Upserts`, `Overwrites`, `Deletes`, `Creates` or
+//!    `Indexes`, whose facts are `refl`; for each table a `StandsAlone`; for the rows of an upsert
+//!    `stores_row` or `stores_rowid`, and for those of an update `covers_row`.
 //! 4. `specs/Laws` says what such a statement makes of the list; the functions of `laws` promise
 //!    it.
 //! 5. Loads run by `select`, or by `select_inside` within a `Transaction`, whose clauses say that

@@ -11,7 +11,7 @@ use Rattle.room_types.specs.Keys.{callsign_cmp, same_callsign}
 use Rattle.room_types.specs.Orders.{callsigns_total, exact_callsigns}
 use Rattle.room_types.specs.Texts.{Callsign}
 use Rattle.room_types.specs.declared.crews.CrewRows.{CrewRows}
-use Rattle.room_types.proofs.SentLaws.{sent_decides}
+use Rattle.room_types.proofs.SentLaws.{order_decides}
 
 callsigns_decide : (a b : Callsign) → Decides (same_callsign a b) (a ≡ b)
 callsigns_decide a b = (λ h. exact_callsigns a b ((Equal-is (callsign_cmp a b)).0 h), λ e. subst (λ c. same_callsign a c ≡ true) e (ap is_eq (tied_itself callsigns_total a)))
@@ -28,10 +28,8 @@ none_decides (Some at) = (λ h. cc, λ h. cc)
 pub crew_decides : (r : CrewRows) → Decides (is_crew r) (IsCrew r)
 unfolding is_crew
 crew_decides r = Decides-like _
-    (λ h. record { assignment = h.0.0; turn = h.0.1; loan = h.1.0; report = h.1.1.0; sent = h.1.1.1 })
-    (λ h. ((h.assignment, h.turn), (h.loan, (h.report, h.sent))))
+    (λ h. record { turn = h.0; loan = h.1.0; ordered = h.1.1 })
+    (λ h. (h.turn, (h.loan, h.ordered)))
     (Decides-and _ _
-    (Decides-and _ _ (passes_decides _ _ (λ a. callsigns_decide a.callsign _) r.assignment) (passes_decides _ _ (λ t. Decides-and _ _ (callsigns_decide t.callsign _) (none_decides t.ended)) r.turn))
-    (Decides-and _ _
-    (passes_decides _ _ (λ l. callsigns_decide l.callsign _) r.loan)
-    (Decides-and _ _ (passes_decides _ _ (λ x. callsigns_decide x.callsign _) r.report) (sent_decides _ _ _))))
+    (passes_decides _ _ (λ t. Decides-and _ _ (callsigns_decide t.callsign _) (none_decides t.ended)) r.turn)
+    (Decides-and _ _ (passes_decides _ _ (λ l. callsigns_decide l.callsign _) r.loan) (order_decides _ _)))

@@ -1,24 +1,20 @@
-//! The rows of one vehicle that its crew's requests are decided on.
+//! The rows of one vehicle that a report of its crew is decided on.
 ghost use Rattle.std.specs.Prelude.{◌≡◌, true};
-ghost use Rattle.room_types.specs.Crews.{is_crew, are_sent_rows, passes};
-ghost use Rattle.room_types.specs.Keys.{same_callsign};
+ghost use Rattle.room_types.specs.Crews.{is_crew, is_own_loan, is_own_turn, passes};
 
-use crate::sent::sent_agrees;
-use crate::tables::{Assignment, Loan, Report, Turn, Vehicle};
+use crate::sent::order_agrees;
+use crate::tables::{Loan, Turn, Vehicle};
 
-/// A vehicle with its assignment, open turn and loan, and of its reports that of the number in
-/// hand. Whether it is offered its status tells.
+/// A vehicle with its open turn and its loan. Whether it is offered its status tells.
 #[derive(Clone, Copy)]
 pub struct CrewRows {
     pub vehicle: Vehicle,
-    pub assignment: Option<Assignment>,
     pub turn: Option<Turn>,
     pub loan: Option<Loan>,
-    pub report: Option<Report>,
 }
 
-/// The rows of one vehicle, whichever division owns them. It has an assignment and an open turn
-/// exactly where it is busy. Both are its holder's, for one incident, and of its last order.
+/// The rows of one vehicle, whichever division owns them. It has an open turn exactly where it is
+/// busy: its holder's, of its last order.
 #[derive(Clone, Copy)]
 pub struct CrewSlice {
     pub rows: CrewRows,
@@ -52,44 +48,27 @@ impl CrewRows {
         ensures test { result ≡ is_crew self.now }
         ensures crew { IsTrue result ↔ IsCrew self.now }
     {
-        self.are_sent_rows()
+        self.has_own_turn()
             && self.has_own_loan()
-            && self.has_own_report()
-            && sent_agrees(&self.vehicle, self.assignment.as_ref(), self.turn.as_ref())
+            && order_agrees(&self.vehicle, self.turn.as_ref())
     }
 
-    fn are_sent_rows(&self) -> bool
-        ensures { result ≡ are_sent_rows self.now }
+    // Whether the turn, if there is one, is this vehicle's and open.
+    fn has_own_turn(&self) -> bool
+        ensures { result ≡ passes (is_own_turn self.now.vehicle.callsign) self.now.turn }
     {
-        let callsign = self.vehicle.callsign;
-        let is_assigned = match self.assignment {
-            Some(assignment) => assignment.callsign == callsign,
-            None => true,
-        };
-        let is_ordered = match self.turn {
-            Some(turn) => turn.callsign == callsign && turn.ended.is_none(),
-            None => true,
-        };
-        is_assigned && is_ordered
-    }
-
-    // Whether the loan, if there is one, is this vehicle's.
-    fn has_own_loan(&self) -> bool
-        ensures { result ≡ passes (λ l.
-            same_callsign l.callsign self.now.vehicle.callsign) self.now.loan }
-    {
-        match self.loan {
-            Some(loan) => loan.callsign == self.vehicle.callsign,
+        match self.turn {
+            Some(turn) => turn.callsign == self.vehicle.callsign && turn.ended.is_none(),
             None => true,
         }
     }
 
-    fn has_own_report(&self) -> bool
-        ensures { result ≡ passes (λ x.
-            same_callsign x.callsign self.now.vehicle.callsign) self.now.report }
+    // Whether the loan, if there is one, is this vehicle's.
+    fn has_own_loan(&self) -> bool
+        ensures { result ≡ passes (is_own_loan self.now.vehicle.callsign) self.now.loan }
     {
-        match self.report {
-            Some(report) => report.callsign == self.vehicle.callsign,
+        match self.loan {
+            Some(loan) => loan.callsign == self.vehicle.callsign,
             None => true,
         }
     }

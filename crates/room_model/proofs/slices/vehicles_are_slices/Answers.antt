@@ -5,4 +5,4 @@ pub returns-clause-crew : goal.returns-clause-crew
 returns-clause-crew c = rows_are_crew
 
 pub returns-clause-mine : goal.returns-clause-mine
-returns-clause-mine c k n r x in_order = rows_of_mine k n r in_order x
+returns-clause-mine c k r x in_order = rows_of_mine k r in_order x

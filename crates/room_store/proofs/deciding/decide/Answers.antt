@@ -8,7 +8,7 @@ returns-in-Desk-clause-decided g c clean = IfOk-weaker c.for_division.result _ _
 
 pub returns-in-Crew-clause-decided : goal.returns-in-Crew-clause-decided
 returns-in-Crew-clause-decided g c clean = IfOk-weaker c.for_crew.result _ _ (λ x told house room h.
-    rw c.in-Crew.is (told house room h.stands h.formed h.plan (rw c.in-Crew.is at h.addressed))) (c.for_crew.ensures.decided clean)
+    rw c.in-Crew.is (told house room h.stands h.formed)) (c.for_crew.ensures.decided clean)
 
 pub returns-in-Call-clause-decided : goal.returns-in-Call-clause-decided
 returns-in-Call-clause-decided g c clean = IfOk-weaker c.for_call.result _ _ (λ x told house room h.

@@ -1,4 +1,5 @@
-use Rattle.std.proofs.Common.{Bool, ap, false, refl, sym, true, ◌∙◌, ◌≡◌}
+use Rattle.std.proofs.Common.{ap, false, sym, ◌∙◌, ◌≡◌}
+use Rattle.std.proofs.lemmas.Bool.{false_from_ne_true}
 use Rattle.std.specs.Prelude.{filter, ◌&&◌}
 use Rattle.room_types.specs.Keys.{callsign_cmp, owns_division, owns_vehicle}
 use Rattle.room_model.specs.Working.{reads_division, reads_vehicle}
@@ -20,10 +21,6 @@ returns-in_ok-own-in-Nothing-clause-rows g c clean house room h in_order =
 pub returns-in_err-own-in-Nothing-clause-reads : goal.returns-in_err-own-in-Nothing-clause-reads
 returns-in_err-own-in-Nothing-clause-reads g c = fails c.from_residual.ensures.0 c.in_err-own-in-Nothing.ensures.reads
 
-not_true : (b : Bool) → ¬ (b ≡ true) → b ≡ false
-not_true true never = absurd (never refl)
-not_true false never = refl
-
 pub load_extent-requires-clause-open : goal.load_extent-requires-clause-open
 load_extent-requires-clause-open g c nothing = absurd (c.in_default.not-Nothing nothing)
 
@@ -31,7 +28,7 @@ pub returns-in_ok-vehicles-in_default-clause-rows : goal.returns-in_ok-vehicles-
 returns-in_ok-vehicles-in_default-clause-rows g c clean house room h in_order =
     let d = c.args.division in
     let a = c.args.ask.now in
-    let beside : reads_division a ≡ false = not_true _ (λ yes. c.in_default.not-Nothing (c.vehicles_read.ensures.beside yes)) in
+    let beside : reads_division a ≡ false = false_from_ne_true _ (λ yes. c.in_default.not-Nothing (c.vehicles_read.ensures.beside yes)) in
     let fleet = c.in_ok-vehicles-in_default.ensures.rows clean house room h in_order.vehicles in (
       c.new-in_default.ensures ∙ sym (filter_never (owns_division d) (λ x. reads_division a) room.divisions (λ x. beside)),
       fleet ∙ filter_as _ _ room.vehicles (λ v. ap (λ b. owns_vehicle d v && b) (sym (c.vehicles_read.ensures.vehicles v.callsign))),

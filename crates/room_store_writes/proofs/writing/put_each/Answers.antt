@@ -4,7 +4,7 @@ use Rattle.sqlite.specs.Held.{state}
 use Rattle.sqlite.specs.State.{HasCleanDisk}
 use Rattle.room_model.specs.Room.{apply}
 use Rattle.room_tables_sql.proofs.WriteLaws.{commits_more}
-use Rattle.room_store_writes.proofs.CommitLaws.{nearer, put_commits, there}
+use Rattle.room_store_writes.proofs.CommitLaws.{nearer, there}
 use Rattle.room_store_writes.proofs.writing.put_each.Goals as goal
 
 pub loop-change-preserved : goal.loop-change-preserved
@@ -17,10 +17,10 @@ loop-change-preserved g c =
     let item = c.change-item.result in
     record {
       same = c.apply.ensures.same_reference ∙ before.same;
-      commits = commits_more before.commits (put_commits g.S.Store c.loop-change.tx.conn.now c.apply.new.tx.conn.now _ _ c.apply.result c.apply.ensures.ok c.apply.ensures.writes);
+      commits = commits_more before.commits c.apply.ensures.commits;
       may = record { room = λ clean. (c.in_ok-apply.ensures.ok clean).schema; inside = λ clean. (c.in_ok-apply.ensures.ok clean).inside.mode };
       stands = λ clean house room h.
-          let early : HasCleanDisk mid = omega (arith, c.apply.ensures.writes.survives.clean) in
+          let early : HasCleanDisk mid = omega (arith, c.apply.ensures.commits.survives.clean) in
           let more : drop at changes ≡ item ∷ drop (at + 1) changes = rw c.change-item.is (drop_more changes at _ c.loop-change-test.true) in
           nearer (drop at changes) (drop (at + 1) changes) item house mid.now.trees new.now.trees (apply room changes) more ((c.in_ok-apply.ensures.ok clean).stands house) (before.stands early house room h);
     }
@@ -39,4 +39,4 @@ returns-clause-ok g c clean =
 
 pub returns-in_err-apply-clause-commits : goal.returns-in_err-apply-clause-commits
 returns-in_err-apply-clause-commits g c =
-    commits_more c.loop-change.invariant.commits (put_commits g.S.Store c.loop-change.tx.conn.now c.apply.new.tx.conn.now _ _ c.apply.result c.apply.ensures.ok c.apply.ensures.writes)
+    commits_more c.loop-change.invariant.commits c.apply.ensures.commits

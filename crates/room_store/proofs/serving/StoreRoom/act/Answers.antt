@@ -5,7 +5,7 @@ use Rattle.room_store.proofs.serving.StoreRoom.act.Goals as goal
 
 pub returns-clause-same : goal.returns-clause-same
 returns-clause-same g c clean =
-    on_err_weaker c.act.result (λ left terminals room is. room_left g.S.Store c.args.self.now c.act.new.self terminals room left c.act.ensures.plan is) (c.act.ensures.err clean)
+    on_err_weaker c.act.result (λ left terminals room is. room_left g.S.Store c.args.self.now c.act.new.self terminals room left c.act.ensures.plan (rw c.act.ensures.known is.known) is) (c.act.ensures.err clean)
 
 pub returns-clause-kept : goal.returns-clause-kept
 returns-clause-kept g c clean = kept_settled g.S.Store c.act.new.self c.act.result (c.act.ensures.settled clean) (c.act.ensures.alone clean)

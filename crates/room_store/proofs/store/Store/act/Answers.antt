@@ -13,7 +13,7 @@ returns-in-Ok-clause-bytes g c clean terminals room is addressed =
 
 pub returns-in-Ok-clause-ok : goal.returns-in-Ok-clause-ok
 returns-in-Ok-clause-ok g c clean terminals room is addressed =
-    room_moved g.S.Store c.args.self.now (record c.args.self.now { conn = c.act_on.new.conn }) c.args.event.now terminals room is addressed c.know_number.ensures refl (c.in-Ok.ensures.ok clean)
+    room_moved g.S.Store c.args.self.now (record c.args.self.now { conn = c.act_on.new.conn }) c.args.event.now terminals room is addressed c.know_number.ensures refl refl (c.in-Ok.ensures.ok clean)
 
 pub returns-in-Ok-clause-survives : goal.returns-in-Ok-clause-survives
 returns-in-Ok-clause-survives g c = event_survives g.S.Store c.args.self.now (state g.S.Store c.act_on.new.conn) c.args.event.now c.act_on.ensures.survives

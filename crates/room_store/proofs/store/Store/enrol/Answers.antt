@@ -14,7 +14,7 @@ returns-in-Ok-clause-fate g c clean terminals room is =
 
 pub returns-in-Ok-clause-ok : goal.returns-in-Ok-clause-ok
 returns-in-Ok-clause-ok g c clean terminals room is =
-    room_after_row g.S.Store c.args.self.now (record c.args.self.now { conn = c.add_fate.new.conn }) c.args.row.now terminals room is refl (c.in-Ok.ensures.ok clean)
+    room_after_row g.S.Store c.args.self.now (record c.args.self.now { conn = c.add_fate.new.conn }) c.args.row.now terminals room is refl refl (c.in-Ok.ensures.ok clean)
 
 pub returns-in-Ok-clause-survives : goal.returns-in-Ok-clause-survives
 returns-in-Ok-clause-survives g c = store_survives g.S.Store c.args.self.now (state g.S.Store c.add_fate.new.conn) c.args.row.now c.add_fate.ensures.survives

@@ -1,0 +1,50 @@
+-- Terminals that a store has looked up: what they tell, and that they stay.
+use Rattle.std.proofs.Common.{List, None, Option, Some, [], ap, get_or, length, refl, subst, sym, ◌<◌, ◌≡◌}
+use Rattle.std.proofs.lemmas.List.Elements.{All-nil, All-same, All-weaker}
+use Rattle.std.specs.Prelude.{All, HoldsAt, IfSome, option_map, ℕ}
+use Rattle.room_types_keyed.proofs.EachRow.{row_key}
+use Rattle.room_types.specs.Texts.{Token}
+use Rattle.room_types.specs.declared.fleet.FleetRow.{FleetRow}
+use Rattle.room_types.specs.declared.fleet.RowFate.{RowFate}
+use Rattle.room_types.specs.declared.fleet.RowFate.TheVariants.{Added, Refused, Same}
+use Rattle.room_types.specs.declared.fleet.Terminal.{Terminal}
+use Rattle.room_model.proofs.EnrolLaws.{exact_tokens, is_added, tokens_total}
+use Rattle.room_model.proofs.KeptCalls.{row_stays}
+use Rattle.room_model.specs.Enrol.{fate_of, new_terminal, terminal_at, terminal_key, terminals_by, terminals_enrolled, token_cmp}
+use Rattle.room_model.specs.Room.{Room}
+use Rattle.room_service.specs.Rooms.{who_at}
+use Rattle.room_store.specs.Keeping.{IsOneOf}
+
+-- a store that begins knows none
+pub knows_none : (terminals known : List Terminal) → known ≡ [] → All (IsOneOf terminals) known
+knows_none terminals known none = All-same (IsOneOf terminals) known [] none (All-nil (IsOneOf terminals))
+
+module _ (terminals : List Terminal) (token : Token) where
+  -- the terminal of a token that is known tells who shows it
+  pub known_tells : (known : List Terminal) (at : ℕ) (t : Terminal) → All (IsOneOf terminals) known
+      → at < length known → HoldsAt (λ t. t.token ≡ token) known at → t ≡ get_or known at t
+      → Some t.who ≡ who_at terminals token
+  known_tells known at t all inside has here =
+      let one : IsOneOf terminals t = subst (IsOneOf terminals) (sym here) (all at t inside) in
+      let key : t.token ≡ token = subst (λ (u : Terminal). u.token ≡ token) (sym here) (has t) in
+      sym (ap (option_map (λ (u : Terminal). u.who)) (subst (λ k. terminal_at k terminals ≡ Some t) key one))
+
+  -- a terminal that was looked up is one of these
+  pub looked_up : (found : Option Terminal) → found ≡ terminal_at token terminals
+      → IfSome found (IsOneOf terminals)
+  looked_up None is = tt
+  looked_up (Some t) is =
+      let key : t.token ≡ token = subst (λ o. IfSome o (λ u. u.token ≡ token)) (sym is) (row_key token_cmp terminal_key tokens_total exact_tokens terminals token) in
+      subst (λ k. terminal_at k terminals ≡ Some t) (sym key) (sym is)
+
+module _ (room : Room) (terminals : List Terminal) (row : FleetRow) where
+  -- a terminal stays one of them when a row is enrolled, since the row's token was free
+  stays : (fate : RowFate) → fate_of room terminals row ≡ fate → (t : Terminal)
+      → IsOneOf terminals t → IsOneOf (terminals_by fate row terminals) t
+  stays Added is t one = row_stays token_cmp terminal_key tokens_total exact_tokens terminals (new_terminal row) t (is_added room terminals row is).new_token t.token one
+  stays Same is t one = one
+  stays (Refused why) is t one = one
+
+  pub still_known : (known : List Terminal) → All (IsOneOf terminals) known
+      → All (IsOneOf (terminals_enrolled room terminals row)) known
+  still_known known = All-weaker (IsOneOf terminals) (IsOneOf (terminals_enrolled room terminals row)) (stays (fate_of room terminals row) refl) known
