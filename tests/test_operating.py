@@ -18,6 +18,7 @@ from room import (PATIENT, PROGRAM, TOP, TestCase, ask, call, dump, free_port, m
                   serving, sql)
 
 ANSWERED = (200, '{"division":1,"incident":1,"linked":false}')
+LINKED = (200, '{"division":1,"incident":1,"linked":true}')
 FAILED = (503, '{"error":"Storage","number":42}')
 STORAGE = (3, '', 'storage\n')
 CALLS = 'SELECT count(*) FROM calls'
@@ -199,6 +200,18 @@ class NotServed(OperatingTestCase):
     def check_copy(self, name, copy, before):
         self.check(f'{name}: opened', calls_in(copy), '1')
         self.check(f'{name}: its rows', dump(copy), before)
+
+    def test_smaller_pages(self):
+        """A copy with smaller pages is the room, and is served as it is."""
+        self.end()
+        told = sql(self.room, f"PRAGMA page_size = 1024; VACUUM INTO '{self.copy}'")
+        self.check('what sqlite3 says', told, '')
+        self.check('its rows', dump(self.copy), dump(self.room))
+        with serving(self.copy, 1) as (port, process):
+            self.check('it is served', ask(port, call(1), call(2)), [ANSWERED, LINKED])
+            process.wait(timeout=10)
+        self.check('its pages', sql(self.copy, 'PRAGMA page_size'), '1024\n')
+        self.check('its calls', sql(self.copy, CALLS), '2\n')
 
     def test_the_file_alone(self):
         """After an end it is the room."""
