@@ -201,17 +201,20 @@ class NotServed(OperatingTestCase):
         self.check(f'{name}: opened', calls_in(copy), '1')
         self.check(f'{name}: its rows', dump(copy), before)
 
-    def test_smaller_pages(self):
-        """A copy with smaller pages is the room, and is served as it is."""
+    def test_other_pages(self):
+        """A room has pages of 1 KiB. A copy with others is the same room, and is served as it is."""
         self.end()
-        told = sql(self.room, f"PRAGMA page_size = 1024; VACUUM INTO '{self.copy}'")
-        self.check('what sqlite3 says', told, '')
-        self.check('its rows', dump(self.copy), dump(self.room))
-        with serving(self.copy, 1) as (port, process):
-            self.check('it is served', ask(port, call(1), call(2)), [ANSWERED, LINKED])
-            process.wait(timeout=10)
-        self.check('its pages', sql(self.copy, 'PRAGMA page_size'), '1024\n')
-        self.check('its calls', sql(self.copy, CALLS), '2\n')
+        self.check('the pages of a room', sql(self.room, 'PRAGMA page_size'), '1024\n')
+        for size in [4096, 1024]:
+            told = sql(self.room, f"PRAGMA page_size = {size}; VACUUM INTO '{self.copy}'")
+            self.check('what sqlite3 says', told, '')
+            self.check('its rows', dump(self.copy), dump(self.room))
+            with serving(self.copy, 1) as (port, process):
+                self.check('it is served', ask(port, call(1), call(2)), [ANSWERED, LINKED])
+                process.wait(timeout=10)
+            self.check('its pages', sql(self.copy, 'PRAGMA page_size'), f'{size}\n')
+            self.check('its calls', sql(self.copy, CALLS), '2\n')
+            self.room, self.copy = self.copy, self.folder / 'second.db'
 
     def test_the_file_alone(self):
         """After an end it is the room."""

@@ -238,13 +238,16 @@ class Import(TestCase):
                         'hundred bytes, which is what counts here')
         self.assertEqual(run('import', text, FLEET), (3, '', 'storage\n'))
 
-    def test_into_an_empty_file(self):
-        empty = self.folder / 'empty.db'
-        empty.write_bytes(b'')
-        self.check('import into an empty file', run('import', empty, FLEET),
-                   (1, '', 'refused: file\n'))
-        files = [(it.name, it.stat().st_size) for it in self.folder.glob('empty.db*')]
-        self.check('it stays empty, and alone', files, [('empty.db', 0)])
+    def test_into_no_database(self):
+        """An empty file, and one whose first page is not finished, as its first byte is written
+        last."""
+        for what, held in [('an empty file', b''), ('a begun file', bytes(1024))]:
+            room = self.folder / 'none.db'
+            room.write_bytes(held)
+            self.check(f'import into {what}', run('import', room, FLEET),
+                       (1, '', 'refused: file\n'))
+            files = [(it.name, it.read_bytes()) for it in self.folder.glob('none.db*')]
+            self.check(f'{what} stays as it is, and alone', files, [('none.db', held)])
 
 
 class Versions(TestCase):

@@ -1,4 +1,4 @@
--- How a command ends: what its words and its file are to the program.
+-- How a command ends: what its words are to the program, and what it has shown.
 use Rattle.std.specs.Prelude.{Bool, Err, List, Ok, Option, Result, false, true, ℕ, ◌⊎◌, ◌≡◌}
 use Rattle.std.specs.Io.KnownBytes.{Appends}
 use Rattle.clap.specs.declared.error.ErrorKind.{ErrorKind}
@@ -7,26 +7,14 @@ use Rattle.dispatch_room_board.specs.Boards.{IsBoard}
 use Rattle.dispatch_room_board.specs.declared.boards.Board.{Board}
 use Rattle.dispatch_room_board.specs.declared.boards.Reached.{Reached}
 use Rattle.dispatch_room_board.specs.declared.boards.Reached.TheVariants as reached
-use Rattle.sqlite.specs.declared.error.Error.{Error}
-use Rattle.sqlite.specs.declared.error.Error.TheVariants.{SqliteFailure}
-use Rattle.sqlite.specs.declared.error.ErrorCode.TheVariants.{OutOfMemory}
 use Rattle.dispatch_room_endings.specs.Endings.{refused, status_after}
 use Rattle.dispatch_room_endings.specs.declared.endings.Done.{Done}
 use Rattle.dispatch_room_endings.specs.declared.endings.Done.TheVariants.{InPart, Whole}
 use Rattle.dispatch_room_endings.specs.declared.endings.Failure.{Failure}
-use Rattle.dispatch_room_endings.specs.declared.endings.Failure.TheVariants.{Differs, Memory, Network, OtherRoom, Record, Storage}
+use Rattle.dispatch_room_endings.specs.declared.endings.Failure.TheVariants.{Differs, Memory, Network, OtherRoom, Record}
 use Rattle.dispatch_room_replaying.specs.declared.faults.ReplayFault.{ReplayFault}
 use Rattle.dispatch_room_replaying.specs.declared.faults.ReplayFault.TheVariants as replay
 use Rattle.dispatch_room_replaying.specs.declared.faults.Stopped.{Stopped}
-
--- what the database's errors are: want of memory, and else a file that failed
-abbrev pub fault_of : Error → Failure
-fault_of (SqliteFailure OutOfMemory) = Memory
-fault_of other = Storage
-
--- a database's file fails for memory or for storage
-abbrev pub IsFileFault : Failure → Type 0
-IsFileFault fault = (fault ≡ Memory) ⊎ (fault ≡ Storage)
 
 -- the words have a mistake: they neither ask for help nor want memory
 abbrev pub is_mistake : ErrorKind → Bool

@@ -2,7 +2,7 @@
 ghost use Rattle.std.specs.Prelude.{OnOk};
 ghost use Rattle.dispatch_room_work.specs.Checked.{IsTold};
 
-use crate::files::{RoomFile, Work, in_file};
+use dispatch_room_disk::room_files::{RoomFile, Work, in_file};
 use dispatch_room_endings::endings::{Done, Failure};
 use dispatch_room_opening::rooms::Worked;
 use dispatch_room_work::checking::check_in;

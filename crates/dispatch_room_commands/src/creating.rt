@@ -5,7 +5,8 @@ ghost use Rattle.dispatch_room_endings.specs.declared.endings.Done.TheVariants.{
 ghost use Rattle.dispatch_room_files.specs.declared.plans.PlanFile.{PlanFile as File};
 ghost use Rattle.dispatch_room_work.specs.Created.{IsTold, created_text};
 
-use crate::files::{RoomFile, Work, in_file, read_text};
+use crate::files::read_text;
+use dispatch_room_disk::room_files::{RoomFile, Work, in_file};
 use dispatch_room_endings::endings::{Done, Failure};
 use dispatch_room_files::plans::{PlanFile, read_plan};
 use dispatch_room_opening::rooms::Worked;

@@ -3,7 +3,8 @@ ghost use Rattle.std.specs.Prelude.{List, Ok, IfOk};
 ghost use Rattle.dispatch_room_files.specs.declared.fleets.FleetLine.{FleetLine as Line};
 ghost use Rattle.dispatch_room_work.specs.Imported.{IsTold};
 
-use crate::files::{RoomFile, Work, in_file, read_text};
+use crate::files::read_text;
+use dispatch_room_disk::room_files::{RoomFile, Work, in_file};
 use dispatch_room_endings::endings::{Done, Failure};
 use dispatch_room_files::fleets::{FleetLine, read_fleet};
 use dispatch_room_opening::rooms::Worked;

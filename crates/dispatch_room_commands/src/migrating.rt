@@ -3,7 +3,7 @@ ghost use Rattle.std.specs.Prelude.{◌≡◌, codes, IfOk, OnOk};
 ghost use Rattle.std.specs.Io.KnownBytes.{Appends};
 ghost use Rattle.dispatch_room_endings.specs.declared.endings.Done.TheVariants.{Whole};
 
-use crate::files::{RoomFile, Work, in_file};
+use dispatch_room_disk::room_files::{RoomFile, Work, in_file};
 use dispatch_room_endings::endings::{Done, Failure};
 use dispatch_room_opening::rooms::Worked;
 use dispatch_room_work::migrating::migrate_in;

@@ -2,7 +2,7 @@
 ghost use Rattle.std.specs.Prelude.{◌≡◌, ⊤, false};
 ghost use Rattle.dispatch_room_commands.specs.Ends.{failure_of};
 
-use crate::files::{RoomFile, Work, in_file};
+use dispatch_room_disk::room_files::{RoomFile, Work, in_file};
 use dispatch_room_endings::endings::{Done, Failure, refused};
 use dispatch_room_opening::rooms::{Worked, open_room};
 use dispatch_room_replaying::each::answer_each;

@@ -1,0 +1,5 @@
+//! The file of a room: it is found, or made, and what is done in it is done over any storage.
+#![tactic(auto)]
+
+mod new_files;
+pub mod room_files;

@@ -1,0 +1,102 @@
+//! The file of a new room: its owner's alone, and with small pages.
+ghost use Rattle.std.specs.Prelude.{◌≡◌, IfErr, IfOk, IsTrue, OnOk};
+ghost use Rattle.sqlite_pages.specs.declared.error.Error.TheVariants.{Corrupt};
+ghost use Rattle.sqlite_wal.specs.Reads.{AreClean};
+ghost use Rattle.dispatch_room_disk.specs.Faults.{IsFileFault};
+ghost use Rattle.dispatch_room_disk.specs.NewFiles.{IsBegun};
+
+use dispatch_room_endings::endings::Failure;
+use sqlite::{Files, Options, Unknown};
+use sqlite_disk::Disk;
+use sqlite_pager::{PageSize, Pager};
+use sqlite_pages::Error;
+use sqlite_pool::Pool;
+use sqlite_std_file::OpenError;
+use std::alloc::Global;
+use std::fs::OpenOptions;
+use std::hash::{BuildHasher, RandomState};
+use std::io::ErrorKind;
+use std::os::unix::fs::OpenOptionsExt;
+
+// How many bytes a page of a new room has. A write writes each page whole on which a row changes,
+// and a row has some hundred bytes. Left to choose, the database makes pages of 4,096.
+const PAGE: usize = 1024;
+
+/// Makes the file of a room where none is there, and begins an empty database in it where it holds
+/// none.
+pub fn make_file<'a>(rt: &HostRuntime, path: &'a str) -> Result<&'a str, Failure>
+    ensures { IfErr result IsFileFault }
+{
+    make_private(rt, path)?;
+    let files = match sqlite_std_file::open(rt, path, Unknown) {
+        Ok(files) => files,
+        Err(error) => return Err(fault_of(&error)),
+    };
+    let Ok(random) = RandomState::new(rt) else {
+        return Err(Failure::Storage);
+    };
+    begin(rt.alloc(), files, Options::new(random.hash_one(&0u8)))?;
+    Ok(path)
+}
+
+// Makes a file that its owner alone reads and writes, where none is there; its log gets the same
+// mode. Why it can't be made is told by what opens it.
+fn make_private(rt: &HostRuntime, path: &str) -> Result<(), Failure>
+    ensures { IfErr result IsFileFault }
+{
+    match OpenOptions::new()
+        .write(true)
+        .create_new(true)
+        .mode(0o600)
+        .open(rt, path)
+    {
+        Err(error) if error.kind() == ErrorKind::OutOfMemory => Err(Failure::Memory),
+        _ => Ok(()),
+    }
+}
+
+fn fault_of(error: &OpenError) -> Failure
+    ensures { IsFileFault result }
+{
+    match error {
+        OpenError::OutOfMemory => Failure::Memory,
+        OpenError::Io(error) if error.kind() == ErrorKind::OutOfMemory => Failure::Memory,
+        _ => Failure::Storage,
+    }
+}
+
+// Begins an empty database in files that hold none. A stop on the way leaves no database, which can
+// be begun again, or an empty one.
+fn begin<D: Disk + Drop>(
+    alloc: Global,
+    files: Files<D>,
+    options: Options,
+) -> Result<Files<D>, Failure>
+    requires log { IsTrue (D.Disk.is_usable files.log) }
+    requires db { IsTrue (D.Disk.is_usable files.db) }
+    ensures begun { IfOk result (λ left. AreClean D.Disk left.log left.db
+        → IsBegun D.Disk files left) }
+    ensures fault { IfErr result IsFileFault }
+{
+    let size = PageSize::new(PAGE).unwrap();
+    let Ok(pager) = Pager::new(alloc, files, size, options) else {
+        return Err(Failure::Memory);
+    };
+    let Ok(mut pool) = Pool::new(alloc, pager, false) else {
+        return Err(Failure::Memory);
+    };
+    begun(pool.create())?;
+    Ok(pool.close())
+}
+
+// What beginning a database came to: files that hold one already are refused as `Corrupt`.
+fn begun(created: Result<(), Error>) -> Result<(), Failure>
+    ensures done { OnOk result (IfErr created (λ error. error ≡ Corrupt)) }
+    ensures fault { IfErr result IsFileFault }
+{
+    match created {
+        Ok(()) | Err(Error::Corrupt) => Ok(()),
+        Err(Error::OutOfMemory) => Err(Failure::Memory),
+        Err(_) => Err(Failure::Storage),
+    }
+}
