@@ -127,15 +127,6 @@ def compared(op, term, name, param, why):
     return dict(term=lambda place, i: f"{term} {place} {i}", name=name, param=param, test=lambda at: f"compare_by {op} (column r {at}) ({param})", why=why)
 
 
-# The easting or the northing is at least, or at most, the number n.
-def number_from(side, n):
-    return compared("Ge", "at_least", side, f"number {n}", f"at_least-numbers x.place.{side} {n}")
-
-
-def number_to(side, n):
-    return compared("Le", "compares Le", side, f"number {n}", f"at_most-numbers x.place.{side} {n}")
-
-
 TABLES = [
     Table("meta", "meta", "List ℕ", ["1"], rows="(house.zone ∷ [])", of="house"),
     Table("areas", "area", "ℕ × Area", ["x.0"], rows="(numbered 1 room.plan)"),
@@ -147,10 +138,8 @@ TABLES = [
         load("incidents_opened", "INCIDENTS_OPENED", "(from to : ℤ) (d : ℕ)", "λ x. int_le from (pos x.opened) && (int_lt (pos x.opened) to && x.division == d)",
              compared("Ge", "at_least", "opened", "Int from", "at_least-integers (pos x.opened) from"), compared("Lt", "below", "opened", "Int to", "below-integers (pos x.opened) to"),
              equal_by_value("division", "number d", "equal-numbers x.division d")),
-        load("incidents_since", "INCIDENTS_SINCE", "(s : Rect) (from : ℤ) (d : ℕ)",
-             "λ x. nat_le s.west x.place.east && (nat_le x.place.east s.east && (nat_le s.south x.place.north && (nat_le x.place.north s.north && (int_le from (pos x.opened) && x.division == d))))",
-             number_from("east", "s.west"), number_to("east", "s.east"), number_from("north", "s.south"), number_to("north", "s.north"),
-             compared("Ge", "at_least", "opened", "Int from", "at_least-integers (pos x.opened) from"), equal_by_value("division", "number d", "equal-numbers x.division d")),
+        load("incidents_since", "INCIDENTS_SINCE", "(from : ℤ)", "λ x. int_le from (pos x.opened)",
+             compared("Ge", "at_least", "opened", "Int from", "at_least-integers (pos x.opened) from")),
     ]),
     Table("calls", "call", "Call", ["x.position", "x.serial"], loads=[incident_rows("calls_of", "CALLS_OF")]),
     Table("vehicles", "vehicle", "Vehicle", ["x.callsign"], overwrites=True, loads=[owned("vehicles_held", "VEHICLES_HELD", "vehicle", "holder")]),
@@ -180,26 +169,25 @@ def home(module, names):
 
 home("Rattle.std.proofs.Common", "◌≡◌ ◌∷◌ ◌||◌ ◌&&◌ ◌==◌ ◌∙◌ ℕ ℤ pos List [] filter not Ok refl sym false")
 home("Rattle.std.proofs.lemmas.Bool", "eqb-false")
-home("Rattle.std.specs.Prelude", "int_le int_lt nat_le")
+home("Rattle.std.specs.Prelude", "int_le int_lt")
 home("Rattle.std.specs.Ordering", "nat_cmp is_eq")
 home("Rattle.sqlite_value.specs.declared.value.Value.TheVariants", "Int Text")
 home("Rattle.sqlite_value.specs.declared.keys.Collation.TheVariants", "Binary")
 home("Rattle.sqlite_value.specs.Order", "column")
-home("Rattle.sqlite_sql.specs.declared.ops.CompareOp.TheVariants", "Ge Le Lt")
+home("Rattle.sqlite_sql.specs.declared.ops.CompareOp.TheVariants", "Ge Lt")
 home("Rattle.sqlite_schema.specs.Rules", "equal")
 home("Rattle.sqlite_tied.specs.Compute", "everything")
 home("Rattle.sqlite.specs.Effect", "Database")
 home("Rattle.sqlite.specs.Listing", "understood")
 home("Rattle.sqlite.specs.State", "State Executes")
 home("Rattle.room_tables_sql.specs.Outcomes", "Inside Only")
-home("Rattle.room_tables_sql.specs.Statements", "Selects StandsAlone Upserts Overwrites Deletes Stores Covers equals equals_by_value at_least below compares either row_values row_update rowid_values rowid_update")
+home("Rattle.room_tables_sql.specs.Statements", "Selects StandsAlone Upserts Overwrites Deletes Stores Covers equals equals_by_value at_least below either row_values row_update rowid_values rowid_update")
 home("Rattle.room_tables_sql.specs.Typed", "number")
 home("Rattle.room_tables_sql.proofs.ColumnValues", "AreKept cast-Int cast-Null cast-number_or_null")
-home("Rattle.room_tables_sql.proofs.Comparisons", "and_then and_last is_true-Or or_else equal-by_value equal-numbers at_least-numbers tie-numbers tie-texts tie_of_one tie_of_two conflict_of_one conflict_of_two is_eq-then compare_by")
+home("Rattle.room_tables_sql.proofs.Comparisons", "and_then and_last is_true-Or or_else equal-by_value equal-numbers tie-numbers tie-texts tie_of_one tie_of_two conflict_of_one conflict_of_two is_eq-then compare_by")
 home("Rattle.room_tables_sql.proofs.Standing", "holds_still holds_none")
 home("Rattle.room_tables_sql.proofs.StoredRows", "stores_row covers_row stores_rowid")
 home("Rattle.room_place.specs.declared.plans.Area", "Area")
-home("Rattle.room_place.specs.declared.plans.Rect", "Rect")
 home("Rattle.room_types.specs.Codes", "outcome_number state_number is_active")
 home("Rattle.room_types_keyed.specs.Keyed", "put_row")
 home("Rattle.room_types_keyed.specs.Keyed", "row_at")
@@ -224,7 +212,7 @@ home("Rattle.room_tables_schema.specs.Schema", "room_schema " + " ".join(f"{t.na
 home("Rattle.room_tables_rows.specs.Stands", "House Stands StandsFor numbered empty_room")
 home("Rattle.room_tables_schema.specs.Definitions", "IsBlank")
 home("Rattle.room_tables_rows.specs.Writes", "Changes")
-home("Rattle.room_tables_rows.proofs.Tests", "equal-active equal-false at_least-integers below-integers at_most-numbers and_three and_six cast-text_or_null")
+home("Rattle.room_tables_rows.proofs.Tests", "equal-active equal-false at_least-integers below-integers and_three cast-text_or_null")
 home("Rattle.room_tables_rows.specs.Tables", "IsHeld SelectsChosen PutsRow IsTable IsDropped IsOverwritten")
 home("Rattle.room_tables_rows.proofs.Loads", "Shows ShowsRow ShowsAll chosen_rows row_of_key all_rows")
 home("Rattle.room_tables_rows.proofs.Puts", "put_changes")
@@ -272,9 +260,6 @@ def told(conditions, t):
     if not any("tells" in c for c in conditions):
         return tells([c["test"](t.place(c["name"])) for c in conditions])
     first = conditions[0]
-    if len(conditions) == 6:
-        tests = "".join(f" ({c['test'](t.place(c['name']))})" for c in conditions[:-1])
-        return f"and_six{tests} ({conditions[-1]['tells'](t.place(conditions[-1]['name']))})"
     why = f"({first['tells'](t.place(first['name']))})" if "tells" in first else "refl"
     return f"and_last {why}" if len(conditions) == 1 else f"and_then {why} ({told(conditions[1:], t)})"
 

@@ -76,9 +76,11 @@ def put_waiting(room, now, waiting):
 
 
 def make(path, now, waiting):
-    """Makes a room's file in which so many incidents wait, for its owner alone."""
+    """Makes a room's file in which so many incidents wait, for its owner alone, with the pages that
+    `init` gives it."""
     path.touch(mode=0o600)
     room = sqlite3.connect(path)
+    room.execute('PRAGMA page_size = 1024')
     for text in schema():
         room.execute(text)
     put_plan(room)

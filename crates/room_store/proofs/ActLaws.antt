@@ -11,21 +11,22 @@ use Rattle.room_model.specs.Step.{decided, room_after}
 use Rattle.room_tables.specs.Stands.{House, Stands}
 use Rattle.room_tables.proofs.RoomReads.{kept}
 use Rattle.room_store_writes.specs.Writing.{Commits}
+use Rattle.room_store_recent.specs.declared.recents.Recents.{Recents}
 use Rattle.room_store.specs.Acting.{IsFor}
 
 -- before the reads, after them, after the write
-module _ (old mid new : State) (layout : Layout) (event : Event) (changes : List Change)
+module _ (old mid new : State) (layout : Layout) (known : Recents) (event : Event) (changes : List Change)
     (same : HasCleanDisk mid → IsUnchanged old mid)
-    (is : HasCleanDisk mid → (house : House) (room : Room) → IsFor old.now.trees layout event house room → changes ≡ changes_of (decided event room)) where
+    (is : HasCleanDisk mid → (house : House) (room : Room) → IsFor old.now.trees layout known event house room → changes ≡ changes_of (decided event room)) where
   -- what was written is the room after the event
   made : HasCleanDisk mid → (house : House) (room : Room)
-      → IsFor old.now.trees layout event house room
+      → IsFor old.now.trees layout known event house room
       → ((r : Room) → Stands mid.now.trees house r → Stands new.now.trees house (apply r changes))
       → Stands new.now.trees house (room_after event room)
   made clean house room h wrote = subst (λ cs. Stands new.now.trees house (apply room cs)) (is clean house room h) (wrote room (kept old mid (same clean) house room h.stands))
 
   pub acted : HasCleanDisk mid → Commits mid new (Stands mid.now.trees)
-      (λ room. apply room changes) → Commits old new (IsFor old.now.trees layout event)
+      (λ room. apply room changes) → Commits old new (IsFor old.now.trees layout known event)
       (room_after event)
   acted clean wrote = record {
     was_open = (same clean).0.was_open;
@@ -38,8 +39,8 @@ module _ (old mid new : State) (layout : Layout) (event : Event) (changes : List
       → Survives mid new (λ db. (house : House) (room : Room) → Stands mid.now.trees house room
       → Stands db house (apply room changes))
       → Survives old new (λ db. (house : House) (room : Room)
-      → IsFor old.now.trees layout event house room → Stands db house (room_after event room))
-  acted_survives read wrote = survives_then old mid new _ _ (λ db. (house : House) (room : Room) → IsFor old.now.trees layout event house room → Stands db house (room_after event room))
+      → IsFor old.now.trees layout known event house room → Stands db house (room_after event room))
+  acted_survives read wrote = survives_then old mid new _ _ (λ db. (house : House) (room : Room) → IsFor old.now.trees layout known event house room → Stands db house (room_after event room))
       (λ _ db none. absurd none)
       (λ clean db left house room h.
       let early : HasCleanDisk mid = omega (arith, wrote.clean) in

@@ -1,4 +1,4 @@
--- Terminals that a store has looked up: what they tell, and that they stay.
+-- What a store knows beside its tables: terminals that it has looked up, what they tell and that they stay; and incidents.
 use Rattle.std.proofs.Common.{List, None, Option, Some, [], ap, get_or, length, refl, subst, sym, ◌<◌, ◌≡◌}
 use Rattle.std.proofs.lemmas.List.Elements.{All-nil, All-same, All-weaker}
 use Rattle.std.specs.Prelude.{All, HoldsAt, IfSome, option_map, ℕ}
@@ -13,9 +13,15 @@ use Rattle.room_model.proofs.KeptCalls.{row_stays}
 use Rattle.room_model.specs.Enrol.{fate_of, new_terminal, terminal_at, terminal_key, terminals_by, terminals_enrolled, token_cmp}
 use Rattle.room_model.specs.Room.{Room}
 use Rattle.room_service.specs.Rooms.{who_at}
+use Rattle.room_store_recent.specs.Recent.{AreRecent}
+use Rattle.room_store_recent.specs.declared.recents.Recents.{Recents}
 use Rattle.room_store.specs.Keeping.{IsOneOf}
 
--- a store that begins knows none
+-- where no incidents are known, nothing is asked of them
+pub none_recent : (known : Recents) (room : Room) → known.from ≡ None → AreRecent known room
+none_recent known room none = rw none tt
+
+-- a store that begins knows no terminal
 pub knows_none : (terminals known : List Terminal) → known ≡ [] → All (IsOneOf terminals) known
 knows_none terminals known none = All-same (IsOneOf terminals) known [] none (All-nil (IsOneOf terminals))
 

@@ -18,6 +18,7 @@ use Rattle.room_tables.specs.Stands.{House, Stands}
 use Rattle.room_tables_schema.specs.Connections.{HasRoomSchema}
 use Rattle.room_tables_schema.specs.Schema.{room_schema}
 use Rattle.room_store_writes.specs.Writing.{Commits, IsSettled, Leaves}
+use Rattle.room_store_recent.specs.Recent.{AreRecent}
 use Rattle.room_store.specs.Acting.{IsFor}
 use Rattle.room_store.specs.Keeping.{IsKept, IsOneOf, IsReady, IsRoom, LeavesOneOf}
 use Rattle.room_store_writes.specs.Houses.{house_of}
@@ -36,13 +37,14 @@ ready_tested g held outside tested = record { outside = outside; schema = λ sou
 -- tables that were left stand for the room that they stood for
 pub room_left : {S : Type 0} (g : Ghosts S) (old new : Store S) (terminals : List Terminal)
     (room : Room) → Leaves (state g old.conn) (state g new.conn) → new.plan ≡ old.plan
-    → All (IsOneOf terminals) new.known.items
+    → All (IsOneOf terminals) new.known.items → AreRecent new.recents room
     → IsRoom g old terminals room → IsRoom g new terminals room
-room_left g old new terminals room left same known is = record {
+room_left g old new terminals room left same known recent is = record {
   formed = is.formed;
   fits = is.fits;
   plan = rw same is.plan;
   known = known;
+  recent = recent;
   tables = λ is_open. rw same (subst (λ (db : Database). Stands db.trees (house_of old.plan terminals) room) (sym (left.now_is is_open)) (is.tables (left.was_open is_open)));
 }
 
@@ -51,18 +53,21 @@ module _ {S : Type 0} (g : Ghosts S) (old new : Store S) (event : Event)
     (addressed : IsAddressed event room) where
   -- while the connection is open, the event is for the room in the tables
   pub for_room : IsTrue (state g old.conn).is_open
-      → IsFor (state g old.conn).now.trees old.plan event (house_of old.plan terminals) room
-  for_room is_open = record { stands = is.tables is_open; formed = is.formed; plan = is.plan; addressed = addressed }
+      → IsFor (state g old.conn).now.trees old.plan old.recents event (house_of old.plan terminals)
+      room
+  for_room is_open = record { stands = is.tables is_open; formed = is.formed; plan = is.plan; recent = is.recent; addressed = addressed }
 
   pub room_moved : IsNumbered event.ask → new.plan ≡ old.plan → new.known ≡ old.known
+      → AreRecent new.recents (room_after event room)
       → Commits (state g old.conn) (state g new.conn)
-      (IsFor (state g old.conn).now.trees old.plan event) (room_after event)
+      (IsFor (state g old.conn).now.trees old.plan old.recents event) (room_after event)
       → IsRoom g new terminals (room_after event room)
-  room_moved is_numbered same same_known wrote = record {
+  room_moved is_numbered same same_known recent wrote = record {
     formed = event_kept event room is.formed addressed is_numbered;
     fits = terminals_run (event ∷ []) room terminals is.fits;
     plan = rw same (plan_run (event ∷ []) room ∙ is.plan);
     known = rw same_known is.known;
+    recent = recent;
     tables = λ _. rw same (wrote.stands (house_of old.plan terminals) room (for_room wrote.was_open));
   }
 
@@ -70,7 +75,7 @@ module _ {S : Type 0} (g : Ghosts S) (old new : Store S) (event : Event)
 pub event_survives : {S : Type 0} (g : Ghosts S) (old : Store S) (new : State) (event : Event)
     → Survives (state g old.conn) new
     (λ db. (house : House) (room : Room)
-    → IsFor (state g old.conn).now.trees old.plan event house room
+    → IsFor (state g old.conn).now.trees old.plan old.recents event house room
     → Stands db house (room_after event room))
     → Survives (state g old.conn) new
     (λ db. IsTrue (state g old.conn).is_open → (terminals : List Terminal) (room : Room)

@@ -11,6 +11,7 @@ use Rattle.room_model.specs.WellFormed.{IsWellFormed}
 use Rattle.room_tables_schema.specs.Schema.{room_schema}
 use Rattle.room_tables.specs.Stands.{House, Stands}
 use Rattle.room_store_writes.specs.Houses.{house_of}
+use Rattle.room_store_recent.specs.Recent.{AreRecent}
 use Rattle.room_store.specs.declared.store.Store.{Store}
 
 -- It may be called: no transaction is open, a sound store's file is a room's, and what an unsound
@@ -25,14 +26,16 @@ pub record IsReady {S : Type 0} (g : Ghosts S) (held : Store S) : Type 0 where
 abbrev pub IsOneOf : List Terminal → Terminal → Type 0
 IsOneOf terminals t = terminal_at t.token terminals ≡ Some t
 
--- It stands for this well-formed room with these terminals, and those that it knows are of these.
--- Of a connection that a fault has shut, the tables tell nothing.
+-- It stands for this well-formed room with these terminals, those that it knows are of these, and
+-- so are the incidents that it knows of the room's. Of a connection that a fault has shut, the tables
+-- tell nothing.
 pub record IsRoom {S : Type 0} (g : Ghosts S) (held : Store S) (terminals : List Terminal)
     (room : Room) : Type 0 where
   pub formed : IsWellFormed room
   pub fits : AreTerminals room terminals
   pub plan : room.plan ≡ held.plan.areas
   pub known : All (IsOneOf terminals) held.known.items
+  pub recent : AreRecent held.recents room
   pub tables : IsTrue (state g held.conn).is_open
       → Stands (state g held.conn).now.trees (house_of held.plan terminals) room
 

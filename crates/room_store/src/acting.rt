@@ -14,12 +14,14 @@ ghost use Rattle.room_model.specs.Step.{answer_to, decided, room_after};
 ghost use Rattle.room_service.specs.Rooms.{IsWant};
 ghost use Rattle.room_tables.specs.Stands.{House, Stands};
 ghost use Rattle.room_store_writes.specs.Writing.{Commits, Leaves};
+ghost use Rattle.room_store_recent.specs.Recent.{AreRecent};
 ghost use Rattle.room_store.specs.Acting.{IsFor};
 
 use crate::deciding::decide;
 use crate::faults::refusal_of;
 use room_core::decisions::Decision;
 use room_place::plans::Plan;
+use room_store_recent::recents::Recents;
 use room_store_writes::writing::write;
 use room_types::answers::{Answer, Listed};
 use room_types::asks::{Ask, Event};
@@ -34,6 +36,7 @@ pub(crate) fn act_on<S: Alter, F: FnOnce(&Result<Answer, Refusal>) -> Result<Vec
     alloc: Global,
     conn: &mut Connection<S>,
     plan: &Plan,
+    recents: &mut Recents,
     event: &Event,
     render: F,
 ) -> Result<Vec<u8>, Refusal>
@@ -44,23 +47,28 @@ pub(crate) fn act_on<S: Alter, F: FnOnce(&Result<Answer, Refusal>) -> Result<Vec
         → FnOnceReturnsAt F.FnOnce render answer r → IfErr r (λ e. e ≡ Memory) }
     ensures bytes { HasCleanDisk (state S.Store conn.new)
         → IfOk result (λ bytes. (house : House) (room : Room)
-        → IsFor (state S.Store conn.old).now.trees plan.now event.now house room
+        → IsFor (state S.Store conn.old).now.trees plan.now recents.old event.now house room
         → FnOnceReturnsAt F.FnOnce render (answer_to event.now room) (Ok bytes)) }
     ensures ok { HasCleanDisk (state S.Store conn.new)
         → OnOk result (Commits (state S.Store conn.old) (state S.Store conn.new)
-        (IsFor (state S.Store conn.old).now.trees plan.now event.now) (room_after event.now)) }
+        (IsFor (state S.Store conn.old).now.trees plan.now recents.old event.now)
+        (room_after event.now)) }
+    ensures recent { HasCleanDisk (state S.Store conn.new)
+        → OnOk result ((house : House) (room : Room)
+        → IsFor (state S.Store conn.old).now.trees plan.now recents.old event.now house room
+        → AreRecent recents.new (room_after event.now room)) }
     ensures err { HasCleanDisk (state S.Store conn.new)
         → OnErr result (Leaves (state S.Store conn.old) (state S.Store conn.new)) }
     ensures wants { IfErr result IsWant }
     ensures ended { conn.new.in_transaction ≡ false }
     ensures survives { Survives (state S.Store conn.old) (state S.Store conn.new) (λ db.
         (house : House) (room : Room)
-        → IsFor (state S.Store conn.old).now.trees plan.now event.now house room
+        → IsFor (state S.Store conn.old).now.trees plan.now recents.old event.now house room
         → Stands db house (room_after event.now room)) }
 {
     // Outside a transaction the tables are as they were committed.
     let _ = conn.is_autocommit();
-    let decision = match decide(alloc, conn, plan, event) {
+    let decision = match decide(alloc, conn, plan, recents, event) {
         Ok(decision) => decision,
         Err(fault) => return Err(refusal_of(fault)),
     };
@@ -71,12 +79,11 @@ pub(crate) fn act_on<S: Alter, F: FnOnce(&Result<Answer, Refusal>) -> Result<Vec
         Ok(bytes) => bytes,
         Err(refusal) => return Err(refusal),
     };
-    let written = write(conn, changes.as_slice());
-    drop(changes);
-    match written {
-        Ok(()) => Ok(bytes),
-        Err(fault) => Err(refusal_of(fault)),
+    if let Err(fault) = write(conn, changes.as_slice()) {
+        return Err(refusal_of(fault));
     }
+    recents.follow(changes.as_slice());
+    Ok(bytes)
 }
 
 // The changes of a decision, and the answer.

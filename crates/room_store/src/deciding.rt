@@ -19,6 +19,8 @@ ghost use Rattle.room_tables.specs.Stands.{House};
 ghost use Rattle.room_tables.specs.Finding.{Finds};
 ghost use Rattle.room_store.specs.Acting.{IsFor, IsIn};
 ghost use Rattle.room_store_reads.specs.CrewParts.{HasVehicle};
+ghost use Rattle.room_store_reads.specs.Parts.{AreNear};
+ghost use Rattle.room_store_recent.specs.Recent.{AreRecent};
 
 use room_core::calls::{decide_again, decide_call};
 use room_core::crews::{decide_order, decide_report, decide_report_again};
@@ -27,6 +29,7 @@ use room_core::desks::decide_desk;
 use room_place::plans::{DivisionNumber, Plan};
 use room_store_reads::crews::{load_assignment, load_crew, load_report};
 use room_store_reads::working::load_working;
+use room_store_recent::recents::Recents;
 use room_tables::loading::row_at;
 use room_tables_schema::faults::Fault;
 use room_types::asks::{Ask, CallForm, Event, NewCall, Press, Who};
@@ -34,8 +37,9 @@ use room_types::callsign::Callsign;
 use room_types::crews::CrewSlice;
 use room_types::numbers::{Moment, PositionNumber};
 use room_types::refusals::Refusal;
+use room_types::rows::Rows;
 use room_types::slices::Slice;
-use room_types::tables::{Call, Vehicle};
+use room_types::tables::{Call, Incident, Vehicle};
 use sqlite::{Alter, Connection};
 use std::alloc::Global;
 
@@ -46,13 +50,16 @@ pub(crate) fn decide<S: Alter>(
     alloc: Global,
     conn: &mut Connection<S>,
     plan: &Plan,
+    recents: &mut Recents,
     event: &Event,
 ) -> Result<Result<Decision, Refusal>, Fault>
     requires room { HasRoomSchema S.Store conn.old }
     ensures decided { HasCleanDisk (state S.Store conn.new)
         → IfOk result (λ x. (house : House) (room : Room)
-        → IsFor (state S.Store conn.old).now.trees plan.now event.now house room
+        → IsFor (state S.Store conn.old).now.trees plan.now recents.old event.now house room
         → x ≡ decided event.now room) }
+    ensures recent { Finds S.Store conn.old conn.new result (λ room _. AreRecent recents.old room
+        → AreRecent recents.new room) }
     ensures ok { HasCleanDisk (state S.Store conn.new)
         → OnOk result (IsUnchanged (state S.Store conn.old) (state S.Store conn.new)) }
     ensures err { HasCleanDisk (state S.Store conn.new)
@@ -62,30 +69,35 @@ pub(crate) fn decide<S: Alter>(
     ensures survives { Survives (state S.Store conn.old) (state S.Store conn.new) (λ _. ⊥) }
 {
     match &event.who {
-        Who::Desk(division) => for_division(alloc, conn, plan, *division, event),
+        Who::Desk(division) => {
+            let near = Rows::new(alloc);
+            for_division(alloc, conn, plan, *division, event, &near)
+        }
         Who::Crew(callsign) => for_crew(alloc, conn, callsign, &event.ask, event.at),
         Who::Position(position) => match &event.ask {
-            Ask::Call(form) => for_call(alloc, conn, plan, *position, form, event),
+            Ask::Call(form) => for_call(alloc, conn, plan, recents, *position, form, event),
             _ => Err(Fault::Storage),
         },
     }
 }
 
-// What is for a division: what its desk asks, or a call that is placed in it and not kept.
+// What is for a division: what its desk asks, or a call that is placed in it and not kept, with the
+// incidents that it may be linked to.
 fn for_division<S: Alter>(
     alloc: Global,
     conn: &mut Connection<S>,
     plan: &Plan,
     division: DivisionNumber,
     event: &Event,
+    near: &Rows<Incident>,
 ) -> Result<Result<Decision, Refusal>, Fault>
     requires room { HasRoomSchema S.Store conn.old }
     ensures decided { Finds S.Store conn.old conn.new result (λ room x. IsWellFormed room
         → room.plan ≡ plan.now.areas → IsIn event.now.who event.now.ask division room
-        → x ≡ decided event.now room) }
+        → AreNear division event.now.ask event.now.at room near.now → x ≡ decided event.now room) }
     ensures reads { ReadsOnly S.Store conn.old conn.new result }
 {
-    let rows = load_working(alloc, conn, division, &event.ask, event.at)?;
+    let rows = load_working(alloc, conn, division, &event.ask, near)?;
     match Slice::build(division, rows) {
         Some(slice) => {
             let decision = decide_on(alloc, plan, &slice, event);
@@ -185,6 +197,7 @@ fn for_call<S: Alter>(
     alloc: Global,
     conn: &mut Connection<S>,
     plan: &Plan,
+    recents: &mut Recents,
     position: PositionNumber,
     form: &CallForm,
     event: &Event,
@@ -192,14 +205,20 @@ fn for_call<S: Alter>(
     requires room { HasRoomSchema S.Store conn.old }
     ensures decided { Finds S.Store conn.old conn.new result (λ room x. IsWellFormed room
         → room.plan ≡ plan.now.areas → event.now.who ≡ Position position
-        → event.now.ask ≡ CallAsk form.now → x ≡ decided event.now room) }
+        → event.now.ask ≡ CallAsk form.now → AreRecent recents.old room
+        → x ≡ decided event.now room) }
+    ensures recent { Finds S.Store conn.old conn.new result (λ room _. AreRecent recents.old room
+        → AreRecent recents.new room) }
     ensures reads { ReadsOnly S.Store conn.old conn.new result }
 {
     let found = row_at::<Call, S>(conn, &(position, form.serial))?;
     match found {
         Some(kept) => Ok(decide_again(alloc, &kept, &new_call(position, form, event.at))),
         None => match plan.division_of(form.place) {
-            Some(division) => for_division(alloc, conn, plan, division, event),
+            Some(division) => {
+                let near = recents.near(alloc, conn, division, form, event.at)?;
+                for_division(alloc, conn, plan, division, event, &near)
+            }
             None => Ok(Err(Refusal::OutsideArea)),
         },
     }

@@ -14,6 +14,7 @@ ghost use Rattle.room_tables_schema.specs.Schema.{room_schema};
 ghost use Rattle.room_service.specs.Rooms.{IsWant, who_at};
 ghost use Rattle.room_tables.specs.Stands.{Stands};
 ghost use Rattle.room_store_writes.specs.Writing.{IsSettled, Leaves};
+ghost use Rattle.room_store_recent.specs.Recent.{AreRecent};
 ghost use Rattle.room_store.specs.Keeping.{IsReady, IsRoom};
 ghost use Rattle.room_store_writes.specs.Houses.{house_of};
 
@@ -21,6 +22,7 @@ use crate::acting::{act_on, know_number};
 use crate::faults::refusal_of;
 use crate::knowing::{keep, place_of};
 use room_place::plans::Plan;
+use room_store_recent::recents::Recents;
 use room_tables::terminals::terminal_at;
 use room_tables_schema::testing::is_room;
 use room_types::answers::Answer;
@@ -41,6 +43,8 @@ pub struct Store<S: Alter> {
     pub(crate) plan: Plan,
     // Terminals that were looked up, in the order of their tokens. Each is one of the room's.
     pub(crate) known: Vec<Terminal>,
+    // The incidents that were opened last.
+    pub(crate) recents: Recents,
     pub(crate) is_sound: bool,
 }
 
@@ -72,6 +76,7 @@ impl<S: Alter> Store<S> {
             conn,
             plan: _,
             known: _,
+            recents: _,
             is_sound: _,
         } = self;
         conn
@@ -134,6 +139,9 @@ impl<S: Alter> Store<S> {
         ensures ready { IsReady S.Store self.new }
         ensures plan { self.new.plan ≡ self.old.plan }
         ensures known { self.new.known ≡ self.old.known }
+        // After a failure it knows no incidents, or those that it knew.
+        ensures recent { OnErr result ((room : Room) → AreRecent self.old.recents room
+            → AreRecent self.new.recents room) }
         ensures bytes { HasCleanDisk (state S.Store self.new.conn)
             → IfOk result (λ bytes. (terminals : List Known) (room : Room)
             → IsRoom S.Store self.old terminals room → IsAddressed event.now room
@@ -162,9 +170,17 @@ impl<S: Alter> Store<S> {
             return Err(Refusal::Storage);
         }
         know_number(&event.ask);
-        match act_on(alloc, &mut self.conn, &self.plan, event, render) {
+        match act_on(
+            alloc,
+            &mut self.conn,
+            &self.plan,
+            &mut self.recents,
+            event,
+            render,
+        ) {
             Ok(bytes) => Ok(bytes),
             Err(refusal) => {
+                self.recents.forget();
                 self.test_file();
                 Err(refusal)
             }
@@ -178,6 +194,7 @@ impl<S: Alter> Store<S> {
         ensures conn { self.new.conn ≡ self.old.conn }
         ensures plan { self.new.plan ≡ self.old.plan }
         ensures known { self.new.known ≡ self.old.known }
+        ensures recents { self.new.recents ≡ self.old.recents }
     {
         self.is_sound = is_room(self.conn.schema());
     }

@@ -13,8 +13,8 @@ use Rattle.room_types.specs.declared.tables.Incident.{Incident}
 use Rattle.room_model.specs.Working.{names_incident, names_opening, reads_active, reads_incident}
 use Rattle.room_types.specs.declared.asks.Ask.TheVariants as ask
 use Rattle.room_model.proofs.Tests.{is_equal}
-use Rattle.room_store_reads.proofs.RoomReads.{and_none, or_assoc, or_none, or_turned, pair_turned}
-use Rattle.room_store_reads.specs.Reading.{any, contains}
+use Rattle.room_store_reads.proofs.RoomReads.{and_none, or_across, or_assoc, or_none, or_turned, pair_turned}
+use Rattle.room_store_reads.specs.Reading.{any, contains, is_near}
 
 pub contains_last : (n m : ℕ) (ms : List ℕ) → contains n (ms ++ m ∷ []) ≡ contains n ms || (m == n)
 contains_last n m [] = or_none (m == n)
@@ -62,11 +62,11 @@ numbers_of d reads (x ∷ xs) n h =
     ∙ one_step same (x.division == d) (x.number == n) (reads x) _ _ (pair_turned d n x.division x.number) (numbers_of d reads xs n h.1) gone
     ∙ sym (kept_cond reads same x (row_at pair_cmp incident_key xs (d, n)))
 
-one_way : (own shown first second : Bool)
-    → (own && shown) || ((own && first) || ((own && second) || false)) ≡ own
-    && (shown || (first || second))
-one_way true shown first second = ap (λ b. shown || (first || b)) (or_none second)
-one_way false shown first second = refl
+one_way : (own shown first second near : Bool)
+    → ((own && shown) || ((own && first) || ((own && second) || false))) || (own && near)
+    ≡ own && ((shown || near) || (first || second))
+one_way true shown first second near = ap (λ b. (shown || (first || b)) || near) (or_none second) ∙ or_across shown (first || second) near
+one_way false shown first second near = refl
 
 shown_or_named : (a : Ask) (at : ℕ) (i : Incident) (first second : Bool)
     → names_incident a i.number ≡ first || second
@@ -76,19 +76,21 @@ shown_or_named a at i first second e =
     sym (or_assoc (reads_active a && is_active i.state) (names_opening a at i) (first || second))
     ∙ ap (λ b. (reads_active a && is_active i.state) || b) (or_turned (names_opening a at i) (first || second) ∙ ap (λ b. b || names_opening a at i) (sym e))
 
--- an incident that is read is in the first part, or it is one of those that are named
-pub one_test : (a : Ask) (at : ℕ) (i : Incident) (own shown first second f s : Bool)
-    → shown ≡ (reads_active a && is_active i.state) || names_opening a at i → first ≡ f
+-- an incident that is read is in the first part, it is one of those that are named, or a call may
+-- be linked to it
+pub one_test : (a : Ask) (at : ℕ) (i : Incident) (own shown first second near f s : Bool)
+    → shown || near ≡ (reads_active a && is_active i.state) || names_opening a at i → first ≡ f
     → second ≡ s → names_incident a i.number ≡ f || s
-    → (own && shown) || ((own && first) || ((own && second) || false)) ≡ own
-    && reads_incident a at i
-one_test a at i own shown first second f s e g h n = one_way own shown first second ∙ ap (λ b. own && b) ((λ j. e j || (g j || h j)) ∙ shown_or_named a at i f s n)
+    → ((own && shown) || ((own && first) || ((own && second) || false))) || (own && near)
+    ≡ own && reads_incident a at i
+one_test a at i own shown first second near f s e g h n = one_way own shown first second near ∙ ap (λ b. own && b) ((λ j. e j || (g j || h j)) ∙ shown_or_named a at i f s n)
 
 -- where the active incidents are read, no others are
 pub shown_alone : (a : Ask) → reads_active a ≡ true → (at : ℕ) (i : Incident)
-    → is_active i.state ≡ (reads_active a && is_active i.state) || names_opening a at i
-shown_alone ask.Incidents h at i = sym (or_none (is_active i.state))
-shown_alone ask.Queue h at i = sym (or_none (is_active i.state))
+    → is_active i.state || is_near a at i
+    ≡ (reads_active a && is_active i.state) || names_opening a at i
+shown_alone ask.Incidents h at i = refl
+shown_alone ask.Queue h at i = refl
 shown_alone a h at i = cc
 
 shown_reads : (a : Ask) → reads_active a ≡ true → (at : ℕ) (i : Incident)

@@ -75,6 +75,10 @@ or_turned true false = refl
 or_turned false true = refl
 or_turned false false = refl
 
+pub or_across : (a b c : Bool) → (a || b) || c ≡ (a || c) || b
+or_across true b c = refl
+or_across false b c = or_turned b c
+
 pub and_none : (b : Bool) → b && false ≡ false
 and_none true = refl
 and_none false = refl
@@ -86,11 +90,6 @@ and_all false = refl
 and_twice : (b : Bool) → b && b ≡ b
 and_twice true = refl
 and_twice false = refl
-
-pub and_across : (a b c : Bool) → a && (b && c) ≡ b && (a && c)
-and_across true b c = refl
-and_across false true c = refl
-and_across false false c = refl
 
 -- no row passes a test that is never met
 pub filter_never : {X : Type 0} (p q : X → Bool) (xs : List X) → ((x : X) → q x ≡ false)

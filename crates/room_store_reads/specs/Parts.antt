@@ -1,10 +1,17 @@
 -- Parts of a division's working rows, as they stand in the room.
-use Rattle.std.specs.Prelude.{ℕ, ◌≡◌}
+use Rattle.std.specs.Prelude.{List, filter, ℕ, ◌&&◌, ◌==◌, ◌≡◌}
 use Rattle.room_types.specs.declared.asks.Ask.{Ask}
+use Rattle.room_types.specs.declared.tables.Incident.{Incident}
 use Rattle.room_model.specs.Room.{Room}
 use Rattle.room_model.specs.Working.{working}
+use Rattle.room_store_reads.specs.Reading.{is_near}
 use Rattle.room_store_reads.specs.declared.working.Held.{Held}
 use Rattle.room_store_reads.specs.declared.working.Work.{Work}
+
+-- the division's incidents that a call may be linked to, and none for another request
+abbrev pub AreNear : ℕ → Ask → ℕ → Room → List Incident → Type 0
+AreNear d a at room near =
+    near ≡ filter (λ i. i.division == d && is_near a at i) room.incidents
 
 -- what a request reads beside incidents and reports, at whatever moment
 pub record IsHeld (d : ℕ) (a : Ask) (room : Room) (x : Held) : Type 0 where

@@ -1,17 +1,18 @@
 -- What a request names of the rows that it reads.
 use Rattle.std.specs.Ordering.{is_eq}
 use Rattle.std.specs.Prelude.{Bool, List, None, Option, Some, [], false, int_le, int_lt, pos, ℕ, ◌&&◌, ◌==◌, ◌||◌, ◌∷◌}
-use Rattle.room_place.specs.Plans.{has_place}
 use Rattle.room_types.specs.Codes.{is_active}
 use Rattle.room_types.specs.Keys.{numbered_cmp, same_callsign, turn_key}
 use Rattle.room_types.specs.Texts.{Callsign}
+use Rattle.room_types.specs.declared.asks.Ask.{Ask}
+use Rattle.room_types.specs.declared.asks.Ask.TheVariants.{Call}
 use Rattle.room_types.specs.declared.tables.Incident.{Incident}
 use Rattle.room_types.specs.declared.tables.Turn.{Turn}
 use Rattle.room_model.specs.Queries.{held}
 use Rattle.room_model.specs.Room.{Room}
-use Rattle.room_model.specs.Working.{is_last_turn}
+use Rattle.room_model.specs.Working.{is_last_turn, names_opening}
 use Rattle.room_store_reads.specs.declared.naming.IncidentPart.{IncidentPart}
-use Rattle.room_store_reads.specs.declared.naming.IncidentPart.TheVariants.{Active, Around, Between, Nothing, Numbered}
+use Rattle.room_store_reads.specs.declared.naming.IncidentPart.TheVariants.{Active, Between, Nothing, Numbered}
 
 -- the row, where there is one
 abbrev pub listed : {R : Type 0} → Option R → List R
@@ -37,8 +38,13 @@ abbrev pub is_part : IncidentPart → Incident → Bool
 is_part Nothing i = false
 is_part Active i = is_active i.state
 is_part (Between from to) i = int_le from (pos i.opened) && int_lt (pos i.opened) to
-is_part (Around from square) i = int_le from (pos i.opened) && has_place i.place square
 is_part (Numbered n) i = n == i.number
+
+-- a call may be linked to it, by its opening and its place: such incidents are known before a
+-- request is read
+abbrev pub is_near : Ask → ℕ → Incident → Bool
+is_near (Call f) at i = names_opening (Call f) at i
+is_near a at i = false
 
 -- the report that is named, if one is
 abbrev pub is_report : Option (Callsign × ℕ) → Callsign → ℕ → Bool

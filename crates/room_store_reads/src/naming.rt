@@ -1,7 +1,5 @@
 //! What a request names of the rows that it reads.
 ghost use Rattle.std.specs.Prelude.{◌≡◌, ◌==◌, ◌&&◌, ◌||◌, ℕ, IfSome, IsTrue};
-ghost use Rattle.room_place.specs.Plans.{has_place};
-ghost use Rattle.room_place.specs.declared.places.Place.{Place as PlaceModel};
 ghost use Rattle.room_types.specs.Codes.{is_active};
 ghost use Rattle.room_types.specs.Keys.{callsign_cmp, pair_cmp};
 ghost use Rattle.room_types.specs.Texts.{Callsign as CallsignText};
@@ -9,23 +7,16 @@ ghost use Rattle.room_types.specs.declared.asks.Ask.TheVariants.{StandDown};
 ghost use Rattle.room_types.specs.declared.tables.Incident.{Incident};
 ghost use Rattle.room_types.specs.declared.tables.Turn.{Turn};
 ghost use Rattle.room_model.specs.Room.{Room};
-ghost use Rattle.room_model.specs.Working.{is_around, names_incident, names_opening, names_report, names_turn, reads_active, reads_assignments, reads_calls, reads_division, reads_exceptions, reads_incident, reads_loan, reads_offer, reads_point, reads_vehicle};
+ghost use Rattle.room_model.specs.Working.{names_incident, names_opening, names_report, names_turn, reads_active, reads_assignments, reads_calls, reads_division, reads_exceptions, reads_incident, reads_loan, reads_offer, reads_point, reads_vehicle};
 ghost use Rattle.room_store_reads.specs.Extents.{reaches};
 ghost use Rattle.room_store_reads.specs.declared.extents.Extent.TheVariants.{Nothing};
-ghost use Rattle.room_store_reads.specs.Reading.{any, contains, is_last_of, is_number, is_part, is_report};
+ghost use Rattle.room_store_reads.specs.Reading.{any, contains, is_last_of, is_near, is_number, is_part, is_report};
 
 use crate::extents::Extent;
-use room_place::places::Place;
-use room_place::plans::{DivisionNumber, Rect};
+use room_place::plans::DivisionNumber;
 use room_types::asks::Ask;
 use room_types::callsign::Callsign;
-use room_types::numbers::{Moment, Number, PointNumber};
-
-// How many seconds before its moment an incident may have been opened that a call is linked to.
-const LINKED_WITHIN: u32 = 900;
-
-// How many metres from its place, in each direction, an incident may lie that a call is linked to.
-const LINKED_AROUND: u32 = 200;
+use room_types::numbers::{Number, PointNumber};
 
 /// Whether a request reads its division's own row.
 pub fn reads_division(ask: &Ask) -> bool
@@ -164,25 +155,22 @@ pub enum IncidentPart {
     Active,
     /// Opened from the first on, and before the second.
     Between(i64, i64),
-    /// Opened from this one on, in a square.
-    Around(i64, Rect),
     Numbered(Number),
 }
 
 /// The incidents that a request reads: the active ones, those that were opened then, and those that
-/// it names.
-pub fn incidents_read(ask: &Ask, at: Moment) -> [IncidentPart; 3]
-    ensures { (d : ℕ) (i : Incident) → any (λ p. i.division == d && is_part p i) result
-        ≡ i.division == d && reads_incident ask.now at i }
+/// it names; and, beside these, those that a call may be linked to.
+pub fn incidents_read(ask: &Ask) -> [IncidentPart; 3]
+    ensures { (d at : ℕ) (i : Incident) → any (λ p. i.division == d && is_part p i) result
+        || i.division == d && is_near ask.now at i ≡ i.division == d && reads_incident ask.now at i }
 {
     let (first, second) = named_incidents(ask);
-    [shown_or_opened(ask, at), numbered(first), numbered(second)]
+    [shown_or_opened(ask), numbered(first), numbered(second)]
 }
 
-// The active incidents, those of the day whose times are asked for, or those that a call may be
-// linked to.
-fn shown_or_opened(ask: &Ask, at: Moment) -> IncidentPart
-    ensures { (i : Incident) → is_part result i
+// The active incidents, or those of the day whose times are asked for.
+fn shown_or_opened(ask: &Ask) -> IncidentPart
+    ensures { (at : ℕ) (i : Incident) → is_part result i || is_near ask.now at i
         ≡ reads_active ask.now && is_active i.state || names_opening ask.now at i }
 {
     if reads_active(ask) {
@@ -190,10 +178,6 @@ fn shown_or_opened(ask: &Ask, at: Moment) -> IncidentPart
     }
     match ask {
         Ask::Times(from, to) => IncidentPart::Between(*from, *to),
-        Ask::Call(call) => {
-            let from = at.get().saturating_sub(LINKED_WITHIN);
-            IncidentPart::Around(i64::from(from), square_around(&call.place))
-        }
         _ => IncidentPart::Nothing,
     }
 }
@@ -204,19 +188,6 @@ fn numbered(number: Option<Number>) -> IncidentPart
     match number {
         Some(number) => IncidentPart::Numbered(number),
         None => IncidentPart::Nothing,
-    }
-}
-
-// The square that a place is the middle of.
-fn square_around(place: &Place) -> Rect
-    ensures { (p : PlaceModel) → is_around p place.now ≡ has_place p result }
-{
-    let (east, north) = (place.east.get(), place.north.get());
-    Rect {
-        west: east - LINKED_AROUND,
-        south: north - LINKED_AROUND,
-        east: east + LINKED_AROUND,
-        north: north + LINKED_AROUND,
     }
 }
 

@@ -14,7 +14,7 @@ use crate::naming::IncidentPart;
 use crate::unions::add_all;
 use room_place::plans::DivisionNumber;
 use room_tables::calls::calls_of;
-use room_tables::incidents::{active_incidents, incidents_opened, incidents_since};
+use room_tables::incidents::{active_incidents, incidents_opened};
 use room_tables::reports::uncleared_reports;
 use room_tables::tables::Table;
 use room_tables::turns::turns_of;
@@ -122,7 +122,7 @@ impl Parted for Report {
     }
 }
 
-// Incidents by their state, by when and where they were opened, or by their number.
+// Incidents by their state, by when they were opened, or by their number.
 impl Parted for Incident {
     type Part = IncidentPart;
 
@@ -137,9 +137,6 @@ impl Parted for Incident {
         match part {
             IncidentPart::Active => active_incidents(alloc, conn, division),
             IncidentPart::Between(from, to) => incidents_opened(alloc, conn, *from, *to, division),
-            IncidentPart::Around(from, square) => {
-                incidents_since(alloc, conn, *from, division, square)
-            }
             IncidentPart::Numbered(number) => {
                 load_one::<Incident, S>(alloc, conn, division, &(division, *number))
             }

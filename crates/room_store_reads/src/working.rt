@@ -13,7 +13,7 @@ ghost use Rattle.room_model.specs.Slices.{room_of};
 ghost use Rattle.room_model.specs.Working.{is_last_turn, reads_active, reads_division, reads_incident, reads_number, reads_report, working};
 ghost use Rattle.room_tables_schema.specs.declared.faults.Fault.TheVariants.{Memory};
 ghost use Rattle.room_tables_schema.specs.Connections.{HasRoomSchema};
-ghost use Rattle.room_store_reads.specs.Parts.{IsHeld, IsWork};
+ghost use Rattle.room_store_reads.specs.Parts.{AreNear, IsHeld, IsWork};
 ghost use Rattle.room_store_reads.specs.Reading.{contains, is_number, is_turn};
 
 use crate::extents::{Extent, load_both, load_extent, load_one, owned_row};
@@ -23,13 +23,14 @@ use crate::naming::{
     vehicles_read,
 };
 use crate::parts::load_parts;
+use crate::unions::add_all;
 use room_place::plans::DivisionNumber;
 use room_tables::loading::row_at;
 use room_tables_schema::faults::Fault;
 use room_types::asks::Ask;
 use room_types::callsign::Callsign;
 use room_types::codes::Outcome;
-use room_types::numbers::{Moment, Number};
+use room_types::numbers::Number;
 use room_types::rows::Rows;
 use room_types::slices::DivisionRows;
 use room_types::tables::{
@@ -38,22 +39,23 @@ use room_types::tables::{
 use sqlite::{Alter, Connection};
 use std::alloc::Global;
 
-/// The rows of a division that a request reads at a moment: what its desk asks, or a call that is
-/// placed in it.
+/// The rows of a division that a request reads: what its desk asks, or a call that is placed in it.
+/// The incidents that a call may be linked to are handed over.
 pub fn load_working<S: Alter>(
     alloc: Global,
     conn: &mut Connection<S>,
     division: DivisionNumber,
     ask: &Ask,
-    at: Moment,
+    near: &Rows<Incident>,
 ) -> Result<DivisionRows, Fault>
     requires room { HasRoomSchema S.Store conn.old }
-    ensures rows { Finds S.Store conn.old conn.new result (λ room x. IsInOrder room
+    ensures rows { Finds S.Store conn.old conn.new result (λ room x. IsInOrder room → (at : ℕ)
+        → AreNear division ask.now at room near.now
         → room_of room.plan x ≡ working division ask.now at room) }
     ensures reads { ReadsOnly S.Store conn.old conn.new result }
 {
     let held = load_held(alloc, conn, division, ask)?;
-    let work = load_work(alloc, conn, division, ask, at)?;
+    let work = load_work(alloc, conn, division, ask, near)?;
     Ok(DivisionRows {
         divisions: held.divisions,
         incidents: work.incidents,
@@ -197,16 +199,16 @@ fn load_work<S: Alter>(
     conn: &mut Connection<S>,
     division: DivisionNumber,
     ask: &Ask,
-    at: Moment,
+    near: &Rows<Incident>,
 ) -> Result<Work, Fault>
     requires room { HasRoomSchema S.Store conn.old }
     requires open { HasCleanDisk (state S.Store conn.old)
         → IsTrue (state S.Store conn.old).is_open }
-    ensures rows { Finds S.Store conn.old conn.new result (λ room x. IsInOrder room
-        → IsWork division ask.now at room x) }
+    ensures rows { Finds S.Store conn.old conn.new result (λ room x. IsInOrder room → (at : ℕ)
+        → AreNear division ask.now at room near.now → IsWork division ask.now at room x) }
     ensures reads { ReadsOnly S.Store conn.old conn.new result }
 {
-    let incidents = load_parts::<Incident, S>(alloc, conn, division, &incidents_read(ask, at))?;
+    let incidents = load_incidents(alloc, conn, division, ask, near)?;
     let numbers = numbers_read(alloc, ask, &incidents)?;
     let of_calls = calls_read(ask, numbers.as_slice());
     let calls = load_parts::<Call, S>(alloc, conn, division, of_calls)?;
@@ -218,6 +220,26 @@ fn load_work<S: Alter>(
         turns,
         reports,
     })
+}
+
+fn load_incidents<S: Alter>(
+    alloc: Global,
+    conn: &mut Connection<S>,
+    division: DivisionNumber,
+    ask: &Ask,
+    near: &Rows<Incident>,
+) -> Result<Rows<Incident>, Fault>
+    requires room { HasRoomSchema S.Store conn.old }
+    requires open { HasCleanDisk (state S.Store conn.old)
+        → IsTrue (state S.Store conn.old).is_open }
+    ensures rows { Finds S.Store conn.old conn.new result (λ room x. IsInOrder room → (at : ℕ)
+        → AreNear division ask.now at room near.now
+        → x ≡ (working division ask.now at room).incidents) }
+    ensures reads { ReadsOnly S.Store conn.old conn.new result }
+{
+    let mut incidents = load_parts::<Incident, S>(alloc, conn, division, &incidents_read(ask))?;
+    add_all(&mut incidents, near)?;
+    Ok(incidents)
 }
 
 // The numbers of the incidents whose turns a request reads.

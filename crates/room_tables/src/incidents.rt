@@ -5,7 +5,6 @@ ghost use Rattle.sqlite_value.specs.declared.value.Value.TheVariants.{Int};
 ghost use Rattle.sqlite.specs.Held.{state};
 ghost use Rattle.room_tables_sql.specs.Typed.{number};
 ghost use Rattle.room_tables_sql.specs.Outcomes.{ReadsOnly};
-ghost use Rattle.room_place.specs.Plans.{has_place};
 ghost use Rattle.room_types.specs.Codes.{is_active, state_number};
 ghost use Rattle.room_types.specs.declared.changes.Change.TheVariants as change;
 ghost use Rattle.room_types.specs.declared.codes.State.TheVariants.{Active};
@@ -20,7 +19,7 @@ ghost use Rattle.room_tables.specs.Finding.{Finds};
 
 use crate::reading::load;
 use crate::tables::{Statements, Table};
-use room_place::plans::{DivisionNumber, Rect};
+use room_place::plans::DivisionNumber;
 use room_tables_rows::columns::{Field, second};
 use room_tables_rows::incidents::{
     ACTIVE_INCIDENTS, ALL_INCIDENTS, INCIDENT_AT, INCIDENTS_OPENED, INCIDENTS_SINCE, PUT_INCIDENT,
@@ -105,36 +104,18 @@ pub fn incidents_opened<S: Alter>(
     )
 }
 
-/// The incidents of a division that were opened from a second of UTC since 1970 on, and whose
-/// place lies in a square.
+/// The incidents that were opened from a second of UTC since 1970 on.
 pub fn incidents_since<S: Alter>(
     alloc: Global,
     conn: &mut Connection<S>,
     from: i64,
-    division: DivisionNumber,
-    square: &Rect,
 ) -> Result<Rows<Incident>, Fault>
     requires room { HasRoomSchema S.Store conn.old }
     ensures rows { Finds S.Store conn.old conn.new result (λ room rows.
-        rows ≡ filter (λ i. int_le from (pos i.opened) &&
-        (i.division == division && has_place i.place square.now)) room.incidents) }
+        rows ≡ filter (λ i. int_le from (pos i.opened)) room.incidents) }
     ensures reads { ReadsOnly S.Store conn.old conn.new result }
-    ensures why { TellsWhy S.Store conn.old conn.new result INCIDENTS_SINCE.now
-        (number square.now.west ∷ number square.now.east ∷ number square.now.south
-        ∷ number square.now.north ∷ Int from ∷ number division
+    ensures why { TellsWhy S.Store conn.old conn.new result INCIDENTS_SINCE.now (Int from
         ∷ []) (AreNoRows is_incident_row pair_cmp incident_key incident_row) }
 {
-    load(
-        alloc,
-        conn,
-        INCIDENTS_SINCE,
-        &[
-            square.west.store(),
-            square.east.store(),
-            square.south.store(),
-            square.north.store(),
-            second(from),
-            division.store(),
-        ],
-    )
+    load(alloc, conn, INCIDENTS_SINCE, &[second(from)])
 }

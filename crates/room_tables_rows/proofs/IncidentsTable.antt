@@ -1,10 +1,9 @@
 -- What the statements on the table incidents say, and what they make of a room. (Written by tools/tables.py.)
 use Rattle.room_model.specs.Room.{Room}
-use Rattle.room_place.specs.declared.plans.Rect.{Rect}
 use Rattle.room_tables_rows.proofs.Kept.{with_incidents}
 use Rattle.room_tables_rows.proofs.Loads.{Shows, chosen_rows}
 use Rattle.room_tables_rows.proofs.RowLaws.{incident_faithful}
-use Rattle.room_tables_rows.proofs.Tests.{and_six, at_least-integers, at_most-numbers, below-integers, equal-active}
+use Rattle.room_tables_rows.proofs.Tests.{at_least-integers, below-integers, equal-active}
 use Rattle.room_tables_rows.specs.Incidents.{incident_row}
 use Rattle.room_tables_rows.specs.Keys.{pair_cells}
 use Rattle.room_tables_rows.specs.Stands.{House}
@@ -12,9 +11,9 @@ use Rattle.room_tables_rows.specs.Tables.{IsHeld, IsOverwritten, IsTable, PutsRo
 use Rattle.room_tables_rows.specs.declared.incidents.TheConstants.{ACTIVE_INCIDENTS, ALL_INCIDENTS, INCIDENTS_OPENED, INCIDENTS_SINCE, INCIDENT_AT, OVERWRITE_INCIDENT, PUT_INCIDENT}
 use Rattle.room_tables_schema.specs.Schema.{incidents_table, room_schema}
 use Rattle.room_tables_sql.proofs.ColumnValues.{AreKept, cast-Int, cast-number_or_null}
-use Rattle.room_tables_sql.proofs.Comparisons.{and_last, and_then, at_least-numbers, compare_by, conflict_of_two, equal-by_value, equal-numbers, is_eq-then, tie-numbers, tie_of_two}
+use Rattle.room_tables_sql.proofs.Comparisons.{and_last, and_then, compare_by, conflict_of_two, equal-by_value, equal-numbers, is_eq-then, tie-numbers, tie_of_two}
 use Rattle.room_tables_sql.proofs.StoredRows.{covers_row, stores_row}
-use Rattle.room_tables_sql.specs.Statements.{Covers, Overwrites, Selects, StandsAlone, Stores, Upserts, at_least, below, compares, equals, equals_by_value, row_update, row_values}
+use Rattle.room_tables_sql.specs.Statements.{Covers, Overwrites, Selects, StandsAlone, Stores, Upserts, at_least, below, equals, equals_by_value, row_update, row_values}
 use Rattle.room_tables_sql.specs.Typed.{number}
 use Rattle.room_types.specs.Codes.{is_active, state_number}
 use Rattle.room_types.specs.Keys.{incident_key, pair_cmp}
@@ -23,14 +22,14 @@ use Rattle.room_types.specs.declared.codes.State.TheVariants.{Active}
 use Rattle.room_types.specs.declared.tables.Incident.{Incident}
 use Rattle.sqlite.specs.Listing.{understood}
 use Rattle.sqlite_schema.specs.Rules.{equal}
-use Rattle.sqlite_sql.specs.declared.ops.CompareOp.TheVariants.{Ge, Le, Lt}
+use Rattle.sqlite_sql.specs.declared.ops.CompareOp.TheVariants.{Ge, Lt}
 use Rattle.sqlite_tied.specs.Compute.{everything}
 use Rattle.sqlite_value.specs.Order.{column}
 use Rattle.sqlite_value.specs.declared.keys.Collation.TheVariants.{Binary}
 use Rattle.sqlite_value.specs.declared.value.Value.TheVariants.{Int}
 use Rattle.std.proofs.Common.{List, [], filter, pos, refl, sym, ℕ, ℤ, ◌&&◌, ◌==◌, ◌∙◌, ◌∷◌, ◌≡◌}
 use Rattle.std.specs.Ordering.{is_eq, nat_cmp}
-use Rattle.std.specs.Prelude.{int_le, int_lt, nat_le}
+use Rattle.std.specs.Prelude.{int_le, int_lt}
 
 abbrev all_of : House → Room → List Incident
 all_of house room = room.incidents
@@ -72,15 +71,15 @@ incidents_opened_chooses from to d = record { terms = at_least 9 0 ∷ below 9 1
 pub incidents_opened_are : (from to : ℤ) (d : ℕ) → Shows incident_row INCIDENTS_OPENED.now (Int from ∷ Int to ∷ number d ∷ []) (λ found house room. found ≡ filter (λ x. int_le from (pos x.opened) && (int_lt (pos x.opened) to && x.division == d)) room.incidents)
 incidents_opened_are from to d = chosen_rows incidents_held INCIDENTS_OPENED.now (Int from ∷ Int to ∷ number d ∷ []) (λ x. int_le from (pos x.opened) && (int_lt (pos x.opened) to && x.division == d)) (incidents_opened_chooses from to d)
 
-pub incidents_since_means : Selects room_schema INCIDENTS_SINCE.now 5 (1 ∷ 2 ∷ 3 ∷ 4 ∷ 5 ∷ 6 ∷ 7 ∷ 8 ∷ 9 ∷ 10 ∷ 11 ∷ 12 ∷ []) (1 ∷ 2 ∷ []) (at_least 3 0 ∷ compares Le 3 1 ∷ at_least 4 2 ∷ compares Le 4 3 ∷ at_least 9 4 ∷ equals_by_value 1 5 ∷ [])
+pub incidents_since_means : Selects room_schema INCIDENTS_SINCE.now 5 (1 ∷ 2 ∷ 3 ∷ 4 ∷ 5 ∷ 6 ∷ 7 ∷ 8 ∷ 9 ∷ 10 ∷ 11 ∷ 12 ∷ []) (1 ∷ 2 ∷ []) (at_least 9 0 ∷ [])
 unfolding understood everything
 incidents_since_means = record { names = _; command = refl; plain = (refl, refl); unlisted = refl }
 
-pub incidents_since_chooses : (s : Rect) (from : ℤ) (d : ℕ) → SelectsChosen incidents_table incident_row INCIDENTS_SINCE.now (number s.west ∷ number s.east ∷ number s.south ∷ number s.north ∷ Int from ∷ number d ∷ []) (λ x. nat_le s.west x.place.east && (nat_le x.place.east s.east && (nat_le s.south x.place.north && (nat_le x.place.north s.north && (int_le from (pos x.opened) && x.division == d)))))
-incidents_since_chooses s from d = record { terms = at_least 3 0 ∷ compares Le 3 1 ∷ at_least 4 2 ∷ compares Le 4 3 ∷ at_least 9 4 ∷ equals_by_value 1 5 ∷ []; selects = incidents_since_means; chooses = record { test = λ r. compare_by Ge (column r 2) (number s.west) && (compare_by Le (column r 2) (number s.east) && (compare_by Ge (column r 3) (number s.south) && (compare_by Le (column r 3) (number s.north) && (compare_by Ge (column r 8) (Int from) && equal Binary (column r 0) (number d))))); tells = λ r. and_six (compare_by Ge (column r 3) (number s.west)) (compare_by Le (column r 3) (number s.east)) (compare_by Ge (column r 4) (number s.south)) (compare_by Le (column r 4) (number s.north)) (compare_by Ge (column r 9) (Int from)) (equal-by_value (column r 1) (number d)); same = λ x. and_then (at_least-numbers x.place.east s.west) (and_then (at_most-numbers x.place.east s.east) (and_then (at_least-numbers x.place.north s.south) (and_then (at_most-numbers x.place.north s.north) (and_then (at_least-integers (pos x.opened) from) (equal-numbers x.division d))))) } }
+pub incidents_since_chooses : (from : ℤ) → SelectsChosen incidents_table incident_row INCIDENTS_SINCE.now (Int from ∷ []) (λ x. int_le from (pos x.opened))
+incidents_since_chooses from = record { terms = at_least 9 0 ∷ []; selects = incidents_since_means; chooses = record { test = λ r. compare_by Ge (column r 8) (Int from); tells = λ r. and_last refl; same = λ x. at_least-integers (pos x.opened) from } }
 
-pub incidents_since_are : (s : Rect) (from : ℤ) (d : ℕ) → Shows incident_row INCIDENTS_SINCE.now (number s.west ∷ number s.east ∷ number s.south ∷ number s.north ∷ Int from ∷ number d ∷ []) (λ found house room. found ≡ filter (λ x. nat_le s.west x.place.east && (nat_le x.place.east s.east && (nat_le s.south x.place.north && (nat_le x.place.north s.north && (int_le from (pos x.opened) && x.division == d))))) room.incidents)
-incidents_since_are s from d = chosen_rows incidents_held INCIDENTS_SINCE.now (number s.west ∷ number s.east ∷ number s.south ∷ number s.north ∷ Int from ∷ number d ∷ []) (λ x. nat_le s.west x.place.east && (nat_le x.place.east s.east && (nat_le s.south x.place.north && (nat_le x.place.north s.north && (int_le from (pos x.opened) && x.division == d))))) (incidents_since_chooses s from d)
+pub incidents_since_are : (from : ℤ) → Shows incident_row INCIDENTS_SINCE.now (Int from ∷ []) (λ found house room. found ≡ filter (λ x. int_le from (pos x.opened)) room.incidents)
+incidents_since_are from = chosen_rows incidents_held INCIDENTS_SINCE.now (Int from ∷ []) (λ x. int_le from (pos x.opened)) (incidents_since_chooses from)
 
 pub put_incident_means : Upserts room_schema PUT_INCIDENT.now 4 incidents_table (1 ∷ 2 ∷ []) 12 (row_values 12) (row_update 12)
 unfolding understood everything

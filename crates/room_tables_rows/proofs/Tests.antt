@@ -1,14 +1,13 @@
 -- What SQL's comparisons say of values of the room.
 use Rattle.std.proofs.Common.{◌≡◌, ℕ, ◌&&◌, ℤ, List, Bool, true, false, not, Option, Some, None, refl, ap, ◌∙◌, is_lt, arith}
-use Rattle.std.specs.Prelude.{int_le, int_lt, nat_le, pos}
-use Rattle.std.specs.Ordering.{int_cmp, is_ge, is_le}
-use Rattle.std.proofs.lemmas.Bool.Decides.{nat_tests}
+use Rattle.std.specs.Prelude.{int_le, int_lt, pos}
+use Rattle.std.specs.Ordering.{int_cmp, is_ge}
 use Rattle.std.proofs.lemmas.Int.{ints}
 use Rattle.sqlite_value.specs.declared.value.Value.TheVariants.{Int, Text}
 use Rattle.sqlite_value.specs.declared.keys.Collation.TheVariants.{Binary}
 use Rattle.sqlite_value.specs.Order.{value_cmp}
 use Rattle.sqlite_value.proofs.OrderLemmas.{value_cmp-Int}
-use Rattle.sqlite_sql.specs.declared.ops.CompareOp.TheVariants.{Ge, Le, Lt}
+use Rattle.sqlite_sql.specs.declared.ops.CompareOp.TheVariants.{Ge, Lt}
 use Rattle.sqlite_sql.specs.declared.ops.CompareOp.{CompareOp}
 use Rattle.sqlite_sql.specs.Ops.{binary, from_truth, is_true, test}
 use Rattle.sqlite_schema.specs.Rules.{equal}
@@ -16,7 +15,7 @@ use Rattle.sqlite_schema.specs.declared.schema.Kind.TheVariants as kind
 use Rattle.sqlite_rules.specs.Cast.{cast}
 use Rattle.sqlite.specs.Values.{or_null}
 use Rattle.room_tables_sql.specs.Typed.{number}
-use Rattle.room_tables_sql.proofs.Comparisons.{and_last, compare_by, equal-numbers}
+use Rattle.room_tables_sql.proofs.Comparisons.{compare_by, equal-numbers}
 use Rattle.room_types.specs.Codes.{state_number, is_active}
 use Rattle.room_types.specs.declared.codes.State.{State}
 use Rattle.room_types.specs.declared.codes.State.TheVariants.{Active, Closed, Merged}
@@ -39,11 +38,6 @@ pub and_three : (a b c : Bool) → (a && (b && (c && true))) ≡ (a && (b && c))
 and_three a b true = refl
 and_three a b false = refl
 
--- six, of which the last says why
-pub and_six : (a b c d e : Bool) {f g : Bool} → f ≡ g
-    → (a && (b && (c && (d && (e && (f && true)))))) ≡ (a && (b && (c && (d && (e && g)))))
-and_six a b c d e h = ap (λ x. a && (b && (c && (d && (e && x))))) (and_last h)
-
 -- integers are compared as integers
 compare_by-integers : (op : CompareOp) (m n : ℤ)
     → compare_by op (Int m) (Int n) ≡ test op (int_cmp m n)
@@ -55,9 +49,6 @@ at_least-integers m n = let same : is_ge (int_cmp m n) ≡ int_le n m = grind (a
 
 pub below-integers : (m n : ℤ) → compare_by Lt (Int m) (Int n) ≡ int_lt m n
 below-integers m n = let same : is_lt (int_cmp m n) ≡ int_lt m n = grind (arith, ints) in compare_by-integers Lt m n ∙ same
-
-pub at_most-numbers : (m n : ℕ) → compare_by Le (Int (pos m)) (Int (pos n)) ≡ nat_le m n
-at_most-numbers m n = let same : is_le (int_cmp (pos m) (pos n)) ≡ nat_le m n = grind (arith, ints, nat_tests) in compare_by-integers Le (pos m) (pos n) ∙ same
 
 -- a column of texts keeps a text that may be absent
 pub cast-text_or_null : (o : Option (List ℕ)) → cast kind.Text (or_null Text o) ≡ or_null Text o

@@ -98,14 +98,12 @@ pub const ACTIVE_INCIDENTS: &str =
     "SELECT * FROM incidents WHERE state = ?1 AND division = ?2 ORDER BY division, number";
 
 // The plus keeps the division's value, and the planner from the key, which would walk all incidents
-// of the division: so they are found by their opening, here and below.
+// of the division: so they are found by their opening.
 pub const INCIDENTS_OPENED: &str = "SELECT * FROM incidents \
     WHERE opened >= ?1 AND opened < ?2 AND +division = ?3 ORDER BY division, number";
 
-// The place comes first, since nearly all incidents fail it: the index finds them by their opening.
-pub const INCIDENTS_SINCE: &str = "SELECT * FROM incidents \
-    WHERE east >= ?1 AND east <= ?2 AND north >= ?3 AND north <= ?4 \
-    AND opened >= ?5 AND +division = ?6 ORDER BY division, number";
+pub const INCIDENTS_SINCE: &str =
+    "SELECT * FROM incidents WHERE opened >= ?1 ORDER BY division, number";
 
 pub const PUT_INCIDENT: &str = "INSERT INTO incidents VALUES (?1, ?2, ?3, ?4, ?5, ?6, ?7, ?8, ?9, \
     ?10, ?11, ?12) \

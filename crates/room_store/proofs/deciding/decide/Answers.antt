@@ -1,10 +1,11 @@
-use Rattle.std.proofs.Common.{inl, refl}
+use Rattle.std.proofs.Common.{inl, refl, sym, ◌∙◌}
 use Rattle.std.proofs.lemmas.Result.{IfErr-weaker, IfOk-weaker}
+use Rattle.room_store.proofs.CallReads.{desk_near}
 use Rattle.room_store.proofs.deciding.decide.Goals as goal
 
 pub returns-in-Desk-clause-decided : goal.returns-in-Desk-clause-decided
 returns-in-Desk-clause-decided g c clean = IfOk-weaker c.for_division.result _ _ (λ x told house room h.
-    told house room h.stands h.formed h.plan (rw c.in-Desk.is refl)) (c.for_division.ensures.decided clean)
+    told house room h.stands h.formed h.plan (rw c.in-Desk.is refl) (c.new-near.ensures ∙ sym (desk_near c.in-Desk.division c.args.event.now c.in-Desk.is room h.addressed c.in-Desk.division))) (c.for_division.ensures.decided clean)
 
 pub returns-in-Crew-clause-decided : goal.returns-in-Crew-clause-decided
 returns-in-Crew-clause-decided g c clean = IfOk-weaker c.for_crew.result _ _ (λ x told house room h.
@@ -12,7 +13,7 @@ returns-in-Crew-clause-decided g c clean = IfOk-weaker c.for_crew.result _ _ (λ
 
 pub returns-in-Call-clause-decided : goal.returns-in-Call-clause-decided
 returns-in-Call-clause-decided g c clean = IfOk-weaker c.for_call.result _ _ (λ x told house room h.
-    told house room h.stands h.formed h.plan c.in-Position.is c.in-Call.is) (c.for_call.ensures.decided clean)
+    told house room h.stands h.formed h.plan c.in-Position.is c.in-Call.is h.recent) (c.for_call.ensures.decided clean)
 
 pub returns-in-Desk-clause-ok : goal.returns-in-Desk-clause-ok
 returns-in-Desk-clause-ok g c = c.for_division.ensures.reads.ok

@@ -21,7 +21,7 @@ returns-in-Ok-clause-ready g c =
 
 pub returns-in-Ok-clause-same : goal.returns-in-Ok-clause-same
 returns-in-Ok-clause-same g c clean terminals room is =
-    room_left g.S.Store c.args.store.now (record c.args.store.now { conn = c.digest_in.new.conn }) terminals room (left_unchanged _ _ (c.in-Ok.ensures.reads.ok clean)) refl is.known is
+    room_left g.S.Store c.args.store.now (record c.args.store.now { conn = c.digest_in.new.conn }) terminals room (left_unchanged _ _ (c.in-Ok.ensures.reads.ok clean)) refl is.known is.recent is
 
 pub returns-in-Ok-clause-kept : goal.returns-in-Ok-clause-kept
 returns-in-Ok-clause-kept g c clean kept =
@@ -39,7 +39,7 @@ pub returns-in-Err-clause-same : goal.returns-in-Err-clause-same
 returns-in-Err-clause-same g c clean terminals room is =
     let left : Leaves (state g.S.Store c.args.store.now.conn) (state g.S.Store c.test_file.new.self.conn) =
     rw c.test_file.ensures.conn (left_failed _ _ (outside c.is_autocommit.result _ c.requires.ready.outside c.is_autocommit.ensures.value c.is_autocommit.ensures.settled) (c.in-Err.ensures.reads.err (rw c.test_file.ensures.conn at clean))) in
-    room_left g.S.Store c.args.store.now c.test_file.new.self terminals room left c.test_file.ensures.plan (rw c.test_file.ensures.known is.known) is
+    room_left g.S.Store c.args.store.now c.test_file.new.self terminals room left c.test_file.ensures.plan (rw c.test_file.ensures.known is.known) (rw c.test_file.ensures.recents is.recent) is
 
 pub returns-in-Err-clause-left : goal.returns-in-Err-clause-left
 returns-in-Err-clause-left g c clean kept terminals room is =

@@ -9,8 +9,8 @@ use Rattle.room_store_reads.proofs.ReadNumbers.{own_contains}
 use Rattle.room_store_reads.proofs.RoomReads.{filter_as}
 use Rattle.room_store_reads.proofs.working.load_work.Goals as goal
 
-pub load_parts-requires-2-clause-open : goal.load_parts-requires-2-clause-open
-load_parts-requires-2-clause-open g c clean = (c.in_ok-incidents.ensures.reads.ok clean).0.is_open
+pub load_parts-requires-clause-open : goal.load_parts-requires-clause-open
+load_parts-requires-clause-open g c clean = (c.in_ok-incidents.ensures.reads.ok clean).0.is_open
 
 pub load_turns-requires-clause-open : goal.load_turns-requires-clause-open
 load_turns-requires-clause-open g c clean = (c.in_ok-calls.ensures.reads.ok clean).0.is_open
@@ -19,7 +19,7 @@ pub load_reports-requires-clause-open : goal.load_reports-requires-clause-open
 load_reports-requires-clause-open g c clean = (c.in_ok-turns.ensures.reads.ok clean).0.is_open
 
 pub returns-clause-rows : goal.returns-clause-rows
-returns-clause-rows g c clean house room h in_order =
+returns-clause-rows g c clean house room h in_order at near =
     let d = c.args.division in
     let a = c.args.ask.now in
     let start = state g.S.Store c.args.conn.now in
@@ -29,11 +29,11 @@ returns-clause-rows g c clean house room h in_order =
     let third = clean_before three c.in_ok-reports.ensures.reads clean in
     let second = clean_before two c.in_ok-turns.ensures.reads third in
     let first = clean_before one c.in_ok-calls.ensures.reads second in
-    let incidents = c.in_ok-incidents.ensures.rows first house room h in_order.incidents ∙ filter_as _ _ room.incidents (λ i. c.incidents_read.ensures d i) in
-    let numbers = c.in_ok-numbers.ensures.ok d c.args.at room in_order incidents in
+    let incidents = c.in_ok-incidents.ensures.rows first house room h in_order at near in
+    let numbers = c.in_ok-numbers.ensures.ok d at room in_order incidents in
     let seen : (n : ℕ) → contains n c.as_slice.result.now ≡ reads_number d a room n = rw c.as_slice.ensures.value numbers in
-    let calls = c.in_ok-calls.ensures.rows second house room (kept start (state g.S.Store c.load_parts.new.conn) (one.ok first) house room h) in_order.calls in
-    let turns = c.in_ok-turns.ensures.rows third house room (kept start (state g.S.Store c.load_parts-2.new.conn) (two.ok second) house room h) in_order in
+    let calls = c.in_ok-calls.ensures.rows second house room (kept start (state g.S.Store c.load_incidents.new.conn) (one.ok first) house room h) in_order.calls in
+    let turns = c.in_ok-turns.ensures.rows third house room (kept start (state g.S.Store c.load_parts.new.conn) (two.ok second) house room h) in_order in
     record {
       incidents = incidents;
       calls = calls ∙ filter_as _ _ room.calls (λ x. own_contains (x.division == d) x.incident c.calls_read-of_calls.result.now

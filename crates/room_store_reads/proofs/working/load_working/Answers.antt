@@ -17,10 +17,10 @@ pub returns : goal.returns
 returns g c =
     let one = looked c.in_ok-held.ensures.reads in
     record {
-      rows = λ clean house room h in_order.
+      rows = λ clean house room h in_order at near.
           let first = clean_before one c.in_ok-work.ensures.reads clean in
           let held = c.in_ok-held.ensures.rows first house room h in_order in
-          let work = c.in_ok-work.ensures.rows clean house room (kept (state g.S.Store c.args.conn.now) (state g.S.Store c.load_held.new.conn) (one.ok first) house room h) in_order in
+          let work = c.in_ok-work.ensures.rows clean house room (kept (state g.S.Store c.args.conn.now) (state g.S.Store c.load_held.new.conn) (one.ok first) house room h) in_order at near in
           λ i. record {
             plan = room.plan;
             divisions = held.divisions i;

@@ -2,6 +2,7 @@ use Rattle.std.proofs.Common.{refl}
 use Rattle.sqlite.specs.Held.{state}
 use Rattle.room_store_writes.specs.Houses.{house_of}
 use Rattle.room_store.proofs.StoreLaws.{event_survives, for_room, ready_sound, ready_tested, room_moved, settled_kept}
+use Rattle.room_store.proofs.KnownLaws.{none_recent}
 use Rattle.room_store.proofs.LookLaws.{left_same}
 use Rattle.room_store_writes.proofs.CommitLaws.{unchanged_survives}
 use Rattle.room_store.proofs.store.Store.act.Goals as goal
@@ -13,7 +14,9 @@ returns-in-Ok-clause-bytes g c clean terminals room is addressed =
 
 pub returns-in-Ok-clause-ok : goal.returns-in-Ok-clause-ok
 returns-in-Ok-clause-ok g c clean terminals room is addressed =
-    room_moved g.S.Store c.args.self.now (record c.args.self.now { conn = c.act_on.new.conn }) c.args.event.now terminals room is addressed c.know_number.ensures refl refl (c.in-Ok.ensures.ok clean)
+    room_moved g.S.Store c.args.self.now (record c.args.self.now { conn = c.act_on.new.conn; recents = c.act_on.new.recents }) c.args.event.now terminals room is addressed c.know_number.ensures refl refl
+    (c.in-Ok.ensures.recent clean (house_of c.args.self.now.plan terminals) room (for_room g.S.Store c.args.self.now c.args.self.now c.args.event.now terminals room is addressed (c.in-Ok.ensures.ok clean).was_open))
+    (c.in-Ok.ensures.ok clean)
 
 pub returns-in-Ok-clause-survives : goal.returns-in-Ok-clause-survives
 returns-in-Ok-clause-survives g c = event_survives g.S.Store c.args.self.now (state g.S.Store c.act_on.new.conn) c.args.event.now c.act_on.ensures.survives
@@ -29,17 +32,23 @@ pub returns-then-not-self-clause-survives : goal.returns-then-not-self-clause-su
 returns-then-not-self-clause-survives g c = unchanged_survives g.S.Store c.args.self.now.conn _
 
 pub returns-in-Ok-clause-ready : goal.returns-in-Ok-clause-ready
-returns-in-Ok-clause-ready g c = ready_sound g.S.Store (record c.args.self.now { conn = c.act_on.new.conn }) c.act_on.ensures.ended c.if-not-self.false (λ clean. (c.in-Ok.ensures.ok clean).schema)
+returns-in-Ok-clause-ready g c = ready_sound g.S.Store (record c.args.self.now { conn = c.act_on.new.conn; recents = c.act_on.new.recents }) c.act_on.ensures.ended c.if-not-self.false (λ clean. (c.in-Ok.ensures.ok clean).schema)
 
 pub returns-in-Ok-clause-settled : goal.returns-in-Ok-clause-settled
 returns-in-Ok-clause-settled g c clean = (c.in-Ok.ensures.ok clean).settled
 
 pub returns-in-Ok-clause-alone : goal.returns-in-Ok-clause-alone
 returns-in-Ok-clause-alone g c clean =
-    (settled_kept g.S.Store (record c.args.self.now { conn = c.act_on.new.conn }) (g.met.S.Store.settled c.act_on.new.conn.store) (c.in-Ok.ensures.ok clean).settled).alone
+    (settled_kept g.S.Store (record c.args.self.now { conn = c.act_on.new.conn; recents = c.act_on.new.recents }) (g.met.S.Store.settled c.act_on.new.conn.store) (c.in-Ok.ensures.ok clean).settled).alone
 
 pub returns-in-Err-clause-ready : goal.returns-in-Err-clause-ready
 returns-in-Err-clause-ready g c = ready_tested g.S.Store c.test_file.new.self (rw c.test_file.ensures.conn c.act_on.ensures.ended) c.test_file.ensures.sound
+
+pub returns-in-Err-clause-recent : goal.returns-in-Err-clause-recent
+returns-in-Err-clause-recent g c room _ = rw c.test_file.ensures.recents (none_recent c.forget.new.self room c.forget.ensures)
+
+pub returns-then-not-self-clause-recent : goal.returns-then-not-self-clause-recent
+returns-then-not-self-clause-recent g c room is = is
 
 pub returns-in-Err-clause-err : goal.returns-in-Err-clause-err
 returns-in-Err-clause-err g c clean = rw c.test_file.ensures.conn (c.in-Err.ensures.err (rw c.test_file.ensures.conn at clean))

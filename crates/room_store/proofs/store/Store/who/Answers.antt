@@ -35,7 +35,7 @@ returns-in-Ok-terminal_at-clause-same g c clean terminals room is =
     let old = c.args.self.now in
     let same = c.in-Ok-terminal_at.ensures.reads.ok clean in
     let found = c.in-Ok-terminal_at.ensures.row clean (house_of old.plan terminals) room (is.tables same.0.was_open) in
-    room_left g.S.Store old (record old { conn = c.terminal_at.new.conn; known = c.keep.new.known }) terminals room (left_unchanged _ _ same) refl (c.keep.ensures terminals is.known (looked_up terminals c.args.token.now c.in-Ok-terminal_at.terminal found)) is
+    room_left g.S.Store old (record old { conn = c.terminal_at.new.conn; known = c.keep.new.known }) terminals room (left_unchanged _ _ same) refl (c.keep.ensures terminals is.known (looked_up terminals c.args.token.now c.in-Ok-terminal_at.terminal found)) is.recent is
 
 pub returns-in-Ok-terminal_at-clause-ready : goal.returns-in-Ok-terminal_at-clause-ready
 returns-in-Ok-terminal_at-clause-ready g c =
@@ -57,7 +57,7 @@ returns-in-Err-terminal_at-clause-leaves g c clean = rw c.test_file.ensures.conn
 
 pub returns-in-Err-terminal_at-clause-same : goal.returns-in-Err-terminal_at-clause-same
 returns-in-Err-terminal_at-clause-same g c clean terminals room is =
-    room_left g.S.Store c.args.self.now c.test_file.new.self terminals room (returns-in-Err-terminal_at-clause-leaves g c clean) c.test_file.ensures.plan (rw c.test_file.ensures.known is.known) is
+    room_left g.S.Store c.args.self.now c.test_file.new.self terminals room (returns-in-Err-terminal_at-clause-leaves g c clean) c.test_file.ensures.plan (rw c.test_file.ensures.known is.known) (rw c.test_file.ensures.recents is.recent) is
 
 pub returns-in-Err-terminal_at-clause-survives : goal.returns-in-Err-terminal_at-clause-survives
 returns-in-Err-terminal_at-clause-survives g c = rw c.test_file.ensures.conn c.terminal_at.ensures.reads.survives

@@ -2,10 +2,9 @@ use Rattle.std.proofs.Common.{pos, refl, rules, sym, FitsSigned, w64, ◌∙◌}
 use Rattle.std.proofs.lemmas.Int.{to_z-of_z}
 use Rattle.std.proofs.lemmas.Result.{IfOk-weaker}
 use Rattle.std.specs.Prelude.{false, int_le, int_lt, ◌==◌}
-use Rattle.room_place.specs.Plans.{has_place}
 use Rattle.room_types.specs.Codes.{is_active}
 use Rattle.room_tables_sql.proofs.ReadLaws.{begins, told}
-use Rattle.room_store_reads.proofs.RoomReads.{and_across, and_swapped, and_turned, filter_as, filter_never, own_pair}
+use Rattle.room_store_reads.proofs.RoomReads.{and_swapped, and_turned, filter_as, filter_never, own_pair}
 use Rattle.room_store_reads.proofs.parts.IncidentParted.load_part.Goals as goal
 
 pub returns-in-Active-clause-rows : goal.returns-in-Active-clause-rows
@@ -22,14 +21,6 @@ returns-in-Between-clause-rows g c clean =
     IfOk-weaker c.incidents_opened.result _ _ (λ x found house room h keyed.
     rw c.in-Between.is (found house room h ∙ filter_as _ _ room.incidents (λ i. and_turned (int_le from (pos i.opened)) (int_lt (pos i.opened) to) (i.division == c.args.division))))
     (rw (to_z-of_z w64 from from_fits, to_z-of_z w64 to to_fits) at c.incidents_opened.ensures.rows clean)
-
-pub returns-in-Around-clause-rows : goal.returns-in-Around-clause-rows
-returns-in-Around-clause-rows g c clean =
-    let from = c.in-Around.from in
-    let from_fits : FitsSigned w64 from = search rules in
-    IfOk-weaker c.incidents_since.result _ _ (λ x found house room h keyed.
-    rw c.in-Around.is (found house room h ∙ filter_as _ _ room.incidents (λ i. and_across (int_le from (pos i.opened)) (i.division == c.args.division) (has_place i.place c.in-Around.square))))
-    (rw (to_z-of_z w64 from from_fits) at c.incidents_since.ensures.rows clean)
 
 pub returns-in-Numbered-clause-rows : goal.returns-in-Numbered-clause-rows
 returns-in-Numbered-clause-rows g c clean =

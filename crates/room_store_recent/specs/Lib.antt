@@ -1,0 +1,2 @@
+-- which incidents are known
+pub mod Recent
