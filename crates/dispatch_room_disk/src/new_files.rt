@@ -24,7 +24,7 @@ const PAGE: usize = 1024;
 
 /// Makes the file of a room where none is there, and begins an empty database in it where it holds
 /// none.
-pub fn make_file<'a>(rt: &HostRuntime, path: &'a str) -> Result<&'a str, Failure>
+pub fn make_file(rt: &HostRuntime, path: &str) -> Result<(), Failure>
     ensures { IfErr result IsFileFault }
 {
     make_private(rt, path)?;
@@ -36,7 +36,7 @@ pub fn make_file<'a>(rt: &HostRuntime, path: &'a str) -> Result<&'a str, Failure
         return Err(Failure::Storage);
     };
     begin(rt.alloc(), files, Options::new(random.hash_one(&0u8)))?;
-    Ok(path)
+    Ok(())
 }
 
 // Makes a file that its owner alone reads and writes, where none is there; its log gets the same

@@ -23,6 +23,14 @@ pub enum RoomFile<'a> {
     New(&'a str),
 }
 
+impl<'a> RoomFile<'a> {
+    fn path(self) -> &'a str {
+        match self {
+            RoomFile::Kept(path) | RoomFile::New(path) => path,
+        }
+    }
+}
+
 /// What is done in the file of a room, over any storage. A proof about a file of the system opens all
 /// that is inside it, so `in_file` has one, and hands it on as a file on any disk.
 pub trait Work: Drop {
@@ -95,29 +103,22 @@ fn connect(rt: &HostRuntime, file: RoomFile<'_>) -> Result<Connection<FileStore<
     ensures outside { IfOk result (λ conn. conn.in_transaction ≡ false) }
     ensures fault { IfErr result (λ fault. (fault ≡ failure.File) ⊎ IsFileFault fault) }
 {
-    let path = path_of(rt, file)?;
-    match Connection::open(rt, path) {
+    match file {
+        RoomFile::Kept(path) => find(rt, path)?,
+        RoomFile::New(path) => make_file(rt, path)?,
+    }
+    match Connection::open(rt, file.path()) {
         Ok(conn) => Ok(conn),
         Err(error) => Err(fault_of(error)),
     }
 }
 
-// The path of a room's file, which was found, or made if need be.
-fn path_of<'a>(rt: &HostRuntime, file: RoomFile<'a>) -> Result<&'a str, Failure>
-    ensures { IfErr result (λ fault. (fault ≡ failure.File) ⊎ IsFileFault fault) }
-{
-    match file {
-        RoomFile::Kept(path) => find(rt, path),
-        RoomFile::New(path) => make_file(rt, path),
-    }
-}
-
 // Finds a file that holds a database, whole or damaged.
-fn find<'a>(rt: &HostRuntime, path: &'a str) -> Result<&'a str, Failure>
+fn find(rt: &HostRuntime, path: &str) -> Result<(), Failure>
     ensures { IfErr result (λ fault. (fault ≡ failure.File) ⊎ IsFileFault fault) }
 {
     match is_begun(rt, path) {
-        Ok(true) => Ok(path),
+        Ok(true) => Ok(()),
         Ok(false) => Err(Failure::File),
         Err(error) => Err(match error.kind() {
             ErrorKind::NotFound => Failure::File,
