@@ -5,6 +5,7 @@ is served goes on after a request that was refused for memory, and answers it wh
 again."""
 # needs: python3 gcc libc6-dev sqlite3
 # builds: dispatch_room
+import bisect
 import re
 
 from first_version import all_rows, old_room
@@ -187,15 +188,22 @@ class Memory(MemoryTestCase):
         answers = split(out)
         self.check('the dry run', (status, err, [answer[:15] for answer in answers]),
                    (0, b'', [b'HTTP/1.1 200 OK'] * len(DRY_RUN)))
-        wanted = [NO_MEMORY]
-        wanted += [(0, b''.join(answers[:count]) + WANT, b'') for count in range(len(answers))]
-        met = set()
+        ends = [NO_MEMORY]
+        ends += [(0, b''.join(answers[:count]) + WANT, b'') for count in range(len(answers))]
+        ends += [ever]
+        numbers = range(1, self.program.total() + 1)
         for refused, name in self.each(400):
-            done = self.program.run(refused, given=stream)
             with self.subTest(f'the dry run without {name}'):
-                self.assertIn(done, [*wanted, ever])
-            met.add(done)
-        self.check('memory is wanted before and at each answer', len(met - {ever}), len(wanted))
+                self.assertIn(self.program.run(refused, given=stream), ends)
+
+        def end_before(number):
+            """Which of the ends it is, where so many allocations are refused and all after them:
+            the later, the more is answered."""
+            return ends.index(self.program.run(without(number, LAST), given=stream))
+
+        met = [bisect.bisect_left(numbers, place, key=end_before) for place in range(len(ends) - 1)]
+        self.check('memory is wanted before and at each answer',
+                   [end_before(numbers[it]) for it in met], [*range(len(ends) - 1)])
 
     def test_init(self):
         ever = (0, b'created: divisions 2, areas 2, terminals 3\n', b'')

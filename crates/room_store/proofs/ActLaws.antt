@@ -11,11 +11,12 @@ use Rattle.room_model.specs.Step.{decided, room_after}
 use Rattle.room_tables.specs.Stands.{House, Stands}
 use Rattle.room_tables.proofs.RoomReads.{kept}
 use Rattle.room_store_writes.specs.Writing.{Commits}
-use Rattle.room_store_recent.specs.declared.recents.Recents.{Recents}
+use Rattle.room_store_cache.specs.declared.cache.Cache.{Cache}
 use Rattle.room_store.specs.Acting.{IsFor}
 
 -- before the reads, after them, after the write
-module _ (old mid new : State) (layout : Layout) (known : Recents) (event : Event) (changes : List Change)
+module _ (old mid new : State) (layout : Layout) (known : Cache) (event : Event)
+    (changes : List Change)
     (same : HasCleanDisk mid → IsUnchanged old mid)
     (is : HasCleanDisk mid → (house : House) (room : Room) → IsFor old.now.trees layout known event house room → changes ≡ changes_of (decided event room)) where
   -- what was written is the room after the event

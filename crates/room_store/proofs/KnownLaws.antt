@@ -1,5 +1,6 @@
--- What a store knows beside its tables: terminals that it has looked up, what they tell and that they stay; and incidents.
-use Rattle.std.proofs.Common.{List, None, Option, Some, [], ap, get_or, length, refl, subst, sym, ◌<◌, ◌≡◌}
+-- What a store knows beside its tables: terminals that it has looked up, what they tell and that
+-- they stay; and what else it knows, which may be nothing.
+use Rattle.std.proofs.Common.{List, None, Option, Some, [], ap, false, get_or, length, refl, subst, sym, true, ◌<◌, ◌∙◌, ◌≡◌}
 use Rattle.std.proofs.lemmas.List.Elements.{All-nil, All-same, All-weaker}
 use Rattle.std.specs.Prelude.{All, HoldsAt, IfSome, option_map, ℕ}
 use Rattle.room_types_keyed.proofs.EachRow.{row_key}
@@ -13,13 +14,17 @@ use Rattle.room_model.proofs.KeptCalls.{row_stays}
 use Rattle.room_model.specs.Enrol.{fate_of, new_terminal, terminal_at, terminal_key, terminals_by, terminals_enrolled, token_cmp}
 use Rattle.room_model.specs.Room.{Room}
 use Rattle.room_service.specs.Rooms.{who_at}
-use Rattle.room_store_recent.specs.Recent.{AreRecent}
-use Rattle.room_store_recent.specs.declared.recents.Recents.{Recents}
+use Rattle.room_store_cache.specs.Cache.{IsCacheOf}
+use Rattle.room_store_cache.specs.declared.cache.Cache.{Cache}
 use Rattle.room_store.specs.Keeping.{IsOneOf}
 
--- where no incidents are known, nothing is asked of them
-pub none_recent : (known : Recents) (room : Room) → known.from ≡ None → AreRecent known room
-none_recent known room none = rw none tt
+-- where nothing is known, nothing is asked of it
+pub knows_nothing : (cache : Cache) (room : Room) → cache.fleet.is_known ≡ false
+    → cache.recents.from ≡ None → IsCacheOf cache room
+knows_nothing cache room unknown none = record {
+  fleet = λ is. let never : false ≡ true = sym unknown ∙ is in cc;
+  recents = rw none tt;
+}
 
 -- a store that begins knows no terminal
 pub knows_none : (terminals known : List Terminal) → known ≡ [] → All (IsOneOf terminals) known

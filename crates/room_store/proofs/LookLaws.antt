@@ -48,12 +48,6 @@ left_failed old new settled (inr back) = record {
 }
 
 module _ {S : Type 0} (g : Ghosts S) (old new : Held S) where
-  -- or nothing was read
-  pub left_unread : IsAsCommitted (state g old) → Keeps (state g old) (state g new) ⊎ (new ≡ old)
-      → Leaves (state g old) (state g new)
-  left_unread settled (inl kept) = left_failed (state g old) (state g new) settled kept
-  left_unread settled (inr same) = rw same (left_same (state g old))
-
   -- after reads it may be written
   module _ (same : HasCleanDisk (state g new) → IsUnchanged (state g old) (state g new)) where
     pub room_read : Survives (state g old) (state g new) (λ _. ⊥) → HasRoomSchema g old

@@ -1,5 +1,5 @@
 -- A store's room, before and after an event.
-use Rattle.std.proofs.Common.{Err, IsTrue, List, Ok, Result, [], ap, false, inl, inr, subst, sym, true, ◌∙◌, ◌∷◌, ◌≡◌}
+use Rattle.std.proofs.Common.{Bool, Err, IsTrue, List, Ok, Result, [], ap, false, inl, inr, subst, sym, true, ◌∙◌, ◌∷◌, ◌≡◌}
 use Rattle.std.specs.Prelude.{All, OnOk, ◌↔◌}
 use Rattle.sqlite.specs.Effect.{Database}
 use Rattle.sqlite.specs.Held.{state}
@@ -18,33 +18,50 @@ use Rattle.room_tables.specs.Stands.{House, Stands}
 use Rattle.room_tables_schema.specs.Connections.{HasRoomSchema}
 use Rattle.room_tables_schema.specs.Schema.{room_schema}
 use Rattle.room_store_writes.specs.Writing.{Commits, IsSettled, Leaves}
-use Rattle.room_store_recent.specs.Recent.{AreRecent}
+use Rattle.room_store_cache.specs.Cache.{IsCacheOf}
 use Rattle.room_store.specs.Acting.{IsFor}
 use Rattle.room_store.specs.Keeping.{IsKept, IsOneOf, IsReady, IsRoom, LeavesOneOf}
 use Rattle.room_store_writes.specs.Houses.{house_of}
 use Rattle.room_store.specs.declared.store.Store.{Store}
 
+-- nothing is asked of what is not known
+pub never_known : {P : Type 0} {known : Bool} → known ≡ false → IsTrue known → P
+never_known none is = let never : false ≡ true = sym none ∙ is in cc
+
 -- a store that was found sound may be called,
 pub ready_sound : {S : Type 0} (g : Ghosts S) (held : Store S) → held.conn.in_transaction ≡ false
-    → held.is_sound ≡ true → HasRoomSchema g held.conn → IsReady g held
-ready_sound g held outside sound is = record { outside = outside; schema = λ _ clean. is clean; shut = λ unsound. let never : false ≡ true = sym unsound ∙ sound in cc }
+    → held.is_sound ≡ true → HasRoomSchema g held.conn
+    → (IsTrue held.cache.fleet.is_known → HasCleanDisk (state g held.conn)
+    → IsTrue (state g held.conn).is_open) → IsReady g held
+ready_sound g held outside sound is is_open = record {
+  outside = outside;
+  schema = λ _ clean. is clean;
+  shut = λ unsound. let never : false ≡ true = sym unsound ∙ sound in cc;
+  is_open = is_open;
+}
 
 -- and so may one whose file was tested
 pub ready_tested : {S : Type 0} (g : Ghosts S) (held : Store S) → held.conn.in_transaction ≡ false
-    → (IsTrue held.is_sound ↔ ((state g held.conn).now.schema ≡ room_schema)) → IsReady g held
-ready_tested g held outside tested = record { outside = outside; schema = λ sound _. tested.0 sound; shut = λ unsound is. let never : false ≡ true = sym unsound ∙ tested.1 is in cc }
+    → (IsTrue held.is_sound ↔ ((state g held.conn).now.schema ≡ room_schema))
+    → held.cache.fleet.is_known ≡ false → IsReady g held
+ready_tested g held outside tested none = record {
+  outside = outside;
+  schema = λ sound _. tested.0 sound;
+  shut = λ unsound is. let never : false ≡ true = sym unsound ∙ tested.1 is in cc;
+  is_open = never_known none;
+}
 
 -- tables that were left stand for the room that they stood for
 pub room_left : {S : Type 0} (g : Ghosts S) (old new : Store S) (terminals : List Terminal)
     (room : Room) → Leaves (state g old.conn) (state g new.conn) → new.plan ≡ old.plan
-    → All (IsOneOf terminals) new.known.items → AreRecent new.recents room
+    → All (IsOneOf terminals) new.known.items → IsCacheOf new.cache room
     → IsRoom g old terminals room → IsRoom g new terminals room
-room_left g old new terminals room left same known recent is = record {
+room_left g old new terminals room left same known cache is = record {
   formed = is.formed;
   fits = is.fits;
   plan = rw same is.plan;
   known = known;
-  recent = recent;
+  cache = cache;
   tables = λ is_open. rw same (subst (λ (db : Database). Stands db.trees (house_of old.plan terminals) room) (sym (left.now_is is_open)) (is.tables (left.was_open is_open)));
 }
 
@@ -53,21 +70,21 @@ module _ {S : Type 0} (g : Ghosts S) (old new : Store S) (event : Event)
     (addressed : IsAddressed event room) where
   -- while the connection is open, the event is for the room in the tables
   pub for_room : IsTrue (state g old.conn).is_open
-      → IsFor (state g old.conn).now.trees old.plan old.recents event (house_of old.plan terminals)
+      → IsFor (state g old.conn).now.trees old.plan old.cache event (house_of old.plan terminals)
       room
-  for_room is_open = record { stands = is.tables is_open; formed = is.formed; plan = is.plan; recent = is.recent; addressed = addressed }
+  for_room is_open = record { stands = is.tables is_open; formed = is.formed; plan = is.plan; cache = is.cache; addressed = addressed }
 
   pub room_moved : IsNumbered event.ask → new.plan ≡ old.plan → new.known ≡ old.known
-      → AreRecent new.recents (room_after event room)
+      → IsCacheOf new.cache (room_after event room)
       → Commits (state g old.conn) (state g new.conn)
-      (IsFor (state g old.conn).now.trees old.plan old.recents event) (room_after event)
+      (IsFor (state g old.conn).now.trees old.plan old.cache event) (room_after event)
       → IsRoom g new terminals (room_after event room)
-  room_moved is_numbered same same_known recent wrote = record {
+  room_moved is_numbered same same_known cache wrote = record {
     formed = event_kept event room is.formed addressed is_numbered;
     fits = terminals_run (event ∷ []) room terminals is.fits;
     plan = rw same (plan_run (event ∷ []) room ∙ is.plan);
     known = rw same_known is.known;
-    recent = recent;
+    cache = cache;
     tables = λ _. rw same (wrote.stands (house_of old.plan terminals) room (for_room wrote.was_open));
   }
 
@@ -75,7 +92,7 @@ module _ {S : Type 0} (g : Ghosts S) (old new : Store S) (event : Event)
 pub event_survives : {S : Type 0} (g : Ghosts S) (old : Store S) (new : State) (event : Event)
     → Survives (state g old.conn) new
     (λ db. (house : House) (room : Room)
-    → IsFor (state g old.conn).now.trees old.plan old.recents event house room
+    → IsFor (state g old.conn).now.trees old.plan old.cache event house room
     → Stands db house (room_after event room))
     → Survives (state g old.conn) new
     (λ db. IsTrue (state g old.conn).is_open → (terminals : List Terminal) (room : Room)

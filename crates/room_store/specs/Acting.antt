@@ -13,17 +13,17 @@ use Rattle.room_model.specs.Room.{Room}
 use Rattle.room_model.specs.Step.{IsAddressed}
 use Rattle.room_model.specs.WellFormed.{IsWellFormed}
 use Rattle.room_tables.specs.Stands.{House, Stands}
-use Rattle.room_store_recent.specs.Recent.{AreRecent}
-use Rattle.room_store_recent.specs.declared.recents.Recents.{Recents}
+use Rattle.room_store_cache.specs.Cache.{IsCacheOf}
+use Rattle.room_store_cache.specs.declared.cache.Cache.{Cache}
 
--- The tables stand for this well-formed room of the plan, what is known of its incidents is so, and
--- the event is addressed in it.
-pub record IsFor (trees : Trees) (layout : Layout) (known : Recents) (event : Event) (house : House)
+-- The tables stand for this well-formed room of the plan, what is known of it is so, and the event
+-- is addressed in it.
+pub record IsFor (trees : Trees) (layout : Layout) (known : Cache) (event : Event) (house : House)
     (room : Room) : Type 0 where
   pub stands : Stands trees house room
   pub formed : IsWellFormed room
   pub plan : room.plan ≡ layout.areas
-  pub recent : AreRecent known room
+  pub cache : IsCacheOf known room
   pub addressed : IsAddressed event room
 
 -- This is for the division: its desk asks it, or it is a call that is placed in it and not kept.

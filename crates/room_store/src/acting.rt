@@ -1,5 +1,5 @@
 //! One event acted on: decided, answered, kept.
-ghost use Rattle.std.specs.Prelude.{◌≡◌, false, Ok, Result, IfOk, IfErr, OnOk, OnErr};
+ghost use Rattle.std.specs.Prelude.{◌≡◌, false, Ok, Result, IsTrue, IfOk, IfErr, OnOk, OnErr};
 ghost use Rattle.std.specs.Fn.{FnOnceReturnsAt};
 ghost use Rattle.sqlite.specs.Held.{state};
 ghost use Rattle.sqlite.specs.State.{HasCleanDisk, Survives};
@@ -14,14 +14,14 @@ ghost use Rattle.room_model.specs.Step.{answer_to, decided, room_after};
 ghost use Rattle.room_service.specs.Rooms.{IsWant};
 ghost use Rattle.room_tables.specs.Stands.{House, Stands};
 ghost use Rattle.room_store_writes.specs.Writing.{Commits, Leaves};
-ghost use Rattle.room_store_recent.specs.Recent.{AreRecent};
+ghost use Rattle.room_store_cache.specs.Cache.{IsCacheOf};
 ghost use Rattle.room_store.specs.Acting.{IsFor};
 
 use crate::deciding::decide;
 use crate::faults::refusal_of;
 use room_core::decisions::Decision;
 use room_place::plans::Plan;
-use room_store_recent::recents::Recents;
+use room_store_cache::cache::Cache;
 use room_store_writes::writing::write;
 use room_types::answers::{Answer, Listed};
 use room_types::asks::{Ask, Event};
@@ -36,39 +36,41 @@ pub(crate) fn act_on<S: Alter, F: FnOnce(&Result<Answer, Refusal>) -> Result<Vec
     alloc: Global,
     conn: &mut Connection<S>,
     plan: &Plan,
-    recents: &mut Recents,
+    cache: &mut Cache,
     event: &Event,
     render: F,
 ) -> Result<Vec<u8>, Refusal>
     requires room { HasRoomSchema S.Store conn.old }
     requires outside { conn.old.in_transaction ≡ false }
+    requires open { IsTrue cache.old.fleet.is_known → HasCleanDisk (state S.Store conn.old)
+        → IsTrue (state S.Store conn.old).is_open }
     requires callable { F.IsAlwaysCallable render }
     requires memory { (answer : Result Told Why) (r : _)
         → FnOnceReturnsAt F.FnOnce render answer r → IfErr r (λ e. e ≡ Memory) }
     ensures bytes { HasCleanDisk (state S.Store conn.new)
         → IfOk result (λ bytes. (house : House) (room : Room)
-        → IsFor (state S.Store conn.old).now.trees plan.now recents.old event.now house room
+        → IsFor (state S.Store conn.old).now.trees plan.now cache.old event.now house room
         → FnOnceReturnsAt F.FnOnce render (answer_to event.now room) (Ok bytes)) }
     ensures ok { HasCleanDisk (state S.Store conn.new)
         → OnOk result (Commits (state S.Store conn.old) (state S.Store conn.new)
-        (IsFor (state S.Store conn.old).now.trees plan.now recents.old event.now)
+        (IsFor (state S.Store conn.old).now.trees plan.now cache.old event.now)
         (room_after event.now)) }
-    ensures recent { HasCleanDisk (state S.Store conn.new)
+    ensures cache { HasCleanDisk (state S.Store conn.new)
         → OnOk result ((house : House) (room : Room)
-        → IsFor (state S.Store conn.old).now.trees plan.now recents.old event.now house room
-        → AreRecent recents.new (room_after event.now room)) }
+        → IsFor (state S.Store conn.old).now.trees plan.now cache.old event.now house room
+        → IsCacheOf cache.new (room_after event.now room)) }
     ensures err { HasCleanDisk (state S.Store conn.new)
         → OnErr result (Leaves (state S.Store conn.old) (state S.Store conn.new)) }
     ensures wants { IfErr result IsWant }
     ensures ended { conn.new.in_transaction ≡ false }
     ensures survives { Survives (state S.Store conn.old) (state S.Store conn.new) (λ db.
         (house : House) (room : Room)
-        → IsFor (state S.Store conn.old).now.trees plan.now recents.old event.now house room
+        → IsFor (state S.Store conn.old).now.trees plan.now cache.old event.now house room
         → Stands db house (room_after event.now room)) }
 {
     // Outside a transaction the tables are as they were committed.
     let _ = conn.is_autocommit();
-    let decision = match decide(alloc, conn, plan, recents, event) {
+    let decision = match decide(alloc, conn, plan, cache, event) {
         Ok(decision) => decision,
         Err(fault) => return Err(refusal_of(fault)),
     };
@@ -82,7 +84,7 @@ pub(crate) fn act_on<S: Alter, F: FnOnce(&Result<Answer, Refusal>) -> Result<Vec
     if let Err(fault) = write(conn, changes.as_slice()) {
         return Err(refusal_of(fault));
     }
-    recents.follow(changes.as_slice());
+    cache.follow(changes.as_slice());
     Ok(bytes)
 }
 

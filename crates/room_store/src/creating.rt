@@ -11,7 +11,7 @@ ghost use Rattle.room_store_writes.specs.Filling.{StandsNew};
 
 use crate::store::Store;
 use room_place::plans::Plan;
-use room_store_recent::recents::Recents;
+use room_store_cache::cache::Cache;
 use room_store_writes::filling::create_in;
 use room_tables_schema::faults::Fault;
 use room_tables_schema::testing::is_empty;
@@ -105,7 +105,7 @@ impl<S: Alter> Store<S> {
                     conn,
                     plan: own,
                     known: Vec::new(alloc),
-                    recents: Recents::new(alloc),
+                    cache: Cache::new(alloc),
                     is_sound: true,
                 }),
                 Err(fault) => Err((CreateFault::from(fault), conn)),

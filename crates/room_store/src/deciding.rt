@@ -1,35 +1,37 @@
 //! What the room in the tables decides of an event. Nothing is written.
-ghost use Rattle.std.specs.Prelude.{◌≡◌, ◌⊎◌, false, IsTrue, IfErr, IfOk, OnOk, OnErr};
+ghost use Rattle.std.specs.Prelude.{◌≡◌, IsTrue, IfErr, IfOk};
 ghost use Rattle.sqlite.specs.Held.{state};
-ghost use Rattle.sqlite.specs.State.{HasCleanDisk, IsUnchanged, Survives};
+ghost use Rattle.sqlite.specs.State.{HasCleanDisk};
 ghost use Rattle.room_tables_schema.specs.Connections.{HasRoomSchema};
 ghost use Rattle.room_tables_schema.specs.declared.faults.Fault.TheVariants.{Memory};
-ghost use Rattle.room_tables_sql.specs.Outcomes.{Keeps, ReadsOnly};
+ghost use Rattle.room_tables_sql.specs.Outcomes.{ReadsOnly};
 ghost use Rattle.room_core.specs.Deciding.{AreRead, Decides};
 ghost use Rattle.room_types.specs.declared.asks.Ask.TheVariants.{Call as CallAsk};
 ghost use Rattle.room_types.specs.declared.asks.Who.TheVariants.{Position};
 ghost use Rattle.room_model.specs.Calls.{new_call};
 ghost use Rattle.room_model.specs.Decisions.{Verdict};
-ghost use Rattle.room_model.specs.Reports.{show_order, take_report};
+ghost use Rattle.room_model.specs.Reports.{take_report};
 ghost use Rattle.room_model.specs.Room.{Room};
 ghost use Rattle.room_model.specs.Slices.{room_of};
-ghost use Rattle.room_model.specs.Step.{crew_asks, decided};
+ghost use Rattle.room_model.specs.Step.{IsAddressed, crew_asks, decided};
 ghost use Rattle.room_model.specs.WellFormed.{IsWellFormed};
 ghost use Rattle.room_tables.specs.Stands.{House};
 ghost use Rattle.room_tables.specs.Finding.{Finds};
 ghost use Rattle.room_store.specs.Acting.{IsFor, IsIn};
 ghost use Rattle.room_store_reads.specs.CrewParts.{HasVehicle};
 ghost use Rattle.room_store_reads.specs.Parts.{AreNear};
-ghost use Rattle.room_store_recent.specs.Recent.{AreRecent};
+ghost use Rattle.room_store_cache.specs.Cache.{AreRowsOf, HasFleetOf, IsCacheOf};
+ghost use Rattle.room_store_cache.specs.Recent.{AreRecent};
 
 use room_core::calls::{decide_again, decide_call};
 use room_core::crews::{decide_order, decide_report, decide_report_again};
 use room_core::decisions::Decision;
 use room_core::desks::decide_desk;
 use room_place::plans::{DivisionNumber, Plan};
-use room_store_reads::crews::{load_assignment, load_crew, load_report};
+use room_store_cache::cache::Cache;
+use room_store_cache::fleets::{Fleet, FleetRows};
+use room_store_reads::crews::{load_crew, load_report};
 use room_store_reads::working::load_working;
-use room_store_recent::recents::Recents;
 use room_tables::loading::row_at;
 use room_tables_schema::faults::Fault;
 use room_types::asks::{Ask, CallForm, Event, NewCall, Press, Who};
@@ -50,32 +52,62 @@ pub(crate) fn decide<S: Alter>(
     alloc: Global,
     conn: &mut Connection<S>,
     plan: &Plan,
-    recents: &mut Recents,
+    cache: &mut Cache,
     event: &Event,
 ) -> Result<Result<Decision, Refusal>, Fault>
     requires room { HasRoomSchema S.Store conn.old }
+    requires open { IsTrue cache.old.fleet.is_known → HasCleanDisk (state S.Store conn.old)
+        → IsTrue (state S.Store conn.old).is_open }
     ensures decided { HasCleanDisk (state S.Store conn.new)
         → IfOk result (λ x. (house : House) (room : Room)
-        → IsFor (state S.Store conn.old).now.trees plan.now recents.old event.now house room
+        → IsFor (state S.Store conn.old).now.trees plan.now cache.old event.now house room
         → x ≡ decided event.now room) }
-    ensures recent { Finds S.Store conn.old conn.new result (λ room _. AreRecent recents.old room
-        → AreRecent recents.new room) }
-    ensures ok { HasCleanDisk (state S.Store conn.new)
-        → OnOk result (IsUnchanged (state S.Store conn.old) (state S.Store conn.new)) }
-    ensures err { HasCleanDisk (state S.Store conn.new)
-        → OnErr result (Keeps (state S.Store conn.old) (state S.Store conn.new)
-        ⊎ (conn.new ≡ conn.old)) }
-    ensures mode { conn.old.in_transaction ≡ false → conn.new.in_transaction ≡ false }
-    ensures survives { Survives (state S.Store conn.old) (state S.Store conn.new) (λ _. ⊥) }
+    ensures cache { Finds S.Store conn.old conn.new result (λ room _. IsCacheOf cache.old room
+        → IsCacheOf cache.new room) }
+    ensures reads { ReadsOnly S.Store conn.old conn.new result }
+{
+    cache.fleet.know(alloc, conn)?;
+    decide_known(alloc, conn, plan, cache, event)
+}
+
+// The same where the fleet is known.
+fn decide_known<S: Alter>(
+    alloc: Global,
+    conn: &mut Connection<S>,
+    plan: &Plan,
+    cache: &mut Cache,
+    event: &Event,
+) -> Result<Result<Decision, Refusal>, Fault>
+    requires room { HasRoomSchema S.Store conn.old }
+    requires open { HasCleanDisk (state S.Store conn.old)
+        → IsTrue (state S.Store conn.old).is_open }
+    ensures decided { Finds S.Store conn.old conn.new result (λ room x. IsWellFormed room
+        → room.plan ≡ plan.now.areas → IsAddressed event.now room
+        → HasFleetOf cache.old.fleet room → AreRecent cache.old.recents room
+        → x ≡ decided event.now room) }
+    ensures cache { Finds S.Store conn.old conn.new result (λ room _.
+        HasFleetOf cache.old.fleet room → AreRecent cache.old.recents room
+        → IsCacheOf cache.new room) }
+    ensures reads { ReadsOnly S.Store conn.old conn.new result }
 {
     match &event.who {
         Who::Desk(division) => {
             let near = Rows::new(alloc);
-            for_division(alloc, conn, plan, *division, event, &near)
+            let fleet = cache.fleet.rows();
+            for_division(alloc, conn, plan, *division, event, fleet, &near)
         }
-        Who::Crew(callsign) => for_crew(alloc, conn, callsign, &event.ask, event.at),
+        Who::Crew(callsign) => {
+            for_crew(
+                alloc,
+                conn,
+                &mut cache.fleet,
+                callsign,
+                &event.ask,
+                event.at,
+            )
+        }
         Who::Position(position) => match &event.ask {
-            Ask::Call(form) => for_call(alloc, conn, plan, recents, *position, form, event),
+            Ask::Call(form) => for_call(alloc, conn, plan, cache, *position, form, event),
             _ => Err(Fault::Storage),
         },
     }
@@ -89,15 +121,19 @@ fn for_division<S: Alter>(
     plan: &Plan,
     division: DivisionNumber,
     event: &Event,
+    fleet: &FleetRows,
     near: &Rows<Incident>,
 ) -> Result<Result<Decision, Refusal>, Fault>
     requires room { HasRoomSchema S.Store conn.old }
+    requires open { HasCleanDisk (state S.Store conn.old)
+        → IsTrue (state S.Store conn.old).is_open }
     ensures decided { Finds S.Store conn.old conn.new result (λ room x. IsWellFormed room
         → room.plan ≡ plan.now.areas → IsIn event.now.who event.now.ask division room
-        → AreNear division event.now.ask event.now.at room near.now → x ≡ decided event.now room) }
+        → AreRowsOf fleet.now room → AreNear division event.now.ask event.now.at room near.now
+        → x ≡ decided event.now room) }
     ensures reads { ReadsOnly S.Store conn.old conn.new result }
 {
-    let rows = load_working(alloc, conn, division, &event.ask, near)?;
+    let rows = load_working(alloc, conn, division, &event.ask, fleet, near)?;
     match Slice::build(division, rows) {
         Some(slice) => {
             let decision = decide_on(alloc, plan, &slice, event);
@@ -130,46 +166,38 @@ fn decide_on(alloc: Global, plan: &Plan, slice: &Slice, event: &Event) -> Result
 fn for_crew<S: Alter>(
     alloc: Global,
     conn: &mut Connection<S>,
+    fleet: &mut Fleet,
     callsign: &Callsign,
     ask: &Ask,
     at: Moment,
 ) -> Result<Result<Decision, Refusal>, Fault>
     requires room { HasRoomSchema S.Store conn.old }
-    ensures decided { Finds S.Store conn.old conn.new result (λ room x. IsWellFormed room
-        → x ≡ crew_asks callsign.now ask.now at room) }
-    ensures reads { ReadsOnly S.Store conn.old conn.new result }
-{
-    let found = row_at::<Vehicle, S>(conn, callsign)?;
-    match found {
-        Some(vehicle) => match ask {
-            Ask::Order => for_order(alloc, conn, &vehicle),
-            Ask::Report(press) => for_report(alloc, conn, &vehicle, press, at),
-            _ => Ok(Err(Refusal::WrongRole)),
-        },
-        None => Err(Fault::Storage),
-    }
-}
-
-fn for_order<S: Alter>(
-    alloc: Global,
-    conn: &mut Connection<S>,
-    vehicle: &Vehicle,
-) -> Result<Result<Decision, Refusal>, Fault>
-    requires room { HasRoomSchema S.Store conn.old }
     requires open { HasCleanDisk (state S.Store conn.old)
         → IsTrue (state S.Store conn.old).is_open }
     ensures decided { Finds S.Store conn.old conn.new result (λ room x. IsWellFormed room
-        → HasVehicle vehicle.now room → x ≡ show_order vehicle.now.callsign room) }
+        → HasFleetOf fleet.old room → x ≡ crew_asks callsign.now ask.now at room) }
+    ensures known { Finds S.Store conn.old conn.new result (λ room _. HasFleetOf fleet.old room
+        → HasFleetOf fleet.new room) }
     ensures reads { ReadsOnly S.Store conn.old conn.new result }
 {
-    let assignment = load_assignment(conn, vehicle)?;
-    Ok(Ok(decide_order(alloc, vehicle, assignment)))
+    let Some(vehicle) = fleet.rows().vehicles.get(callsign).copied() else {
+        return Err(Fault::Storage);
+    };
+    match ask {
+        Ask::Order => {
+            let assignment = fleet.rows().assignments.get(callsign).copied();
+            Ok(Ok(decide_order(alloc, &vehicle, assignment)))
+        }
+        Ask::Report(press) => for_report(alloc, conn, fleet, &vehicle, press, at),
+        _ => Ok(Err(Refusal::WrongRole)),
+    }
 }
 
 // A report, kept already or new.
 fn for_report<S: Alter>(
     alloc: Global,
     conn: &mut Connection<S>,
+    fleet: &mut Fleet,
     vehicle: &Vehicle,
     press: &Press,
     at: Moment,
@@ -178,14 +206,17 @@ fn for_report<S: Alter>(
     requires open { HasCleanDisk (state S.Store conn.old)
         → IsTrue (state S.Store conn.old).is_open }
     ensures decided { Finds S.Store conn.old conn.new result (λ room x. IsWellFormed room
-        → HasVehicle vehicle.now room → x ≡ take_report vehicle.now.callsign press.now at room) }
+        → HasFleetOf fleet.old room → HasVehicle vehicle.now room
+        → x ≡ take_report vehicle.now.callsign press.now at room) }
+    ensures known { Finds S.Store conn.old conn.new result (λ room _. HasFleetOf fleet.old room
+        → HasFleetOf fleet.new room) }
     ensures reads { ReadsOnly S.Store conn.old conn.new result }
 {
     let found = load_report(conn, vehicle, press.number)?;
     if let Some(kept) = found {
         return Ok(decide_report_again(alloc, &kept, press));
     }
-    let rows = load_crew(conn, vehicle)?;
+    let rows = load_crew(conn, fleet, vehicle)?;
     match CrewSlice::build(rows) {
         Some(slice) => machines(decide_report(alloc, &slice, press, at)),
         None => Err(Fault::Storage),
@@ -197,7 +228,7 @@ fn for_call<S: Alter>(
     alloc: Global,
     conn: &mut Connection<S>,
     plan: &Plan,
-    recents: &mut Recents,
+    cache: &mut Cache,
     position: PositionNumber,
     form: &CallForm,
     event: &Event,
@@ -205,10 +236,11 @@ fn for_call<S: Alter>(
     requires room { HasRoomSchema S.Store conn.old }
     ensures decided { Finds S.Store conn.old conn.new result (λ room x. IsWellFormed room
         → room.plan ≡ plan.now.areas → event.now.who ≡ Position position
-        → event.now.ask ≡ CallAsk form.now → AreRecent recents.old room
-        → x ≡ decided event.now room) }
-    ensures recent { Finds S.Store conn.old conn.new result (λ room _. AreRecent recents.old room
-        → AreRecent recents.new room) }
+        → event.now.ask ≡ CallAsk form.now → AreRowsOf cache.old.fleet.rows room
+        → AreRecent cache.old.recents room → x ≡ decided event.now room) }
+    ensures recent { Finds S.Store conn.old conn.new result (λ room _.
+        AreRecent cache.old.recents room → AreRecent cache.new.recents room) }
+    ensures fleet { cache.new.fleet ≡ cache.old.fleet }
     ensures reads { ReadsOnly S.Store conn.old conn.new result }
 {
     let found = row_at::<Call, S>(conn, &(position, form.serial))?;
@@ -216,8 +248,9 @@ fn for_call<S: Alter>(
         Some(kept) => Ok(decide_again(alloc, &kept, &new_call(position, form, event.at))),
         None => match plan.division_of(form.place) {
             Some(division) => {
-                let near = recents.near(alloc, conn, division, form, event.at)?;
-                for_division(alloc, conn, plan, division, event, &near)
+                let near = cache.recents.near(alloc, conn, division, form, event.at)?;
+                let fleet = cache.fleet.rows();
+                for_division(alloc, conn, plan, division, event, fleet, &near)
             }
             None => Ok(Err(Refusal::OutsideArea)),
         },

@@ -13,7 +13,7 @@ ghost use Rattle.room_service.specs.Rooms.{IsWant};
 ghost use Rattle.room_tables.specs.Stands.{House, Stands};
 ghost use Rattle.room_store_writes.specs.Writing.{IsSettled, Leaves};
 ghost use Rattle.room_store_writes.specs.Enrolling.{Enrols, StandsAfter};
-ghost use Rattle.room_store_recent.specs.Recent.{AreRecent};
+ghost use Rattle.room_store_cache.specs.Cache.{IsCacheOf};
 ghost use Rattle.room_store.specs.Enrolling.{HasEnrolled, MayBeEnrolled, StandsInPlan, fate_in};
 ghost use Rattle.room_store.specs.Keeping.{IsReady, IsRoom};
 ghost use Rattle.room_store_writes.specs.Houses.{house_of};
@@ -66,8 +66,8 @@ impl<S: Alter> Store<S> {
         ensures ready { IsReady S.Store self.new }
         ensures plan { self.new.plan ≡ self.old.plan }
         ensures known { self.new.known ≡ self.old.known }
-        ensures recent { (room : Room) → AreRecent self.old.recents room
-            → AreRecent self.new.recents room }
+        ensures cache { (room : Room) → IsCacheOf self.old.cache room
+            → IsCacheOf self.new.cache room }
         ensures fate { HasCleanDisk (state S.Store self.new.conn)
             → OnOk result ((terminals : List Known) (room : Room)
             → IsRoom S.Store self.old terminals room
@@ -95,7 +95,7 @@ impl<S: Alter> Store<S> {
         if !self.is_sound {
             return Err(Refusal::Storage);
         }
-        self.recents.forget();
+        self.cache.forget();
         match add_fate(&mut self.conn, &self.plan, row, out) {
             Ok(()) => Ok(()),
             Err(fault) => {

@@ -18,8 +18,8 @@ ghost use Rattle.room_store_opening.specs.declared.migrating.MigrateFault.TheVar
 };
 
 use crate::store::Store;
+use room_store_cache::cache::Cache;
 use room_store_opening::migrating::{MigrateFault, migrate_in};
-use room_store_recent::recents::Recents;
 use sqlite::{Alter, Connection};
 use std::alloc::Global;
 
@@ -69,7 +69,7 @@ impl<S: Alter> Store<S> {
                 conn,
                 plan,
                 known: Vec::new(alloc),
-                recents: Recents::new(alloc),
+                cache: Cache::new(alloc),
                 is_sound: true,
             }),
             Err(fault) => Err((fault, conn)),

@@ -16,8 +16,8 @@ ghost use Rattle.room_store_opening.specs.declared.opening.OpenFault.TheVariants
 };
 
 use crate::store::Store;
+use room_store_cache::cache::Cache;
 use room_store_opening::opening::{OpenFault, open_in};
-use room_store_recent::recents::Recents;
 use sqlite::{Alter, Connection};
 use std::alloc::Global;
 
@@ -64,7 +64,7 @@ impl<S: Alter> Store<S> {
                 conn,
                 plan,
                 known: Vec::new(alloc),
-                recents: Recents::new(alloc),
+                cache: Cache::new(alloc),
                 is_sound: true,
             }),
             Err(fault) => Err((fault, conn)),

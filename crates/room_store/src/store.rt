@@ -1,5 +1,5 @@
 //! A room that is kept in the tables of a connection.
-ghost use Rattle.std.specs.Prelude.{◌≡◌, ◌↔◌, List, Result, Ok, IsTrue, IfOk, IfErr, OnOk, OnErr, option_map};
+ghost use Rattle.std.specs.Prelude.{◌≡◌, ◌↔◌, List, None, Result, Ok, false, IsTrue, IfOk, IfErr, OnOk, OnErr, option_map};
 ghost use Rattle.std.specs.Fn.{FnOnceReturnsAt};
 ghost use Rattle.sqlite.specs.Held.{state};
 ghost use Rattle.sqlite.specs.State.{HasCleanDisk, Survives};
@@ -14,7 +14,7 @@ ghost use Rattle.room_tables_schema.specs.Schema.{room_schema};
 ghost use Rattle.room_service.specs.Rooms.{IsWant, who_at};
 ghost use Rattle.room_tables.specs.Stands.{Stands};
 ghost use Rattle.room_store_writes.specs.Writing.{IsSettled, Leaves};
-ghost use Rattle.room_store_recent.specs.Recent.{AreRecent};
+ghost use Rattle.room_store_cache.specs.Cache.{IsCacheOf};
 ghost use Rattle.room_store.specs.Keeping.{IsReady, IsRoom};
 ghost use Rattle.room_store_writes.specs.Houses.{house_of};
 
@@ -22,7 +22,7 @@ use crate::acting::{act_on, know_number};
 use crate::faults::refusal_of;
 use crate::knowing::{keep, place_of};
 use room_place::plans::Plan;
-use room_store_recent::recents::Recents;
+use room_store_cache::cache::Cache;
 use room_tables::terminals::terminal_at;
 use room_tables_schema::testing::is_room;
 use room_types::answers::Answer;
@@ -43,8 +43,8 @@ pub struct Store<S: Alter> {
     pub(crate) plan: Plan,
     // Terminals that were looked up, in the order of their tokens. Each is one of the room's.
     pub(crate) known: Vec<Terminal>,
-    // The incidents that were opened last.
-    pub(crate) recents: Recents,
+    // What else is known of the room.
+    pub(crate) cache: Cache,
     pub(crate) is_sound: bool,
 }
 
@@ -57,8 +57,8 @@ impl<S: Alter> Store<S> {
     }
 
     /// Whether a later call may succeed: exactly where the connection shows a room. A failed call
-    /// may have shut it for good; then every later call is refused as `Storage`, and the file has to
-    /// be opened again.
+    /// may have shut it for good; then every later call is refused as `Storage`, and the file has
+    /// to be opened again.
     pub fn is_sound(&self) -> bool
         requires { IsReady S.Store self.now }
         ensures value { result ≡ self.now.is_sound }
@@ -76,7 +76,7 @@ impl<S: Alter> Store<S> {
             conn,
             plan: _,
             known: _,
-            recents: _,
+            cache: _,
             is_sound: _,
         } = self;
         conn
@@ -139,9 +139,9 @@ impl<S: Alter> Store<S> {
         ensures ready { IsReady S.Store self.new }
         ensures plan { self.new.plan ≡ self.old.plan }
         ensures known { self.new.known ≡ self.old.known }
-        // After a failure it knows no incidents, or those that it knew.
-        ensures recent { OnErr result ((room : Room) → AreRecent self.old.recents room
-            → AreRecent self.new.recents room) }
+        // After a failure it knows nothing, or what it knew.
+        ensures cache { OnErr result ((room : Room) → IsCacheOf self.old.cache room
+            → IsCacheOf self.new.cache room) }
         ensures bytes { HasCleanDisk (state S.Store self.new.conn)
             → IfOk result (λ bytes. (terminals : List Known) (room : Room)
             → IsRoom S.Store self.old terminals room → IsAddressed event.now room
@@ -174,28 +174,30 @@ impl<S: Alter> Store<S> {
             alloc,
             &mut self.conn,
             &self.plan,
-            &mut self.recents,
+            &mut self.cache,
             event,
             render,
         ) {
             Ok(bytes) => Ok(bytes),
             Err(refusal) => {
-                self.recents.forget();
                 self.test_file();
                 Err(refusal)
             }
         }
     }
 
-    // After a fault the connection may be shut, and then it shows another schema or none.
+    // After a fault the connection may be shut, and then it shows another schema or none. What was
+    // known is read anew, which tells it too.
     pub(crate) fn test_file(&mut self)
         ensures sound { IsTrue self.new.is_sound
             ↔ ((state S.Store self.new.conn).now.schema ≡ room_schema) }
         ensures conn { self.new.conn ≡ self.old.conn }
         ensures plan { self.new.plan ≡ self.old.plan }
         ensures known { self.new.known ≡ self.old.known }
-        ensures recents { self.new.recents ≡ self.old.recents }
+        ensures fleet { self.new.cache.fleet.is_known ≡ false }
+        ensures recents { self.new.cache.recents.from ≡ None }
     {
+        self.cache.forget();
         self.is_sound = is_room(self.conn.schema());
     }
 }

@@ -6,12 +6,19 @@ use Rattle.std.specs.Prelude.{filter, ◌==◌}
 use Rattle.room_tables_sql.proofs.Comparisons.{is_eq-then}
 use Rattle.room_types.specs.Keys.{callsign_cmp, numbered_cmp, pair_cmp, same_callsign}
 use Rattle.room_types.specs.Texts.{Callsign}
+use Rattle.room_model.proofs.Tests.{and_same}
 use Rattle.room_store_reads.specs.Reading.{any}
 
 -- tests that agree pass the same rows
 pub filter_as : {X : Type 0} (p q : X → Bool) (xs : List X) → ((x : X) → p x ≡ q x)
     → filter p xs ≡ filter q xs
 filter_as p q xs e i = filter (λ x. e x i) xs
+
+-- and so do tests that agree on the rows that are owned
+pub filter_own : {X : Type 0} (own p q : X → Bool) (xs : List X)
+    → ((x : X) → own x ≡ true → p x ≡ q x)
+    → filter (λ x. own x && p x) xs ≡ filter (λ x. own x && q x) xs
+filter_own own p q xs same = filter_as _ _ xs (λ x. and_same (own x) (p x) (q x) (same x))
 
 pub filter_none : {X : Type 0} (xs : List X) → filter (λ (x : X). false) xs ≡ []
 filter_none [] = refl
@@ -87,18 +94,10 @@ pub and_all : (b : Bool) → b && true ≡ b
 and_all true = refl
 and_all false = refl
 
-and_twice : (b : Bool) → b && b ≡ b
-and_twice true = refl
-and_twice false = refl
-
 -- no row passes a test that is never met
 pub filter_never : {X : Type 0} (p q : X → Bool) (xs : List X) → ((x : X) → q x ≡ false)
     → filter (λ x. p x && q x) xs ≡ []
 filter_never p q xs e = filter_as _ (λ x. false) xs (λ x. ap (λ b. p x && b) (e x) ∙ and_none (p x)) ∙ filter_none xs
-
--- a division owns its own row
-pub own_number : (d n : ℕ) (b : Bool) → ((n == d) && is_eq (nat_cmp d n)) && b ≡ (n == d) && b
-own_number d n b = ap (λ c. c && b) (ap (λ c. (n == d) && c) (turned_number d n) ∙ and_twice (n == d))
 
 and_again : (a b : Bool) → a && (a && b) ≡ a && b
 and_again true b = refl
@@ -107,10 +106,6 @@ and_again false b = refl
 -- what a division's number finds is its own
 pub own_pair : (d n a b : ℕ) → (a == d) && is_eq (pair_cmp (d, n) (a, b)) ≡ (a == d) && (n == b)
 own_pair d n a b = ap (λ c. (a == d) && c) (pair_is d n a b) ∙ and_again (a == d) (n == b)
-
-pub filter_all : {X : Type 0} (xs : List X) → filter (λ (x : X). true) xs ≡ xs
-filter_all [] = refl
-filter_all (x ∷ xs) = ap (λ ys. x ∷ ys) (filter_all xs)
 
 -- one item more is looked at
 pub any_last : {K : Type 0} (p : K → Bool) (k : K) (ks : List K)

@@ -4,8 +4,8 @@ use Rattle.room_types.specs.declared.asks.Ask.{Ask}
 use Rattle.room_types.specs.declared.tables.Incident.{Incident}
 use Rattle.room_model.specs.Room.{Room}
 use Rattle.room_model.specs.Working.{working}
+use Rattle.room_store_cache.specs.declared.fleets.FleetRows.{FleetRows}
 use Rattle.room_store_reads.specs.Reading.{is_near}
-use Rattle.room_store_reads.specs.declared.working.Held.{Held}
 use Rattle.room_store_reads.specs.declared.working.Work.{Work}
 
 -- the division's incidents that a call may be linked to, and none for another request
@@ -13,8 +13,8 @@ abbrev pub AreNear : ℕ → Ask → ℕ → Room → List Incident → Type 0
 AreNear d a at room near =
     near ≡ filter (λ i. i.division == d && is_near a at i) room.incidents
 
--- what a request reads beside incidents and reports, at whatever moment
-pub record IsHeld (d : ℕ) (a : Ask) (room : Room) (x : Held) : Type 0 where
+-- what a request reads of the fleet's rows, at whatever moment
+pub record IsHeld (d : ℕ) (a : Ask) (room : Room) (x : FleetRows) : Type 0 where
   pub divisions : x.divisions ≡ (working d a 0 room).divisions
   pub vehicles : x.vehicles ≡ (working d a 0 room).vehicles
   pub assignments : x.assignments ≡ (working d a 0 room).assignments

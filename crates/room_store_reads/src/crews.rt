@@ -1,4 +1,4 @@
-//! The rows of a vehicle that its crew's requests read, loaded by key.
+//! The rows of a vehicle that its crew's requests read beside what is known of the fleet.
 ghost use Rattle.std.specs.Prelude.{◌≡◌, IsTrue, is_none};
 ghost use Rattle.sqlite.specs.Held.{state};
 ghost use Rattle.sqlite.specs.State.{HasCleanDisk};
@@ -8,52 +8,41 @@ ghost use Rattle.room_tables_sql.specs.Outcomes.{ReadsOnly};
 ghost use Rattle.room_types_keyed.specs.Keyed.{keep, row_at};
 ghost use Rattle.room_model.specs.Slices.{AreCrewRows};
 ghost use Rattle.room_model.specs.WellFormed.{IsWellFormed};
-ghost use Rattle.room_types.specs.Keys.{assignment_key, callsign_cmp, loan_key, numbered_cmp, report_key};
+ghost use Rattle.room_types.specs.Keys.{numbered_cmp, report_key};
+ghost use Rattle.room_store_cache.specs.Cache.{AreTurnsOf, HasFleetOf};
 ghost use Rattle.room_store_reads.specs.CrewParts.{HasVehicle, last_open_turn};
 
+use room_store_cache::fleets::Fleet;
 use room_tables::loading::row_at;
 use room_tables_schema::faults::Fault;
 use room_types::crews::CrewRows;
 use room_types::numbers::Number;
-use room_types::tables::{Assignment, Loan, Report, Turn, Vehicle};
+use room_types::tables::{Report, Turn, Vehicle};
 use sqlite::{Alter, Connection};
 
-/// What a new report reads of a vehicle that was found: beside its row its open turn and its loan.
-pub fn load_crew<S: Alter>(conn: &mut Connection<S>, vehicle: &Vehicle) -> Result<CrewRows, Fault>
+/// What a new report reads of a known vehicle: beside its row its open turn and its loan.
+pub fn load_crew<S: Alter>(
+    conn: &mut Connection<S>,
+    fleet: &mut Fleet,
+    vehicle: &Vehicle,
+) -> Result<CrewRows, Fault>
     requires room { HasRoomSchema S.Store conn.old }
     requires open { HasCleanDisk (state S.Store conn.old)
         → IsTrue (state S.Store conn.old).is_open }
     ensures rows { Finds S.Store conn.old conn.new result (λ room x. IsWellFormed room
-        → HasVehicle vehicle.now room → (x.vehicle ≡ vehicle.now)
+        → HasFleetOf fleet.old room → HasVehicle vehicle.now room → (x.vehicle ≡ vehicle.now)
         × AreCrewRows vehicle.now.callsign room x) }
+    ensures known { Finds S.Store conn.old conn.new result (λ room _. HasFleetOf fleet.old room
+        → HasFleetOf fleet.new room) }
     ensures reads { ReadsOnly S.Store conn.old conn.new result }
 {
-    let turn = load_turn(conn, vehicle)?;
-    let loan = load_loan(conn, vehicle)?;
+    let turn = load_turn(conn, fleet, vehicle)?;
+    let loan = fleet.rows().loans.get(&vehicle.callsign).copied();
     Ok(CrewRows {
         vehicle: *vehicle,
         turn,
         loan,
     })
-}
-
-/// The vehicle's assignment, where it is busy: else it has none.
-pub fn load_assignment<S: Alter>(
-    conn: &mut Connection<S>,
-    vehicle: &Vehicle,
-) -> Result<Option<Assignment>, Fault>
-    requires room { HasRoomSchema S.Store conn.old }
-    requires open { HasCleanDisk (state S.Store conn.old)
-        → IsTrue (state S.Store conn.old).is_open }
-    ensures row { Finds S.Store conn.old conn.new result (λ room x. IsWellFormed room
-        → HasVehicle vehicle.now room
-        → row_at callsign_cmp assignment_key room.assignments vehicle.now.callsign ≡ x) }
-    ensures reads { ReadsOnly S.Store conn.old conn.new result }
-{
-    if !vehicle.status.is_busy() {
-        return Ok(None);
-    }
-    row_at::<Assignment, S>(conn, &vehicle.callsign)
 }
 
 /// The vehicle's report of a number, where that isn't above its last: else it has none.
@@ -77,12 +66,20 @@ pub fn load_report<S: Alter>(
 }
 
 // The open turn of the vehicle's last order, where it is busy: else it has none.
-fn load_turn<S: Alter>(conn: &mut Connection<S>, vehicle: &Vehicle) -> Result<Option<Turn>, Fault>
+fn load_turn<S: Alter>(
+    conn: &mut Connection<S>,
+    fleet: &mut Fleet,
+    vehicle: &Vehicle,
+) -> Result<Option<Turn>, Fault>
     requires room { HasRoomSchema S.Store conn.old }
     requires open { HasCleanDisk (state S.Store conn.old)
         → IsTrue (state S.Store conn.old).is_open }
     ensures row { Finds S.Store conn.old conn.new result (λ room x. IsWellFormed room
-        → HasVehicle vehicle.now room → last_open_turn vehicle.now room ≡ x) }
+        → AreTurnsOf fleet.old.turns room → HasVehicle vehicle.now room
+        → last_open_turn vehicle.now room ≡ x) }
+    ensures known { Finds S.Store conn.old conn.new result (λ room _.
+        AreTurnsOf fleet.old.turns room → AreTurnsOf fleet.new.turns room) }
+    ensures rows { fleet.new.rows ≡ fleet.old.rows }
     ensures reads { ReadsOnly S.Store conn.old conn.new result }
 {
     if !vehicle.status.is_busy() {
@@ -91,7 +88,7 @@ fn load_turn<S: Alter>(conn: &mut Connection<S>, vehicle: &Vehicle) -> Result<Op
     let Some(order) = Number::new(vehicle.last_order.get()) else {
         return Ok(None);
     };
-    let last = row_at::<Turn, S>(conn, &(vehicle.callsign, order))?;
+    let last = fleet.turn_at(conn, &(vehicle.callsign, order))?;
     Ok(not_ended(last))
 }
 
@@ -102,20 +99,4 @@ fn not_ended(turn: Option<Turn>) -> Option<Turn>
         Some(turn) if turn.ended.is_none() => Some(turn),
         _ => None,
     }
-}
-
-// The vehicle's loan, where another than its home holds it: else it has none.
-fn load_loan<S: Alter>(conn: &mut Connection<S>, vehicle: &Vehicle) -> Result<Option<Loan>, Fault>
-    requires room { HasRoomSchema S.Store conn.old }
-    requires open { HasCleanDisk (state S.Store conn.old)
-        → IsTrue (state S.Store conn.old).is_open }
-    ensures row { Finds S.Store conn.old conn.new result (λ room x. IsWellFormed room
-        → HasVehicle vehicle.now room
-        → row_at callsign_cmp loan_key room.loans vehicle.now.callsign ≡ x) }
-    ensures reads { ReadsOnly S.Store conn.old conn.new result }
-{
-    if vehicle.holder == vehicle.home {
-        return Ok(None);
-    }
-    row_at::<Loan, S>(conn, &vehicle.callsign)
 }

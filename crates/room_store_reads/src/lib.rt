@@ -1,4 +1,4 @@
-//! The rows that a request reads, loaded from the tables by key and by index.
+//! The rows that a request reads: those known of the fleet, and others loaded by key and by index.
 #![tactic(auto)]
 
 pub mod crews;

@@ -1,5 +1,6 @@
 //! What a request names of the rows that it reads.
-ghost use Rattle.std.specs.Prelude.{◌≡◌, ◌==◌, ◌&&◌, ◌||◌, ℕ, IfSome, IsTrue};
+ghost use Rattle.std.specs.Prelude.{◌≡◌, ◌==◌, ◌&&◌, ◌||◌, ℕ, IfSome};
+ghost use Rattle.std.specs.Ordering.{nat_cmp};
 ghost use Rattle.room_types.specs.Codes.{is_active};
 ghost use Rattle.room_types.specs.Keys.{callsign_cmp, pair_cmp};
 ghost use Rattle.room_types.specs.Texts.{Callsign as CallsignText};
@@ -9,7 +10,6 @@ ghost use Rattle.room_types.specs.declared.tables.Turn.{Turn};
 ghost use Rattle.room_model.specs.Room.{Room};
 ghost use Rattle.room_model.specs.Working.{names_incident, names_opening, names_report, names_turn, reads_active, reads_assignments, reads_calls, reads_division, reads_exceptions, reads_incident, reads_loan, reads_offer, reads_point, reads_vehicle};
 ghost use Rattle.room_store_reads.specs.Extents.{reaches};
-ghost use Rattle.room_store_reads.specs.declared.extents.Extent.TheVariants.{Nothing};
 ghost use Rattle.room_store_reads.specs.Reading.{any, contains, is_last_of, is_near, is_number, is_part, is_report};
 
 use crate::extents::Extent;
@@ -18,18 +18,19 @@ use room_types::asks::Ask;
 use room_types::callsign::Callsign;
 use room_types::numbers::{Number, PointNumber};
 
-/// Whether a request reads its division's own row.
-pub fn reads_division(ask: &Ask) -> bool
-    ensures { result ≡ reads_division ask.now }
+/// The divisions' rows that a request reads.
+pub fn divisions_read(ask: &Ask) -> Extent<DivisionNumber>
+    ensures { (n : ℕ) → reads_division ask.now ≡ reaches nat_cmp result n }
 {
-    matches!(ask, Ask::Call(_))
+    match ask {
+        Ask::Call(_) => Extent::Everything,
+        _ => Extent::Nothing,
+    }
 }
 
-/// The vehicles that a request reads: none where it reads its division's own row.
+/// The vehicles that a request reads.
 pub fn vehicles_read(ask: &Ask) -> Extent<Callsign>
-    ensures vehicles { (k : CallsignText)
-        → reads_vehicle ask.now k ≡ reaches callsign_cmp result k }
-    ensures beside { IsTrue (reads_division ask.now) → result ≡ Nothing }
+    ensures { (k : CallsignText) → reads_vehicle ask.now k ≡ reaches callsign_cmp result k }
 {
     match *ask {
         Ask::Propose(_) | Ask::Vehicles | Ask::Queue | Ask::Points => Extent::Everything,
@@ -162,7 +163,8 @@ pub enum IncidentPart {
 /// it names; and, beside these, those that a call may be linked to.
 pub fn incidents_read(ask: &Ask) -> [IncidentPart; 3]
     ensures { (d at : ℕ) (i : Incident) → any (λ p. i.division == d && is_part p i) result
-        || i.division == d && is_near ask.now at i ≡ i.division == d && reads_incident ask.now at i }
+        || i.division == d && is_near ask.now at i
+        ≡ i.division == d && reads_incident ask.now at i }
 {
     let (first, second) = named_incidents(ask);
     [shown_or_opened(ask), numbered(first), numbered(second)]

@@ -1,9 +1,10 @@
 //! Rows of one table that were loaded by several reads.
 ghost use Rattle.std.specs.Prelude.{◌≡◌, ◌||◌, Bool, List, filter, OnOk, IfErr, IfOk};
 ghost use Rattle.room_tables_schema.specs.declared.faults.Fault.TheVariants.{Memory};
-ghost use Rattle.room_types_keyed.specs.Keyed.{IsKeyed, put_row};
+ghost use Rattle.room_types_keyed.specs.Keyed.{IsKeyed};
 ghost use Rattle.room_store_reads.specs.Reading.{listed};
 
+use room_store_cache::rows::put;
 use room_tables_schema::faults::Fault;
 use room_types::rows::{Row, Rows};
 use std::alloc::Global;
@@ -17,7 +18,7 @@ pub fn add_all<R: Row>(rows: &mut Rows<R>, more: &Rows<R>) -> Result<(), Fault>
     ensures memory { IfErr result (λ e. e ≡ Memory) }
 {
     for row in more.as_slice() {
-        add(rows, *row)?;
+        put(rows, row)?;
     }
     Ok(())
 }
@@ -29,17 +30,7 @@ pub fn listed<R: Row>(alloc: Global, found: Option<R>) -> Result<Rows<R>, Fault>
 {
     let mut rows = Rows::new(alloc);
     if let Some(row) = found {
-        add(&mut rows, row)?;
+        put(&mut rows, &row)?;
     }
     Ok(rows)
-}
-
-fn add<R: Row>(rows: &mut Rows<R>, row: R) -> Result<(), Fault>
-    ensures put { OnOk result (rows.new ≡ put_row R.Key.cmp R.key_of rows.old row) }
-    ensures memory { IfErr result (λ e. e ≡ Memory) }
-{
-    match rows.put(row) {
-        Ok(_) => Ok(()),
-        Err(_) => Err(Fault::Memory),
-    }
 }

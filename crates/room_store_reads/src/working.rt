@@ -1,4 +1,4 @@
-//! The rows of a division that a request reads, loaded by key and by index.
+//! The rows of a division that a request reads: of the fleet those known, others from the tables.
 ghost use Rattle.std.specs.Prelude.{◌≡◌, ◌&&◌, ◌==◌, ◌||◌, ℕ, filter, is_some, IsTrue, IfErr, IfOk, OnOk};
 ghost use Rattle.sqlite.specs.Held.{state};
 ghost use Rattle.sqlite.specs.State.{HasCleanDisk};
@@ -10,22 +10,23 @@ ghost use Rattle.room_types.specs.declared.tables.Turn.{Turn};
 ghost use Rattle.room_model.specs.Queries.{held, incident_of};
 ghost use Rattle.room_model.specs.Room.{IsInOrder, Room};
 ghost use Rattle.room_model.specs.Slices.{room_of};
-ghost use Rattle.room_model.specs.Working.{is_last_turn, reads_active, reads_division, reads_incident, reads_number, reads_report, working};
+ghost use Rattle.room_model.specs.Working.{is_last_turn, reads_active, reads_incident, reads_number, reads_report, working};
 ghost use Rattle.room_tables_schema.specs.declared.faults.Fault.TheVariants.{Memory};
 ghost use Rattle.room_tables_schema.specs.Connections.{HasRoomSchema};
+ghost use Rattle.room_store_cache.specs.Cache.{AreRowsOf};
 ghost use Rattle.room_store_reads.specs.Parts.{AreNear, IsHeld, IsWork};
 ghost use Rattle.room_store_reads.specs.Reading.{contains, is_number, is_turn};
 
-use crate::extents::{Extent, load_both, load_extent, load_one, owned_row};
+use crate::extents::{load_one, owned_row, part_of};
 use crate::naming::{
-    assignments_read, calls_read, incidents_read, loans_read, named_incidents, named_report,
-    offers_read, points_read, reads_active, reads_division, reads_exceptions, stood_down,
+    assignments_read, calls_read, divisions_read, incidents_read, loans_read, named_incidents,
+    named_report, offers_read, points_read, reads_active, reads_exceptions, stood_down,
     vehicles_read,
 };
 use crate::parts::load_parts;
 use crate::unions::add_all;
 use room_place::plans::DivisionNumber;
-use room_tables::loading::row_at;
+use room_store_cache::fleets::FleetRows;
 use room_tables_schema::faults::Fault;
 use room_types::asks::Ask;
 use room_types::callsign::Callsign;
@@ -33,29 +34,30 @@ use room_types::codes::Outcome;
 use room_types::numbers::Number;
 use room_types::rows::Rows;
 use room_types::slices::DivisionRows;
-use room_types::tables::{
-    Assignment, Call, Division, Incident, Loan, Offer, Point, Report, Turn, Vehicle,
-};
+use room_types::tables::{Call, Incident, Report, Turn, Vehicle};
 use sqlite::{Alter, Connection};
 use std::alloc::Global;
 
 /// The rows of a division that a request reads: what its desk asks, or a call that is placed in it.
-/// The incidents that a call may be linked to are handed over.
+/// What stands of the fleet is handed over, and the incidents that a call may be linked to.
 pub fn load_working<S: Alter>(
     alloc: Global,
     conn: &mut Connection<S>,
     division: DivisionNumber,
     ask: &Ask,
+    fleet: &FleetRows,
     near: &Rows<Incident>,
 ) -> Result<DivisionRows, Fault>
     requires room { HasRoomSchema S.Store conn.old }
+    requires open { HasCleanDisk (state S.Store conn.old)
+        → IsTrue (state S.Store conn.old).is_open }
     ensures rows { Finds S.Store conn.old conn.new result (λ room x. IsInOrder room → (at : ℕ)
-        → AreNear division ask.now at room near.now
+        → AreRowsOf fleet.now room → AreNear division ask.now at room near.now
         → room_of room.plan x ≡ working division ask.now at room) }
     ensures reads { ReadsOnly S.Store conn.old conn.new result }
 {
-    let held = load_held(alloc, conn, division, ask)?;
-    let work = load_work(alloc, conn, division, ask, near)?;
+    let held = held_part(alloc, division, ask, fleet)?;
+    let work = load_work(alloc, conn, division, ask, fleet, near)?;
     Ok(DivisionRows {
         divisions: held.divisions,
         incidents: work.incidents,
@@ -70,88 +72,26 @@ pub fn load_working<S: Alter>(
     })
 }
 
-// What a request reads beside incidents and reports: the division's row, vehicles that it holds and
-// its assignments, and its points, loans and offers.
-#[derive(Drop)]
-struct Held {
-    divisions: Rows<Division>,
-    vehicles: Rows<Vehicle>,
-    assignments: Rows<Assignment>,
-    points: Rows<Point>,
-    loans: Rows<Loan>,
-    offers: Rows<Offer>,
-}
-
-fn load_held<S: Alter>(
+// What a request reads of the fleet's rows: the division's own, vehicles that it holds and its
+// assignments, and its points, loans and offers. The one fault is `Memory`.
+fn held_part(
     alloc: Global,
-    conn: &mut Connection<S>,
     division: DivisionNumber,
     ask: &Ask,
-) -> Result<Held, Fault>
-    requires room { HasRoomSchema S.Store conn.old }
-    ensures rows { Finds S.Store conn.old conn.new result (λ room x. IsInOrder room
+    fleet: &FleetRows,
+) -> Result<FleetRows, Fault>
+    ensures rows { IfOk result (λ x. (room : Room) → IsInOrder room → AreRowsOf fleet.now room
         → IsHeld division ask.now room x) }
-    ensures reads { ReadsOnly S.Store conn.old conn.new result }
+    ensures memory { IfErr result (λ e. e ≡ Memory) }
 {
-    let (divisions, vehicles) = load_first(alloc, conn, division, ask)?;
-    let (assignments, points) = load_both::<Assignment, Point, S>(
-        alloc,
-        conn,
-        division,
-        &assignments_read(ask),
-        &points_read(ask, division),
-    )?;
-    let (loans, offers) = load_both::<Loan, Offer, S>(
-        alloc,
-        conn,
-        division,
-        &loans_read(ask),
-        &offers_read(ask),
-    )?;
-    Ok(Held {
-        divisions,
-        vehicles,
-        assignments,
-        points,
-        loans,
-        offers,
+    Ok(FleetRows {
+        divisions: part_of(alloc, &fleet.divisions, division, &divisions_read(ask))?,
+        vehicles: part_of(alloc, &fleet.vehicles, division, &vehicles_read(ask))?,
+        assignments: part_of(alloc, &fleet.assignments, division, &assignments_read(ask))?,
+        points: part_of(alloc, &fleet.points, division, &points_read(ask, division))?,
+        loans: part_of(alloc, &fleet.loans, division, &loans_read(ask))?,
+        offers: part_of(alloc, &fleet.offers, division, &offers_read(ask))?,
     })
-}
-
-// The division's row and the vehicles. Where no vehicle is read that row is looked up whatever is
-// asked: the first read tells a connection that a fault has shut, also where nothing else is read.
-fn load_first<S: Alter>(
-    alloc: Global,
-    conn: &mut Connection<S>,
-    division: DivisionNumber,
-    ask: &Ask,
-) -> Result<(Rows<Division>, Rows<Vehicle>), Fault>
-    requires room { HasRoomSchema S.Store conn.old }
-    ensures rows { Finds S.Store conn.old conn.new result (λ room x. IsInOrder room
-        → (x.0 ≡ (working division ask.now 0 room).divisions)
-        × (x.1 ≡ (working division ask.now 0 room).vehicles)) }
-    ensures reads { ReadsOnly S.Store conn.old conn.new result }
-{
-    match vehicles_read(ask) {
-        Extent::Nothing => {
-            let own = load_one::<Division, S>(alloc, conn, division, &division)?;
-            Ok((division_read(alloc, ask, own), Rows::new(alloc)))
-        }
-        extent => {
-            let vehicles = load_extent::<Vehicle, S>(alloc, conn, division, &extent)?;
-            Ok((Rows::new(alloc), vehicles))
-        }
-    }
-}
-
-fn division_read(alloc: Global, ask: &Ask, own: Rows<Division>) -> Rows<Division>
-    ensures { result ≡ filter (λ _. reads_division ask.now) own }
-{
-    if reads_division(ask) {
-        own
-    } else {
-        Rows::new(alloc)
-    }
 }
 
 // The reports that wait to be cleared, or the one that the request names.
@@ -199,12 +139,14 @@ fn load_work<S: Alter>(
     conn: &mut Connection<S>,
     division: DivisionNumber,
     ask: &Ask,
+    fleet: &FleetRows,
     near: &Rows<Incident>,
 ) -> Result<Work, Fault>
     requires room { HasRoomSchema S.Store conn.old }
     requires open { HasCleanDisk (state S.Store conn.old)
         → IsTrue (state S.Store conn.old).is_open }
     ensures rows { Finds S.Store conn.old conn.new result (λ room x. IsInOrder room → (at : ℕ)
+        → AreRowsOf fleet.now room
         → AreNear division ask.now at room near.now → IsWork division ask.now at room x) }
     ensures reads { ReadsOnly S.Store conn.old conn.new result }
 {
@@ -212,7 +154,7 @@ fn load_work<S: Alter>(
     let numbers = numbers_read(alloc, ask, &incidents)?;
     let of_calls = calls_read(ask, numbers.as_slice());
     let calls = load_parts::<Call, S>(alloc, conn, division, of_calls)?;
-    let turns = load_turns(alloc, conn, division, ask, numbers.as_slice())?;
+    let turns = load_turns(alloc, conn, division, ask, fleet, numbers.as_slice())?;
     let reports = load_reports(alloc, conn, division, ask)?;
     Ok(Work {
         incidents,
@@ -296,18 +238,20 @@ fn load_turns<S: Alter>(
     conn: &mut Connection<S>,
     division: DivisionNumber,
     ask: &Ask,
+    fleet: &FleetRows,
     numbers: &[Number],
 ) -> Result<Rows<Turn>, Fault>
     requires room { HasRoomSchema S.Store conn.old }
     requires open { HasCleanDisk (state S.Store conn.old)
         → IsTrue (state S.Store conn.old).is_open }
     ensures rows { Finds S.Store conn.old conn.new result (λ room x. IsInOrder room
+        → AreRowsOf fleet.now room
         → ((n : ℕ) → contains n numbers.now ≡ reads_number division ask.now room n)
         → x ≡ (working division ask.now 0 room).turns) }
     ensures reads { ReadsOnly S.Store conn.old conn.new result }
 {
     match stood_down(ask) {
-        Some(callsign) => last_turn(alloc, conn, division, &callsign),
+        Some(callsign) => last_turn(alloc, conn, division, fleet, &callsign),
         None => load_parts::<Turn, S>(alloc, conn, division, numbers),
     }
 }
@@ -317,16 +261,19 @@ fn last_turn<S: Alter>(
     alloc: Global,
     conn: &mut Connection<S>,
     division: DivisionNumber,
+    fleet: &FleetRows,
     callsign: &Callsign,
 ) -> Result<Rows<Turn>, Fault>
     requires room { HasRoomSchema S.Store conn.old }
+    requires open { HasCleanDisk (state S.Store conn.old)
+        → IsTrue (state S.Store conn.old).is_open }
     ensures rows { Finds S.Store conn.old conn.new result (λ room x. IsInOrder room
-        → x ≡ filter (λ t. t.division == division &&
+        → AreRowsOf fleet.now room → x ≡ filter (λ t. t.division == division &&
         is_last_turn (held division callsign.now room) t) room.turns) }
     ensures reads { ReadsOnly S.Store conn.old conn.new result }
 {
-    let found = row_at::<Vehicle, S>(conn, callsign)?;
-    match last_key(owned_row(found, division)) {
+    let vehicle = fleet.vehicles.get(callsign).copied();
+    match last_key(owned_row(vehicle, division)) {
         Some(key) => load_one::<Turn, S>(alloc, conn, division, &key),
         None => Ok(Rows::new(alloc)),
     }

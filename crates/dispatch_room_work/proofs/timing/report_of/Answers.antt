@@ -33,4 +33,4 @@ returns-in-Ok-clause-same g c clean terminals held is =
 
 pub returns-in-Err-clause-same : goal.returns-in-Err-clause-same
 returns-in-Err-clause-same g c clean terminals held is =
-    room_left g.S.Store c.args.room.now c.act.new.self terminals held (c.in-Err.ensures.err clean) c.act.ensures.plan (rw c.act.ensures.known is.known) (c.in-Err.ensures.recent held is.recent) is
+    room_left g.S.Store c.args.room.now c.act.new.self terminals held (c.in-Err.ensures.err clean) c.act.ensures.plan (rw c.act.ensures.known is.known) (c.in-Err.ensures.cache held is.cache) is

@@ -3,9 +3,9 @@ use Rattle.sqlite.specs.Held.{state}
 use Rattle.sqlite.specs.State.{HasCleanDisk}
 use Rattle.room_model.specs.Decisions.{answer_of, changes_of}
 use Rattle.room_model.specs.Room.{apply}
-use Rattle.room_store_recent.specs.Recent.{AreRecent}
+use Rattle.room_store_cache.specs.Cache.{IsCacheOf}
 use Rattle.room_store.proofs.ActLaws.{acted, acted_survives}
-use Rattle.room_store.proofs.LookLaws.{left_later, left_unchanged, left_unread, outside, room_read, settled_read, survives_more}
+use Rattle.room_store.proofs.LookLaws.{left_failed, left_later, left_unchanged, outside, room_read, settled_read, survives_more}
 use Rattle.room_store.proofs.acting.act_on.Goals as goal
 
 pub returns-in-Err-rendered-clause-wants : goal.returns-in-Err-rendered-clause-wants
@@ -19,62 +19,65 @@ returns-clause-bytes g c clean house room h =
 pub returns-clause-ok : goal.returns-clause-ok
 returns-clause-ok g c clean =
     let early : HasCleanDisk (state g.S.Store c.decide.new.conn) = omega (arith, c.write.ensures.survives.clean) in
-    acted _ _ _ c.args.plan.now c.args.recents.now c.args.event.now c.as_slice.result.now c.in-Ok.ensures.ok
+    acted _ _ _ c.args.plan.now c.args.cache.now c.args.event.now c.as_slice.result.now c.in-Ok.ensures.reads.ok
     (λ sound house room h. c.as_slice.ensures ∙ c.parts-changes.ensures.changes ∙ ap changes_of (c.in-Ok.ensures.decided sound house room h)) early (c.in_default.ensures.ok clean)
 
-pub returns-clause-recent : goal.returns-clause-recent
-returns-clause-recent g c clean house room h =
+pub returns-clause-cache : goal.returns-clause-cache
+returns-clause-cache g c clean house room h =
     let early : HasCleanDisk (state g.S.Store c.decide.new.conn) = omega (arith, c.write.ensures.survives.clean) in
-    let known = c.in-Ok.ensures.recent early house room h.stands h.recent in
+    let known = c.in-Ok.ensures.cache early house room h.stands h.cache in
     let same = c.as_slice-2.ensures ∙ c.parts-changes.ensures.changes ∙ ap changes_of (c.in-Ok.ensures.decided early house room h) in
-    subst (λ changes. AreRecent c.follow.new.self (apply room changes)) same (c.follow.ensures room h.formed.order known)
+    subst (λ changes. IsCacheOf c.follow.new.self (apply room changes)) same (c.follow.ensures room h.formed.order known)
 
 pub returns-clause-survives : goal.returns-clause-survives
 returns-clause-survives g c =
-    acted_survives _ _ _ c.args.plan.now c.args.recents.now c.args.event.now c.as_slice.result.now c.in-Ok.ensures.ok
-    (λ sound house room h. c.as_slice.ensures ∙ c.parts-changes.ensures.changes ∙ ap changes_of (c.in-Ok.ensures.decided sound house room h)) c.decide.ensures.survives c.write.ensures.survives
+    acted_survives _ _ _ c.args.plan.now c.args.cache.now c.args.event.now c.as_slice.result.now c.in-Ok.ensures.reads.ok
+    (λ sound house room h. c.as_slice.ensures ∙ c.parts-changes.ensures.changes ∙ ap changes_of (c.in-Ok.ensures.decided sound house room h)) c.decide.ensures.reads.survives c.write.ensures.survives
 
 pub returns-in-Err-write-clause-survives : goal.returns-in-Err-write-clause-survives
 returns-in-Err-write-clause-survives g c =
-    acted_survives _ _ _ c.args.plan.now c.args.recents.now c.args.event.now c.as_slice.result.now c.in-Ok.ensures.ok
-    (λ sound house room h. c.as_slice.ensures ∙ c.parts-changes.ensures.changes ∙ ap changes_of (c.in-Ok.ensures.decided sound house room h)) c.decide.ensures.survives c.write.ensures.survives
+    acted_survives _ _ _ c.args.plan.now c.args.cache.now c.args.event.now c.as_slice.result.now c.in-Ok.ensures.reads.ok
+    (λ sound house room h. c.as_slice.ensures ∙ c.parts-changes.ensures.changes ∙ ap changes_of (c.in-Ok.ensures.decided sound house room h)) c.decide.ensures.reads.survives c.write.ensures.survives
 
-pub decide-requires : goal.decide-requires
-decide-requires g c = record { room = c.requires.room }
+pub decide-requires-clause-room : goal.decide-requires-clause-room
+decide-requires-clause-room g c = c.requires.room
+
+pub decide-requires-clause-open : goal.decide-requires-clause-open
+decide-requires-clause-open g c = c.requires.open
 
 pub returns-in-Err-clause-err : goal.returns-in-Err-clause-err
 returns-in-Err-clause-err g c clean =
-    left_unread g.S.Store c.args.conn.now c.decide.new.conn (outside c.is_autocommit.result _ c.requires.outside c.is_autocommit.ensures.value c.is_autocommit.ensures.settled) (c.in-Err.ensures.err clean)
+    left_failed _ _ (outside c.is_autocommit.result _ c.requires.outside c.is_autocommit.ensures.value c.is_autocommit.ensures.settled) (c.in-Err.ensures.reads.err clean)
 
 pub returns-in-Err-clause-ended : goal.returns-in-Err-clause-ended
-returns-in-Err-clause-ended g c = c.decide.ensures.mode c.requires.outside
+returns-in-Err-clause-ended g c = c.decide.ensures.reads.mode c.requires.outside
 
 pub returns-in-Err-clause-survives : goal.returns-in-Err-clause-survives
-returns-in-Err-clause-survives g c = survives_more _ _ _ c.decide.ensures.survives
+returns-in-Err-clause-survives g c = survives_more _ _ _ c.decide.ensures.reads.survives
 
 pub returns-in-Err-rendered-clause-err : goal.returns-in-Err-rendered-clause-err
-returns-in-Err-rendered-clause-err g c clean = left_unchanged _ _ (c.in-Ok.ensures.ok clean)
+returns-in-Err-rendered-clause-err g c clean = left_unchanged _ _ (c.in-Ok.ensures.reads.ok clean)
 
 pub returns-in-Err-rendered-clause-ended : goal.returns-in-Err-rendered-clause-ended
-returns-in-Err-rendered-clause-ended g c = c.decide.ensures.mode c.requires.outside
+returns-in-Err-rendered-clause-ended g c = c.decide.ensures.reads.mode c.requires.outside
 
 pub returns-in-Err-rendered-clause-survives : goal.returns-in-Err-rendered-clause-survives
-returns-in-Err-rendered-clause-survives g c = survives_more _ _ _ c.decide.ensures.survives
+returns-in-Err-rendered-clause-survives g c = survives_more _ _ _ c.decide.ensures.reads.survives
 
 pub write-requires-clause-room : goal.write-requires-clause-room
-write-requires-clause-room g c = room_read g.S.Store c.args.conn.now c.decide.new.conn c.in-Ok.ensures.ok c.decide.ensures.survives c.requires.room
+write-requires-clause-room g c = room_read g.S.Store c.args.conn.now c.decide.new.conn c.in-Ok.ensures.reads.ok c.decide.ensures.reads.survives c.requires.room
 
 pub write-requires-clause-outside : goal.write-requires-clause-outside
-write-requires-clause-outside g c = c.decide.ensures.mode c.requires.outside
+write-requires-clause-outside g c = c.decide.ensures.reads.mode c.requires.outside
 
 pub write-requires-clause-settled : goal.write-requires-clause-settled
 write-requires-clause-settled g c =
-    settled_read g.S.Store c.args.conn.now c.decide.new.conn c.in-Ok.ensures.ok (outside c.is_autocommit.result _ c.requires.outside c.is_autocommit.ensures.value c.is_autocommit.ensures.settled)
+    settled_read g.S.Store c.args.conn.now c.decide.new.conn c.in-Ok.ensures.reads.ok (outside c.is_autocommit.result _ c.requires.outside c.is_autocommit.ensures.value c.is_autocommit.ensures.settled)
 
 pub returns-in-Err-write-clause-err : goal.returns-in-Err-write-clause-err
 returns-in-Err-write-clause-err g c clean =
     let early : HasCleanDisk (state g.S.Store c.decide.new.conn) = omega (arith, c.write.ensures.survives.clean) in
-    left_later _ _ _ (c.in-Ok.ensures.ok early) (c.in-Err-write.ensures.err clean)
+    left_later _ _ _ (c.in-Ok.ensures.reads.ok early) (c.in-Err-write.ensures.err clean)
 
 pub returns-in-Err-write-clause-ended : goal.returns-in-Err-write-clause-ended
 returns-in-Err-write-clause-ended g c = c.write.ensures.ended

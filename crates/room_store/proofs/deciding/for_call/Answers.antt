@@ -8,26 +8,29 @@ use Rattle.room_tables.proofs.RoomReads.{kept}
 use Rattle.room_store.proofs.deciding.for_call.Goals as goal
 
 pub returns-in-Some-clause-decided : goal.returns-in-Some-clause-decided
-returns-in-Some-clause-decided g c clean house room h formed planned who ask _ =
+returns-in-Some-clause-decided g c clean house room h formed planned who ask _ _ =
     told_again c.args.event.now c.args.position c.args.form.now c.args.plan.now.areas room planned who ask c.in_ok-found.found (c.in_ok-found.ensures.row clean house room h)
     c.in-Some.kept c.new_call.result c.decide_again.result c.in-Some.is c.new_call.ensures c.decide_again.ensures
 
 pub near-requires-clause-open : goal.near-requires-clause-open
 near-requires-clause-open g c clean = (c.in_ok-found.ensures.reads.ok clean).0.is_open
 
+pub for_division-requires-clause-open : goal.for_division-requires-clause-open
+for_division-requires-clause-open g c clean = (c.in_ok-near-in-Some-division_of.ensures.reads.ok clean).0.is_open
+
 pub returns-in_ok-near-in-Some-division_of-clause-decided : goal.returns-in_ok-near-in-Some-division_of-clause-decided
 returns-in_ok-near-in-Some-division_of-clause-decided g c clean =
     let one = looked c.in_ok-found.ensures.reads in
     let second : HasCleanDisk (state g.S.Store c.near.new.conn) = omega (arith, c.for_division.ensures.reads.survives.clean) in
     let first = clean_before one c.in_ok-near-in-Some-division_of.ensures.reads second in
-    IfOk-weaker c.for_division.result _ _ (λ x decides house room h formed planned who ask recent.
+    IfOk-weaker c.for_division.result _ _ (λ x decides house room h formed planned who ask fleet recent.
     let there = kept _ _ (one.ok first) house room h in
     let later = kept _ _ ((and one c.in_ok-near-in-Some-division_of.ensures.reads).ok second) house room h in
     let near = c.in_ok-near-in-Some-division_of.ensures.rows second house room there recent in
     decides house room later formed planned
     (is_in c.args.event.now c.args.position c.args.form.now c.args.plan.now.areas room planned who ask c.in_ok-found.found (c.in_ok-found.ensures.row first house room h)
     c.division_of.result c.division_of.ensures.value c.in-Some-division_of.division c.in-None.is c.in-Some-division_of.is)
-    (rw ask near)) (c.for_division.ensures.decided clean)
+    (rw c.rows-fleet.ensures fleet) (rw ask near)) (c.for_division.ensures.decided clean)
 
 pub returns-in_ok-near-in-Some-division_of-clause-recent : goal.returns-in_ok-near-in-Some-division_of-clause-recent
 returns-in_ok-near-in-Some-division_of-clause-recent g c clean =
@@ -37,7 +40,7 @@ returns-in_ok-near-in-Some-division_of-clause-recent g c clean =
     IfOk-weaker c.for_division.result _ _ (λ x _ house room h. c.in_ok-near-in-Some-division_of.ensures.kept second house room (kept _ _ (one.ok first) house room h)) (c.for_division.ensures.decided clean)
 
 pub returns-in-None-division_of-clause-decided : goal.returns-in-None-division_of-clause-decided
-returns-in-None-division_of-clause-decided g c clean house room h formed planned who ask _ =
+returns-in-None-division_of-clause-decided g c clean house room h formed planned who ask _ _ =
     nowhere c.args.event.now c.args.position c.args.form.now c.args.plan.now.areas room planned who ask c.in_ok-found.found (c.in_ok-found.ensures.row clean house room h)
     c.division_of.result c.division_of.ensures.value c.in-None.is c.in-None-division_of.is
 

@@ -5,8 +5,8 @@ use Rattle.room_tables_sql.proofs.ReadLaws.{fails, looked, told_any, wants}
 use Rattle.room_store.proofs.deciding.for_division.Goals as goal
 
 pub returns-in-Some-clause-decided : goal.returns-in-Some-clause-decided
-returns-in-Some-clause-decided g c clean = IfOk-weaker c.machines.result _ _ (λ x told house room h formed planned there near.
-    let rows = c.in_ok-rows.ensures.rows clean house room h formed.order c.args.event.now.at near in
+returns-in-Some-clause-decided g c clean = IfOk-weaker c.machines.result _ _ (λ x told house room h formed planned there fleet near.
+    let rows = c.in_ok-rows.ensures.rows clean house room h formed.order c.args.event.now.at fleet near in
     let decides = rw (c.in-Some.ensures.rows.0, c.in-Some.ensures.rows.1) at c.decide_on-decision.ensures room formed planned in
     told (decided c.args.event.now room) (decides (inl rows) there)) c.machines.ensures.decided
 

@@ -3,6 +3,7 @@ use Rattle.sqlite.specs.State.{Survives}
 use Rattle.room_store_writes.specs.Houses.{house_of}
 use Rattle.room_store_writes.specs.Writing.{Leaves}
 use Rattle.std.proofs.Common.{inl, refl}
+use Rattle.room_store.proofs.KnownLaws.{knows_nothing}
 use Rattle.room_store.proofs.LookLaws.{left_failed, left_unchanged, outside, room_read}
 use Rattle.room_store.proofs.StoreLaws.{kept_stands, looked_kept, looked_left, ready_sound, ready_tested, room_left}
 use Rattle.room_store.proofs.digests.digest_of_room.Goals as goal
@@ -17,11 +18,11 @@ pub returns-in-Ok-clause-ready : goal.returns-in-Ok-clause-ready
 returns-in-Ok-clause-ready g c =
     let old = c.args.store.now in
     ready_sound g.S.Store (record old { conn = c.digest_in.new.conn }) (c.digest_in.ensures.reads.mode c.requires.ready.outside) c.if-not-store.false
-    (room_read g.S.Store old.conn c.digest_in.new.conn c.in-Ok.ensures.reads.ok c.digest_in.ensures.reads.survives (c.requires.ready.schema c.if-not-store.false))
+    (room_read g.S.Store old.conn c.digest_in.new.conn c.in-Ok.ensures.reads.ok c.digest_in.ensures.reads.survives (c.requires.ready.schema c.if-not-store.false)) (λ _ clean. (c.in-Ok.ensures.reads.ok clean).0.is_open)
 
 pub returns-in-Ok-clause-same : goal.returns-in-Ok-clause-same
 returns-in-Ok-clause-same g c clean terminals room is =
-    room_left g.S.Store c.args.store.now (record c.args.store.now { conn = c.digest_in.new.conn }) terminals room (left_unchanged _ _ (c.in-Ok.ensures.reads.ok clean)) refl is.known is.recent is
+    room_left g.S.Store c.args.store.now (record c.args.store.now { conn = c.digest_in.new.conn }) terminals room (left_unchanged _ _ (c.in-Ok.ensures.reads.ok clean)) refl is.known is.cache is
 
 pub returns-in-Ok-clause-kept : goal.returns-in-Ok-clause-kept
 returns-in-Ok-clause-kept g c clean kept =
@@ -33,13 +34,13 @@ returns-in-Ok-clause-left g c clean kept terminals room is =
     looked_left g.S.Store c.args.store.now (record c.args.store.now { conn = c.digest_in.new.conn }) refl clean kept terminals room is c.digest_in.ensures.reads.survives
 
 pub returns-in-Err-clause-ready : goal.returns-in-Err-clause-ready
-returns-in-Err-clause-ready g c = ready_tested g.S.Store c.test_file.new.self (rw c.test_file.ensures.conn (c.digest_in.ensures.reads.mode c.requires.ready.outside)) c.test_file.ensures.sound
+returns-in-Err-clause-ready g c = ready_tested g.S.Store c.test_file.new.self (rw c.test_file.ensures.conn (c.digest_in.ensures.reads.mode c.requires.ready.outside)) c.test_file.ensures.sound c.test_file.ensures.fleet
 
 pub returns-in-Err-clause-same : goal.returns-in-Err-clause-same
 returns-in-Err-clause-same g c clean terminals room is =
     let left : Leaves (state g.S.Store c.args.store.now.conn) (state g.S.Store c.test_file.new.self.conn) =
     rw c.test_file.ensures.conn (left_failed _ _ (outside c.is_autocommit.result _ c.requires.ready.outside c.is_autocommit.ensures.value c.is_autocommit.ensures.settled) (c.in-Err.ensures.reads.err (rw c.test_file.ensures.conn at clean))) in
-    room_left g.S.Store c.args.store.now c.test_file.new.self terminals room left c.test_file.ensures.plan (rw c.test_file.ensures.known is.known) (rw c.test_file.ensures.recents is.recent) is
+    room_left g.S.Store c.args.store.now c.test_file.new.self terminals room left c.test_file.ensures.plan (rw c.test_file.ensures.known is.known) (knows_nothing c.test_file.new.self.cache room c.test_file.ensures.fleet c.test_file.ensures.recents) is
 
 pub returns-in-Err-clause-left : goal.returns-in-Err-clause-left
 returns-in-Err-clause-left g c clean kept terminals room is =

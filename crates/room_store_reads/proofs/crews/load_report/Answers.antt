@@ -1,6 +1,5 @@
 use Rattle.std.proofs.Common.{sym}
 use Rattle.std.proofs.lemmas.Result.{IfOk-weaker}
-use Rattle.room_store_reads.proofs.CrewReads.{above_the_last}
 use Rattle.room_store_reads.proofs.crews.load_report.Goals as goal
 
 pub returns-clause-row : goal.returns-clause-row

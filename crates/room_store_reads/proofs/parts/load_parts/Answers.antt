@@ -1,7 +1,7 @@
 use Rattle.std.proofs.Common.{[], ap, arith, length, sym, take, take_all, ◌+◌, ◌++◌, ◌∙◌, ◌∷◌, ◌≡◌, ◌≤◌}
 use Rattle.std.proofs.lemmas.List.{take_more}
 use Rattle.sqlite.specs.Held.{state}
-use Rattle.room_tables_sql.proofs.ReadLaws.{and, begins, but, clean_before, looked, told, wants}
+use Rattle.room_tables_sql.proofs.ReadLaws.{and, begins, but, clean_before, told, wants}
 use Rattle.room_store_reads.specs.Reading.{any}
 use Rattle.room_tables.proofs.RoomReads.{kept}
 use Rattle.room_store_reads.proofs.RoomReads.{any_last, filter_as, filter_none}

@@ -1,4 +1,4 @@
-use Rattle.std.proofs.Common.{ap, ◌∙◌}
+use Rattle.std.proofs.Common.{◌∙◌}
 use Rattle.std.specs.Prelude.{◌&&◌, ◌==◌}
 use Rattle.room_tables_sql.proofs.ReadLaws.{fails, looked, told, wants}
 use Rattle.room_store_reads.specs.Reading.{any, is_near, is_part}

@@ -19,7 +19,7 @@ pub load_reports-requires-clause-open : goal.load_reports-requires-clause-open
 load_reports-requires-clause-open g c clean = (c.in_ok-turns.ensures.reads.ok clean).0.is_open
 
 pub returns-clause-rows : goal.returns-clause-rows
-returns-clause-rows g c clean house room h in_order at near =
+returns-clause-rows g c clean house room h in_order at are near =
     let d = c.args.division in
     let a = c.args.ask.now in
     let start = state g.S.Store c.args.conn.now in
@@ -33,7 +33,7 @@ returns-clause-rows g c clean house room h in_order at near =
     let numbers = c.in_ok-numbers.ensures.ok d at room in_order incidents in
     let seen : (n : ℕ) → contains n c.as_slice.result.now ≡ reads_number d a room n = rw c.as_slice.ensures.value numbers in
     let calls = c.in_ok-calls.ensures.rows second house room (kept start (state g.S.Store c.load_incidents.new.conn) (one.ok first) house room h) in_order.calls in
-    let turns = c.in_ok-turns.ensures.rows third house room (kept start (state g.S.Store c.load_parts.new.conn) (two.ok second) house room h) in_order in
+    let turns = c.in_ok-turns.ensures.rows third house room (kept start (state g.S.Store c.load_parts.new.conn) (two.ok second) house room h) in_order are in
     record {
       incidents = incidents;
       calls = calls ∙ filter_as _ _ room.calls (λ x. own_contains (x.division == d) x.incident c.calls_read-of_calls.result.now

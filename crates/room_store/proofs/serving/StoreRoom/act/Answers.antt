@@ -11,7 +11,7 @@ err_both (Err error) P Q p q = (p, q)
 
 pub returns-clause-same : goal.returns-clause-same
 returns-clause-same g c clean =
-    on_err_weaker c.act.result (λ both terminals room is. room_left g.S.Store c.args.self.now c.act.new.self terminals room both.0 c.act.ensures.plan (rw c.act.ensures.known is.known) (both.1 room is.recent) is) (err_both c.act.result _ _ (c.act.ensures.err clean) c.act.ensures.recent)
+    on_err_weaker c.act.result (λ both terminals room is. room_left g.S.Store c.args.self.now c.act.new.self terminals room both.0 c.act.ensures.plan (rw c.act.ensures.known is.known) (both.1 room is.cache) is) (err_both c.act.result _ _ (c.act.ensures.err clean) c.act.ensures.cache)
 
 pub returns-clause-kept : goal.returns-clause-kept
 returns-clause-kept g c clean = kept_settled g.S.Store c.act.new.self c.act.result (c.act.ensures.settled clean) (c.act.ensures.alone clean)

@@ -3,8 +3,8 @@ use Rattle.sqlite.specs.Held.{state}
 use Rattle.room_tables.specs.Stands.{Stands}
 use Rattle.room_store_writes.specs.Filling.{in_order, new_room}
 use Rattle.room_store.proofs.CreationLaws.{new_room_formed, new_terminals_fit}
-use Rattle.room_store.proofs.KnownLaws.{knows_none, none_recent}
-use Rattle.room_store.proofs.StoreLaws.{ready_sound, settled_kept}
+use Rattle.room_store.proofs.KnownLaws.{knows_none, knows_nothing}
+use Rattle.room_store.proofs.StoreLaws.{never_known, ready_sound, settled_kept}
 use Rattle.room_store.proofs.LookLaws.{left_same, outside}
 use Rattle.room_store_writes.proofs.CommitLaws.{unchanged_survives}
 use Rattle.room_store.proofs.store.Store.create.Goals as goal
@@ -20,13 +20,13 @@ returns-in-Ok-create_in-clause-room g c clean =
       fits = new_terminals_fit plan c.args.terminals.now c.in-Ok.ensures.begun.terminals;
       plan = sym c.in-Ok.ensures.plan.0;
       known = knows_none terminals _ c.new.ensures.items;
-      recent = none_recent c.new-in-Ok-create_in.result (new_room plan) c.new-in-Ok-create_in.ensures;
+      cache = knows_nothing c.new-in-Ok-create_in.result (new_room plan) c.new-in-Ok-create_in.ensures.fleet c.new-in-Ok-create_in.ensures.recents;
       tables = λ is_open. subst (λ (zone : List ℕ). Stands trees (record { zone = zone; terminals = terminals }) (new_room plan)) (sym c.in-Ok.ensures.plan.1) begun.stands;
     }
 
 pub returns-in-Ok-create_in-clause-kept : goal.returns-in-Ok-create_in-clause-kept
 returns-in-Ok-create_in-clause-kept g c clean =
-    settled_kept g.S.Store (record { conn = c.create_in.new.conn; plan = c.in-Ok.own; known = c.new.result; recents = c.new-in-Ok-create_in.result; is_sound = true }) (g.met.S.Store.settled c.create_in.new.conn.store) (c.in-Ok-create_in.ensures.ok clean).settled
+    settled_kept g.S.Store (record { conn = c.create_in.new.conn; plan = c.in-Ok.own; known = c.new.result; cache = c.new-in-Ok-create_in.result; is_sound = true }) (g.met.S.Store.settled c.create_in.new.conn.store) (c.in-Ok-create_in.ensures.ok clean).settled
 
 pub returns-in-Err-clause-err : goal.returns-in-Err-clause-err
 returns-in-Err-clause-err g c clean = left_same _
@@ -39,7 +39,7 @@ create_in-requires-clause-committed g c = outside c.is_autocommit.result _ c.req
 
 pub returns-in-Ok-create_in-clause-ready : goal.returns-in-Ok-create_in-clause-ready
 returns-in-Ok-create_in-clause-ready g c =
-    ready_sound g.S.Store (record { conn = c.create_in.new.conn; plan = c.in-Ok.own; known = c.new.result; recents = c.new-in-Ok-create_in.result; is_sound = true }) c.create_in.ensures.ended refl (λ clean. (c.in-Ok-create_in.ensures.ok clean).schema)
+    ready_sound g.S.Store (record { conn = c.create_in.new.conn; plan = c.in-Ok.own; known = c.new.result; cache = c.new-in-Ok-create_in.result; is_sound = true }) c.create_in.ensures.ended refl (λ clean. (c.in-Ok-create_in.ensures.ok clean).schema) (never_known c.new-in-Ok-create_in.ensures.fleet)
 
 pub returns-in-Ok-create_in-clause-settled : goal.returns-in-Ok-create_in-clause-settled
 returns-in-Ok-create_in-clause-settled g c clean = (c.in-Ok-create_in.ensures.ok clean).settled

@@ -2,9 +2,9 @@ use Rattle.std.proofs.Common.{refl}
 use Rattle.sqlite.specs.Held.{state}
 use Rattle.room_store_writes.specs.Houses.{house_of}
 use Rattle.room_store.proofs.EnrolledLaws.{in_plan, room_after_row, store_survives}
-use Rattle.room_store.proofs.KnownLaws.{none_recent}
+use Rattle.room_store.proofs.KnownLaws.{knows_nothing}
 use Rattle.room_store.proofs.LookLaws.{left_same}
-use Rattle.room_store.proofs.StoreLaws.{ready_sound, ready_tested, settled_kept}
+use Rattle.room_store.proofs.StoreLaws.{never_known, ready_sound, ready_tested, settled_kept}
 use Rattle.room_store_writes.proofs.CommitLaws.{unchanged_survives}
 use Rattle.room_store.proofs.store.Store.enrol.Goals as goal
 
@@ -15,13 +15,13 @@ returns-in-Ok-clause-fate g c clean terminals room is =
 
 pub returns-in-Ok-clause-ok : goal.returns-in-Ok-clause-ok
 returns-in-Ok-clause-ok g c clean terminals room is =
-    room_after_row g.S.Store c.args.self.now (record c.args.self.now { conn = c.add_fate.new.conn; recents = c.forget.new.self }) c.args.row.now terminals room is refl refl c.forget.ensures (c.in-Ok.ensures.ok clean)
+    room_after_row g.S.Store c.args.self.now (record c.args.self.now { conn = c.add_fate.new.conn; cache = c.forget.new.self }) c.args.row.now terminals room is refl refl c.forget.ensures.fleet c.forget.ensures.recents (c.in-Ok.ensures.ok clean)
 
-pub returns-in-Ok-clause-recent : goal.returns-in-Ok-clause-recent
-returns-in-Ok-clause-recent g c room _ = none_recent c.forget.new.self room c.forget.ensures
+pub returns-in-Ok-clause-cache : goal.returns-in-Ok-clause-cache
+returns-in-Ok-clause-cache g c room _ = knows_nothing c.forget.new.self room c.forget.ensures.fleet c.forget.ensures.recents
 
-pub returns-in-Err-clause-recent : goal.returns-in-Err-clause-recent
-returns-in-Err-clause-recent g c room _ = rw c.test_file.ensures.recents (none_recent c.forget.new.self room c.forget.ensures)
+pub returns-in-Err-clause-cache : goal.returns-in-Err-clause-cache
+returns-in-Err-clause-cache g c room _ = knows_nothing c.test_file.new.self.cache room c.test_file.ensures.fleet c.test_file.ensures.recents
 
 pub returns-in-Ok-clause-survives : goal.returns-in-Ok-clause-survives
 returns-in-Ok-clause-survives g c = store_survives g.S.Store c.args.self.now (state g.S.Store c.add_fate.new.conn) c.args.row.now c.add_fate.ensures.survives
@@ -37,17 +37,17 @@ pub returns-then-not-self-clause-survives : goal.returns-then-not-self-clause-su
 returns-then-not-self-clause-survives g c = unchanged_survives g.S.Store c.args.self.now.conn _
 
 pub returns-in-Ok-clause-ready : goal.returns-in-Ok-clause-ready
-returns-in-Ok-clause-ready g c = ready_sound g.S.Store (record c.args.self.now { conn = c.add_fate.new.conn; recents = c.forget.new.self }) c.add_fate.ensures.ended c.if-not-self.false (λ clean. (c.in-Ok.ensures.ok clean).schema)
+returns-in-Ok-clause-ready g c = ready_sound g.S.Store (record c.args.self.now { conn = c.add_fate.new.conn; cache = c.forget.new.self }) c.add_fate.ensures.ended c.if-not-self.false (λ clean. (c.in-Ok.ensures.ok clean).schema) (never_known c.forget.ensures.fleet)
 
 pub returns-in-Ok-clause-settled : goal.returns-in-Ok-clause-settled
 returns-in-Ok-clause-settled g c clean = (c.in-Ok.ensures.ok clean).settled
 
 pub returns-in-Ok-clause-alone : goal.returns-in-Ok-clause-alone
 returns-in-Ok-clause-alone g c clean =
-    (settled_kept g.S.Store (record c.args.self.now { conn = c.add_fate.new.conn; recents = c.forget.new.self }) (g.met.S.Store.settled c.add_fate.new.conn.store) (c.in-Ok.ensures.ok clean).settled).alone
+    (settled_kept g.S.Store (record c.args.self.now { conn = c.add_fate.new.conn; cache = c.forget.new.self }) (g.met.S.Store.settled c.add_fate.new.conn.store) (c.in-Ok.ensures.ok clean).settled).alone
 
 pub returns-in-Err-clause-ready : goal.returns-in-Err-clause-ready
-returns-in-Err-clause-ready g c = ready_tested g.S.Store c.test_file.new.self (rw c.test_file.ensures.conn c.add_fate.ensures.ended) c.test_file.ensures.sound
+returns-in-Err-clause-ready g c = ready_tested g.S.Store c.test_file.new.self (rw c.test_file.ensures.conn c.add_fate.ensures.ended) c.test_file.ensures.sound c.test_file.ensures.fleet
 
 pub returns-in-Err-clause-err : goal.returns-in-Err-clause-err
 returns-in-Err-clause-err g c clean = rw c.test_file.ensures.conn (c.in-Err.ensures.err (rw c.test_file.ensures.conn at clean))

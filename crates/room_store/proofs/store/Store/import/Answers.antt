@@ -48,7 +48,7 @@ returns-in-Err-clause-enrolled g c clean terminals room is =
         count = c.loop-row.row-index;
         within = omega (arith, c.loop-row-test.true);
         told = rw c.in-Err.ensures.kept done.1;
-        stands = room_left g.S.Store c.loop-row.self c.enrol.new.self _ _ (c.in-Err.ensures.err clean) c.enrol.ensures.plan (rw c.enrol.ensures.known done.0.known) (c.enrol.ensures.recent (room_after_rows (take i rows) room terminals) done.0.recent) done.0;
+        stands = room_left g.S.Store c.loop-row.self c.enrol.new.self _ _ (c.in-Err.ensures.err clean) c.enrol.ensures.plan (rw c.enrol.ensures.known done.0.known) (c.enrol.ensures.cache (room_after_rows (take i rows) room terminals) done.0.cache) done.0;
         left = λ kept. rows_left rows i row more g.S.Store c.args.self.now c.loop-row.self c.enrol.new.self terminals room c.loop-row.invariant.plan (c.loop-row.invariant.kept early kept) done.0 clean c.enrol.ensures.survives;
       },
       tt,

@@ -1,0 +1,42 @@
+use Rattle.std.proofs.Common.{refl, sym, ◌∙◌}
+use Rattle.std.proofs.lemmas.Result.{IfOk-weaker}
+use Rattle.room_tables_sql.proofs.ReadLaws.{begins, wants}
+use Rattle.room_store.proofs.CallReads.{desk_near}
+use Rattle.room_store.proofs.deciding.decide_known.Goals as goal
+
+pub returns-in-Desk-clause-decided : goal.returns-in-Desk-clause-decided
+returns-in-Desk-clause-decided g c clean = IfOk-weaker c.for_division.result _ _ (λ x told house room h formed planned addressed fleet recents.
+    told house room h formed planned (rw c.in-Desk.is refl) (rw c.rows-fleet.ensures fleet.rows)
+    (c.new-near.ensures ∙ sym (desk_near c.in-Desk.division c.args.event.now c.in-Desk.is room addressed c.in-Desk.division))) (c.for_division.ensures.decided clean)
+
+pub returns-in-Desk-clause-cache : goal.returns-in-Desk-clause-cache
+returns-in-Desk-clause-cache g c clean = IfOk-weaker c.for_division.result _ _ (λ x _ house room h fleet recents.
+    record { fleet = λ _. fleet; recents = recents }) (c.for_division.ensures.decided clean)
+
+pub returns-in-Crew-clause-decided : goal.returns-in-Crew-clause-decided
+returns-in-Crew-clause-decided g c clean = IfOk-weaker c.for_crew.result _ _ (λ x told house room h formed planned addressed fleet recents.
+    rw c.in-Crew.is (told house room h formed fleet)) (c.for_crew.ensures.decided clean)
+
+pub returns-in-Crew-clause-cache : goal.returns-in-Crew-clause-cache
+returns-in-Crew-clause-cache g c clean = IfOk-weaker c.for_crew.result _ _ (λ x known house room h fleet recents.
+    record { fleet = λ _. known house room h fleet; recents = recents }) (c.for_crew.ensures.known clean)
+
+pub returns-in-Call-clause-decided : goal.returns-in-Call-clause-decided
+returns-in-Call-clause-decided g c clean = IfOk-weaker c.for_call.result _ _ (λ x told house room h formed planned addressed fleet recents.
+    told house room h formed planned c.in-Position.is c.in-Call.is fleet.rows recents) (c.for_call.ensures.decided clean)
+
+pub returns-in-Call-clause-cache : goal.returns-in-Call-clause-cache
+returns-in-Call-clause-cache g c clean = IfOk-weaker c.for_call.result _ _ (λ x recent house room h fleet recents.
+    record { fleet = λ _. rw c.for_call.ensures.fleet fleet; recents = recent house room h recents }) (c.for_call.ensures.recent clean)
+
+pub returns-in-Desk-clause-reads : goal.returns-in-Desk-clause-reads
+returns-in-Desk-clause-reads g c = c.for_division.ensures.reads
+
+pub returns-in-Crew-clause-reads : goal.returns-in-Crew-clause-reads
+returns-in-Crew-clause-reads g c = c.for_crew.ensures.reads
+
+pub returns-in-Call-clause-reads : goal.returns-in-Call-clause-reads
+returns-in-Call-clause-reads g c = c.for_call.ensures.reads
+
+pub returns-in_default-clause-reads : goal.returns-in_default-clause-reads
+returns-in_default-clause-reads g c = wants refl (begins c.requires.open)

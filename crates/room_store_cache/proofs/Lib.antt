@@ -1,0 +1,4 @@
+-- what a change does to the incidents that are known, and what a call is given of them
+pub mod RecentLaws
+-- what a change does to the fleet's rows and the turns that are known
+pub mod FleetLaws

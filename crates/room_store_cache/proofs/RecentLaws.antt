@@ -1,0 +1,77 @@
+-- What a change does to the incidents that are known, and what a call is given of them.
+use Rattle.std.proofs.Common.{Bool, Err, List, Ok, Result, ap, arith, false, get_or, length, refl, subst, sym, take, true, ℕ, ◌&&◌, ◌+◌, ◌-◌, ◌<◌, ◌∙◌, ◌≡◌, ◌≤◌}
+use Rattle.std.proofs.lemmas.Bool.Decides.{nat_tests}
+use Rattle.std.proofs.lemmas.Int.{ints}
+use Rattle.std.specs.Prelude.{OnErr, OnOk, filter, int_le, nat_le, pos, ◌==◌}
+use Rattle.std.specs.Result.{is_err}
+use Rattle.room_types_keyed.proofs.KeyedLaws.{filter_put, keyed_taken, with_passing}
+use Rattle.room_types_keyed.specs.Keyed.{IsKeyed, drop_row, put_row}
+use Rattle.room_types.specs.Keys.{incident_key, pair_cmp}
+use Rattle.room_types.specs.Orders.{pairs_total}
+use Rattle.room_types.specs.declared.asks.Ask.TheVariants.{Call}
+use Rattle.room_types.specs.declared.asks.CallForm.{CallForm}
+use Rattle.room_types.specs.declared.tables.Incident.{Incident}
+use Rattle.room_model.proofs.Tests.{filter_filter, left_true, right_true}
+use Rattle.room_model.specs.Room.{Room}
+use Rattle.room_model.specs.Working.{is_around, names_opening}
+use Rattle.room_tables.proofs.Streams.{put_end}
+use Rattle.room_store_cache.specs.Recent.{AreRecent, Reaches}
+use Rattle.room_store_cache.specs.declared.recents.Recents.{Recents}
+
+-- an incident was opened from this moment on
+abbrev pub opened_since : ℕ → Incident → Bool
+opened_since from i = int_le (pos from) (pos i.opened)
+
+-- it is one of the division that the call may be linked to
+abbrev pub may_have : ℕ → CallForm → ℕ → Incident → Bool
+may_have d form at i = i.division == d && names_opening (Call form) at i
+
+-- what is so where a call did not fail
+pub where_ok : {T E P : Type 0} (r : Result T E) → is_err r ≡ false → OnOk r P → P
+where_ok (Ok x) e p = p
+where_ok (Err y) e p = absurd (cc)
+
+-- and where it did
+pub where_err : {T E P : Type 0} (r : Result T E) → is_err r ≡ true → OnErr r P → P
+where_err (Ok x) e p = absurd (cc)
+where_err (Err y) e p = p
+
+-- one that was opened later is put in its key's place
+pub put_later : (from : ℕ) (x : Incident) (known all : List Incident)
+    → IsKeyed pair_cmp incident_key all → from ≤ x.opened → known ≡ filter (opened_since from) all
+    → put_row pair_cmp incident_key known x
+    ≡ filter (opened_since from) (put_row pair_cmp incident_key all x)
+put_later from x known all keyed late e =
+    let later : opened_since from x ≡ true = grind (arith, ints) in
+    rw e (sym (filter_put pair_cmp incident_key pairs_total (opened_since from) all x keyed ∙ rw later refl))
+
+-- the one of a key that was opened before is taken out
+pub drop_earlier : (from : ℕ) (x : Incident) (known all : List Incident)
+    → IsKeyed pair_cmp incident_key all → x.opened < from → known ≡ filter (opened_since from) all
+    → drop_row pair_cmp incident_key known (incident_key x)
+    ≡ filter (opened_since from) (put_row pair_cmp incident_key all x)
+drop_earlier from x known all keyed early e =
+    let earlier : opened_since from x ≡ false = grind (arith, ints) in
+    rw e (sym (filter_put pair_cmp incident_key pairs_total (opened_since from) all x keyed ∙ rw earlier refl))
+
+-- one row more that passes
+pub put_passing : (p : Incident → Bool) (xs kept : List Incident) (i : ℕ) (x : Incident)
+    → IsKeyed pair_cmp incident_key xs → i < length xs → x ≡ get_or xs i x
+    → kept ≡ filter p (take i xs) → p x ≡ true
+    → put_row pair_cmp incident_key kept x ≡ filter p (take (i + 1) xs)
+put_passing p xs kept i x keyed inside here so_far passes =
+    let more = with_passing p xs kept i x inside here so_far passes in
+    put_end pair_cmp incident_key pairs_total kept x (subst (IsKeyed pair_cmp incident_key) (sym more) (keyed_taken pair_cmp incident_key pairs_total p xs (i + 1) keyed)) ∙ more
+
+-- what a call may be linked to was not opened before what is known
+linked_since : (first at opened : ℕ) → first ≤ at - 900 → nat_le (at - opened) 900 ≡ true
+    → int_le (pos first) (pos opened) ≡ true
+linked_since first at opened before near = grind (arith, ints, nat_tests)
+
+-- all that a call may be linked to is among what is known
+pub known_near : (known : Recents) (r : Room) (d : ℕ) (form : CallForm) (at : ℕ)
+    → Reaches known (at - 900) → AreRecent known r
+    → filter (may_have d form at) known.incidents ≡ filter (may_have d form at) r.incidents
+known_near known r d form at (first, is, before) are =
+    ap (filter (may_have d form at)) (rw is at are)
+    ∙ filter_filter (may_have d form at) (opened_since first) r.incidents (λ i yes. linked_since first at i.opened before (left_true _ (is_around i.place form.place) (right_true (i.division == d) _ yes)))

@@ -1,0 +1,24 @@
+use Rattle.std.proofs.Common.{Some, subst, sym, ◌≡◌}
+use Rattle.room_types.specs.Keys.{numbered_cmp, turn_key}
+use Rattle.room_types.specs.Orders.{exact_numbered, numbered_total}
+use Rattle.room_types_keyed.specs.Keyed.{row_at}
+use Rattle.room_model.proofs.Tests.{row_key}
+use Rattle.room_store_cache.proofs.FleetLaws.{known_turn}
+use Rattle.room_store_cache.proofs.fleets.Fleet.turn_at.Goals as goal
+
+pub returns-in-Some-clause-turn : goal.returns-in-Some-clause-turn
+returns-in-Some-clause-turn g c clean house room h are = known_turn c.args.self.now.turns room c.args.key.now c.in-Some.turn.now are c.in-Some.ensures
+
+pub returns-in_default-2-clause-turn : goal.returns-in_default-2-clause-turn
+returns-in_default-2-clause-turn g c clean house room h are = rw c.in_default-2.is at (c.in_ok-turn.ensures.row clean house room h)
+
+pub returns-clause-turn : goal.returns-clause-turn
+returns-clause-turn g c clean house room h are = rw c.in-Some-2.is at (c.in_ok-turn.ensures.row clean house room h)
+
+pub returns-clause-known : goal.returns-clause-known
+returns-clause-known g c clean house room h are =
+    let k = c.args.key.now in
+    let t = c.in-Some-2.turn in
+    let found : row_at numbered_cmp turn_key room.turns k ≡ Some t = sym (rw c.in-Some-2.is at (c.in_ok-turn.ensures.row clean house room h)) in
+    let own = row_key numbered_cmp turn_key numbered_total exact_numbered room.turns k t found in
+    c.meet.ensures.read room are (subst (λ j. row_at numbered_cmp turn_key room.turns j ≡ Some t) own found)

@@ -1,0 +1,39 @@
+-- What is known of a room.
+use Rattle.std.specs.Prelude.{IfSome, IsTrue, List, Some, ℕ, ◌≡◌}
+use Rattle.room_types_keyed.specs.Keyed.{row_at}
+use Rattle.room_types.specs.Keys.{numbered_cmp, turn_key}
+use Rattle.room_types.specs.Texts.{Callsign}
+use Rattle.room_types.specs.declared.tables.Turn.{Turn}
+use Rattle.room_model.specs.Room.{Room}
+use Rattle.room_store_cache.specs.Recent.{AreRecent}
+use Rattle.room_store_cache.specs.declared.cache.Cache.{Cache}
+use Rattle.room_store_cache.specs.declared.fleets.Fleet.{Fleet}
+use Rattle.room_store_cache.specs.declared.fleets.FleetRows.{FleetRows}
+
+-- these are all rows of the room's tables that don't grow with time
+pub record AreRowsOf (rows : FleetRows) (room : Room) : Type 0 where
+  pub divisions : rows.divisions ≡ room.divisions
+  pub vehicles : rows.vehicles ≡ room.vehicles
+  pub assignments : rows.assignments ≡ room.assignments
+  pub points : rows.points ≡ room.points
+  pub loans : rows.loans ≡ room.loans
+  pub offers : rows.offers ≡ room.offers
+
+-- each of these turns is the room's of its key
+abbrev pub AreTurnsOf : List Turn → Room → Type 0
+AreTurnsOf turns room = (k : Callsign × ℕ) → IfSome (row_at numbered_cmp turn_key turns k) (λ t.
+    row_at numbered_cmp turn_key room.turns k ≡ Some t)
+
+-- the fleet is known
+pub record HasFleetOf (fleet : Fleet) (room : Room) : Type 0 where
+  pub rows : AreRowsOf fleet.rows room
+  pub turns : AreTurnsOf fleet.turns room
+
+-- it is so, where it is known
+abbrev pub IsFleetOf : Fleet → Room → Type 0
+IsFleetOf fleet room = IsTrue fleet.is_known → HasFleetOf fleet room
+
+-- what is known is so in this room
+pub record IsCacheOf (cache : Cache) (room : Room) : Type 0 where
+  pub fleet : IsFleetOf cache.fleet room
+  pub recents : AreRecent cache.recents room

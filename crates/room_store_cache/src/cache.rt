@@ -1,0 +1,50 @@
+//! What is known of a room beside its tables, and what becomes of it by an event.
+ghost use Rattle.std.specs.Prelude.{◌≡◌, None, false};
+ghost use Rattle.room_model.specs.Room.{IsInOrder, Room, apply};
+ghost use Rattle.room_store_cache.specs.Cache.{IsCacheOf};
+
+use crate::fleets::Fleet;
+use crate::recents::Recents;
+use room_types::changes::Change;
+use std::alloc::Global;
+
+/// What is known of a room. The tables alone are kept: each of these is read from them where it is
+/// not known.
+#[derive(Drop)]
+pub struct Cache {
+    pub fleet: Fleet,
+    pub recents: Recents,
+}
+
+impl Cache {
+    /// Nothing is known yet.
+    pub fn new(alloc: Global) -> Cache
+        ensures fleet { result.fleet.is_known ≡ false }
+        ensures recents { result.recents.from ≡ None }
+    {
+        Cache {
+            fleet: Fleet::new(alloc),
+            recents: Recents::new(alloc),
+        }
+    }
+
+    /// Nothing is known any more.
+    pub fn forget(&mut self)
+        ensures fleet { self.new.fleet.is_known ≡ false }
+        ensures recents { self.new.recents.from ≡ None }
+    {
+        self.fleet.forget();
+        self.recents.forget();
+    }
+
+    /// What is known after changes of the room. What memory is refused for is not known any more.
+    pub fn follow(&mut self, changes: &[Change])
+        ensures { (room : Room) → IsInOrder room → IsCacheOf self.old room
+            → IsCacheOf self.new (apply room changes.now) }
+    {
+        for change in changes {
+            self.fleet.follow(change);
+            self.recents.follow(change);
+        }
+    }
+}

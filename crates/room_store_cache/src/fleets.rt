@@ -1,0 +1,246 @@
+//! The rows of the tables that don't grow with time, and the open turns that were met.
+ghost use Rattle.std.specs.Prelude.{◌≡◌, Some, false, IfErr, IsTrue, OnOk};
+ghost use Rattle.sqlite.specs.Held.{state};
+ghost use Rattle.sqlite.specs.State.{HasCleanDisk};
+ghost use Rattle.room_tables.specs.Finding.{Finds};
+ghost use Rattle.room_tables_schema.specs.Connections.{HasRoomSchema};
+ghost use Rattle.room_tables_schema.specs.declared.faults.Fault.TheVariants.{Memory};
+ghost use Rattle.room_tables_sql.specs.Outcomes.{ReadsOnly};
+ghost use Rattle.room_types_keyed.specs.Keyed.{row_at};
+ghost use Rattle.room_types.specs.Keys.{callsign_cmp, numbered_cmp, turn_key, vehicle_key};
+ghost use Rattle.room_types.specs.declared.changes.Change.TheVariants.{PutTurn};
+ghost use Rattle.room_model.specs.Room.{IsInOrder, Room, apply_one, settled};
+ghost use Rattle.room_store_cache.specs.Cache.{AreRowsOf, AreTurnsOf, HasFleetOf, IsFleetOf};
+
+use crate::rows::put;
+use room_place::plans::DivisionNumber;
+use room_tables::loading::row_at;
+use room_tables::streaming::each_row;
+use room_tables::tables::Table;
+use room_tables_schema::faults::Fault;
+use room_types::callsign::Callsign;
+use room_types::changes::Change;
+use room_types::codes::Status;
+use room_types::numbers::Number;
+use room_types::rows::{Row, Rows};
+use room_types::tables::{Assignment, Division, Loan, Offer, Point, Turn, Vehicle};
+use sqlite::{Alter, Connection};
+use std::alloc::Global;
+
+/// A list of rows of each table that doesn't grow with time: what stands of the plan's divisions
+/// and of the fleet.
+#[derive(Drop)]
+pub struct FleetRows {
+    pub divisions: Rows<Division>,
+    pub vehicles: Rows<Vehicle>,
+    pub assignments: Rows<Assignment>,
+    pub points: Rows<Point>,
+    pub loans: Rows<Loan>,
+    pub offers: Rows<Offer>,
+}
+
+/// All rows of these tables, as the room has them, and open turns of it that were met; or nothing
+/// is known.
+#[derive(Drop)]
+pub struct Fleet {
+    is_known: bool,
+    rows: FleetRows,
+    turns: Rows<Turn>,
+}
+
+impl Fleet {
+    /// Nothing is known yet.
+    pub fn new(alloc: Global) -> Fleet
+        ensures { result.is_known ≡ false }
+    {
+        Fleet {
+            is_known: false,
+            rows: no_rows(alloc),
+            turns: Rows::new(alloc),
+        }
+    }
+
+    /// Nothing is known any more.
+    pub fn forget(&mut self)
+        ensures { self.new.is_known ≡ false }
+    {
+        self.is_known = false;
+    }
+
+    /// The rows that are known.
+    pub fn rows(&self) -> &FleetRows
+        ensures { result.now ≡ self.now.rows }
+    {
+        &self.rows
+    }
+
+    /// Reads the tables, where they are not known. A refusal is of memory or of storage.
+    pub fn know<S: Alter>(&mut self, alloc: Global, conn: &mut Connection<S>) -> Result<(), Fault>
+        requires room { HasRoomSchema S.Store conn.old }
+        requires open { IsTrue self.old.is_known → HasCleanDisk (state S.Store conn.old)
+            → IsTrue (state S.Store conn.old).is_open }
+        ensures known { Finds S.Store conn.old conn.new result (λ room _. IsFleetOf self.old room
+            → HasFleetOf self.new room) }
+        ensures reads { ReadsOnly S.Store conn.old conn.new result }
+    {
+        if self.is_known {
+            return Ok(());
+        }
+        self.rows = read_rows(alloc, conn)?;
+        self.turns = Rows::new(alloc);
+        self.is_known = true;
+        Ok(())
+    }
+
+    /// The turn of a vehicle's order; none where it has none. One that is not known is read.
+    pub fn turn_at<S: Alter>(
+        &mut self,
+        conn: &mut Connection<S>,
+        key: &(Callsign, Number),
+    ) -> Result<Option<Turn>, Fault>
+        requires room { HasRoomSchema S.Store conn.old }
+        requires open { HasCleanDisk (state S.Store conn.old)
+            → IsTrue (state S.Store conn.old).is_open }
+        ensures turn { Finds S.Store conn.old conn.new result (λ room turn.
+            AreTurnsOf self.old.turns room
+            → turn ≡ row_at numbered_cmp turn_key room.turns key.now) }
+        ensures known { Finds S.Store conn.old conn.new result (λ room _.
+            AreTurnsOf self.old.turns room → AreTurnsOf self.new.turns room) }
+        ensures rows { self.new.rows ≡ self.old.rows }
+        ensures is_known { self.new.is_known ≡ self.old.is_known }
+        ensures reads { ReadsOnly S.Store conn.old conn.new result }
+    {
+        if let Some(turn) = self.turns.get(key) {
+            return Ok(Some(*turn));
+        }
+        let Some(turn) = row_at::<Turn, S>(conn, key)? else {
+            return Ok(None);
+        };
+        meet(&mut self.turns, &turn);
+        Ok(Some(turn))
+    }
+
+    /// What is known after a change of the room: nothing, where memory is refused.
+    pub fn follow(&mut self, change: &Change)
+        ensures { (room : Room) → IsInOrder room → IsFleetOf self.old room
+            → IsFleetOf self.new (apply_one room change.now) }
+    {
+        if !self.is_known {
+            return;
+        }
+        if let Change::PutTurn(turn) = change {
+            meet(&mut self.turns, turn);
+        }
+        self.is_known = self.rows.follow(change).is_ok();
+    }
+}
+
+impl FleetRows {
+    /// Makes a change, where it is of one of these tables. The one fault is `Memory`.
+    fn follow(&mut self, change: &Change) -> Result<(), Fault>
+        ensures rows { OnOk result ((room : Room) → AreRowsOf self.old room
+            → AreRowsOf self.new (apply_one room change.now)) }
+        ensures memory { IfErr result (λ e. e ≡ Memory) }
+    {
+        match change {
+            Change::PutDivision(row) => put(&mut self.divisions, row),
+            Change::PutVehicle(row) => put(&mut self.vehicles, row),
+            Change::PutAssignment(row) => put(&mut self.assignments, row),
+            Change::PutPoint(row) => put(&mut self.points, row),
+            Change::PutLoan(row) => put(&mut self.loans, row),
+            Change::PutOffer(row) => put(&mut self.offers, row),
+            Change::DropAssignment(key) => {
+                let _ = self.assignments.take(key);
+                Ok(())
+            }
+            Change::DropLoan(key) => {
+                let _ = self.loans.take(key);
+                Ok(())
+            }
+            Change::DropOffer(key) => {
+                let _ = self.offers.take(key);
+                Ok(())
+            }
+            Change::Settle(callsign, division) => settle(&mut self.vehicles, callsign, *division),
+            Change::PutIncident(_)
+            | Change::PutCall(_)
+            | Change::PutTurn(_)
+            | Change::PutReport(_) => Ok(()),
+        }
+    }
+}
+
+// No rows yet.
+fn no_rows(alloc: Global) -> FleetRows {
+    FleetRows {
+        divisions: Rows::new(alloc),
+        vehicles: Rows::new(alloc),
+        assignments: Rows::new(alloc),
+        points: Rows::new(alloc),
+        loans: Rows::new(alloc),
+        offers: Rows::new(alloc),
+    }
+}
+
+// The rows of the tables. A fault is of memory or of storage.
+fn read_rows<S: Alter>(alloc: Global, conn: &mut Connection<S>) -> Result<FleetRows, Fault>
+    requires room { HasRoomSchema S.Store conn.old }
+    ensures rows { Finds S.Store conn.old conn.new result (λ room rows. AreRowsOf rows room) }
+    ensures reads { ReadsOnly S.Store conn.old conn.new result }
+{
+    Ok(FleetRows {
+        divisions: all_rows(alloc, conn)?,
+        vehicles: all_rows(alloc, conn)?,
+        assignments: all_rows(alloc, conn)?,
+        points: all_rows(alloc, conn)?,
+        loans: all_rows(alloc, conn)?,
+        offers: all_rows(alloc, conn)?,
+    })
+}
+
+// All rows of a table.
+fn all_rows<X: Table, S: Alter>(alloc: Global, conn: &mut Connection<S>) -> Result<Rows<X>, Fault>
+    requires room { HasRoomSchema S.Store conn.old }
+    ensures rows { Finds S.Store conn.old conn.new result (λ room rows. rows ≡ X.rows room) }
+    ensures reads { ReadsOnly S.Store conn.old conn.new result }
+{
+    each_row::<Rows<X>, S>(conn, Rows::new(alloc))
+}
+
+// Gives a vehicle, where it is there, this holder and makes it available. The one fault is
+// `Memory`.
+fn settle(
+    vehicles: &mut Rows<Vehicle>,
+    callsign: &Callsign,
+    division: DivisionNumber,
+) -> Result<(), Fault>
+    ensures settled { OnOk result (vehicles.new ≡ settled (row_at callsign_cmp vehicle_key
+        vehicles.old callsign.now) division vehicles.old) }
+    ensures memory { IfErr result (λ e. e ≡ Memory) }
+{
+    let Some(vehicle) = vehicles.get(callsign) else {
+        return Ok(());
+    };
+    let settled = Vehicle {
+        holder: division,
+        status: Status::Available,
+        ..*vehicle
+    };
+    put(vehicles, &settled)
+}
+
+// Keeps a turn in its key's place. One that has ended is not kept, nor one for which memory is
+// refused, nor the one that was there before.
+fn meet(turns: &mut Rows<Turn>, turn: &Turn)
+    ensures read { (room : Room) → AreTurnsOf turns.old room
+        → row_at numbered_cmp turn_key room.turns (turn_key turn.now) ≡ Some turn.now
+        → AreTurnsOf turns.new room }
+    ensures made { (room : Room) → AreTurnsOf turns.old room
+        → AreTurnsOf turns.new (apply_one room (PutTurn turn.now)) }
+{
+    // It tells that the turns are in order, so that no other has the key of one that is taken out.
+    let _in_order = turns.as_slice();
+    if turn.ended.is_some() || turns.put(*turn).is_err() {
+        let _ = turns.take(&turn.key());
+    }
+}

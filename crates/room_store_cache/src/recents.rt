@@ -1,0 +1,180 @@
+//! The incidents opened from a moment on, and those of them that a call may be linked to.
+ghost use Rattle.std.specs.Prelude.{◌≡◌, ◌==◌, ◌&&◌, None, filter, IsTrue, IfErr, IfOk, OnOk};
+ghost use Rattle.sqlite.specs.Held.{state};
+ghost use Rattle.sqlite.specs.State.{HasCleanDisk};
+ghost use Rattle.room_tables.specs.Finding.{Finds};
+ghost use Rattle.room_tables_schema.specs.Connections.{HasRoomSchema};
+ghost use Rattle.room_tables_schema.specs.declared.faults.Fault.TheVariants.{Memory};
+ghost use Rattle.room_tables_sql.specs.Outcomes.{ReadsOnly};
+ghost use Rattle.room_types.specs.declared.asks.Ask.TheVariants.{Call};
+ghost use Rattle.room_types.specs.declared.changes.Change.TheVariants.{PutIncident};
+ghost use Rattle.room_model.specs.Room.{IsInOrder, Room, apply_one};
+ghost use Rattle.room_model.specs.Working.{names_opening};
+ghost use Rattle.room_store_cache.specs.Recent.{AreRecent, Reaches};
+
+use crate::rows::put;
+use room_place::plans::DivisionNumber;
+use room_tables::incidents::incidents_since;
+use room_tables_schema::faults::Fault;
+use room_types::asks::CallForm;
+use room_types::changes::Change;
+use room_types::numbers::Moment;
+use room_types::rows::{Row, Rows};
+use room_types::tables::Incident;
+use sqlite::{Alter, Connection};
+use std::alloc::Global;
+
+// How many seconds before its moment an incident may have been opened that a call is linked to.
+const LINKED_WITHIN: u32 = 900;
+
+// How many metres from its place, in each direction, an incident may lie that a call is linked to.
+const LINKED_AROUND: u32 = 200;
+
+// How many seconds more are kept than a call looks back: after these they are read anew, without
+// the oldest.
+const KEPT_LONGER: u32 = 900;
+
+/// The incidents of all divisions that were opened from a moment on, as the tables have them; or
+/// none, where nothing is known.
+#[derive(Drop)]
+pub struct Recents {
+    // A second of UTC since 1970.
+    from: Option<u32>,
+    incidents: Rows<Incident>,
+}
+
+impl Recents {
+    /// Nothing is known yet.
+    pub fn new(alloc: Global) -> Recents
+        ensures { result.from ≡ None }
+    {
+        Recents {
+            from: None,
+            incidents: Rows::new(alloc),
+        }
+    }
+
+    /// Nothing is known any more.
+    pub fn forget(&mut self)
+        ensures { self.new.from ≡ None }
+    {
+        self.from = None;
+    }
+
+    /// The incidents of a division that a call may be linked to. Where not all of them are known,
+    /// the tables are read first. A refusal is of memory or of storage.
+    pub fn near<S: Alter>(
+        &mut self,
+        alloc: Global,
+        conn: &mut Connection<S>,
+        division: DivisionNumber,
+        form: &CallForm,
+        at: Moment,
+    ) -> Result<Rows<Incident>, Fault>
+        requires room { HasRoomSchema S.Store conn.old }
+        requires open { HasCleanDisk (state S.Store conn.old)
+            → IsTrue (state S.Store conn.old).is_open }
+        ensures rows { Finds S.Store conn.old conn.new result (λ room x. AreRecent self.old room
+            → x ≡ filter (λ i. i.division == division && names_opening (Call form.now) at i)
+            room.incidents) }
+        ensures kept { Finds S.Store conn.old conn.new result (λ room x. AreRecent self.old room
+            → AreRecent self.new room) }
+        ensures reads { ReadsOnly S.Store conn.old conn.new result }
+    {
+        let from = at.get().saturating_sub(LINKED_WITHIN);
+        self.know(alloc, conn, from)?;
+        self.around(alloc, division, form, at)
+    }
+
+    /// What is known after a change of the room: nothing, where memory is refused.
+    pub fn follow(&mut self, change: &Change)
+        ensures { (room : Room) → IsInOrder room → AreRecent self.old room
+            → AreRecent self.new (apply_one room change.now) }
+    {
+        if let Change::PutIncident(incident) = change {
+            self.put(incident);
+        }
+    }
+
+    // Whether the incidents opened from a moment on are known, and not many more.
+    fn reaches(&self, from: u32) -> bool
+        ensures { IsTrue result → Reaches self.now from }
+    {
+        match self.from {
+            Some(first) => first <= from && from - first <= KEPT_LONGER,
+            None => false,
+        }
+    }
+
+    // Reads the incidents that were opened from a moment on, where they are not known.
+    fn know<S: Alter>(
+        &mut self,
+        alloc: Global,
+        conn: &mut Connection<S>,
+        from: u32,
+    ) -> Result<(), Fault>
+        requires room { HasRoomSchema S.Store conn.old }
+        requires open { HasCleanDisk (state S.Store conn.old)
+            → IsTrue (state S.Store conn.old).is_open }
+        ensures known { Finds S.Store conn.old conn.new result (λ room _. AreRecent self.old room
+            → AreRecent self.new room) }
+        ensures reaches { OnOk result (Reaches self.new from) }
+        ensures reads { ReadsOnly S.Store conn.old conn.new result }
+    {
+        if self.reaches(from) {
+            return Ok(());
+        }
+        self.incidents = incidents_since(alloc, conn, i64::from(from))?;
+        self.from = Some(from);
+        Ok(())
+    }
+
+    // Those of a division that a call may be linked to. The one fault is `Memory`.
+    fn around(
+        &self,
+        alloc: Global,
+        division: DivisionNumber,
+        form: &CallForm,
+        at: Moment,
+    ) -> Result<Rows<Incident>, Fault>
+        ensures rows { IfOk result (λ rows. rows ≡ filter (λ i. i.division == division
+            && names_opening (Call form.now) at i) self.now.incidents) }
+        ensures memory { IfErr result (λ e. e ≡ Memory) }
+    {
+        let mut near = Rows::new(alloc);
+        for incident in self.incidents.as_slice() {
+            if may_link(incident, division, form, at) {
+                put(&mut near, incident)?;
+            }
+        }
+        Ok(near)
+    }
+
+    // Puts an incident in its key's place, or takes out the one of its key where it was opened
+    // before.
+    fn put(&mut self, incident: &Incident)
+        ensures { (room : Room) → IsInOrder room → AreRecent self.old room
+            → AreRecent self.new (apply_one room (PutIncident incident.now)) }
+    {
+        let Some(from) = self.from else {
+            return;
+        };
+        if incident.opened.get() < from {
+            let _ = self.incidents.take(&incident.key());
+        } else if self.incidents.put(*incident).is_err() {
+            self.from = None;
+        }
+    }
+}
+
+// Whether an incident is the division's, and a call may be linked to it by its opening and its
+// place.
+fn may_link(incident: &Incident, division: DivisionNumber, form: &CallForm, at: Moment) -> bool
+    ensures { result ≡ incident.now.division == division
+        && names_opening (Call form.now) at incident.now }
+{
+    incident.division == division
+        && at.get().saturating_sub(incident.opened.get()) <= LINKED_WITHIN
+        && incident.place.east.get().abs_diff(form.place.east.get()) <= LINKED_AROUND
+        && incident.place.north.get().abs_diff(form.place.north.get()) <= LINKED_AROUND
+}

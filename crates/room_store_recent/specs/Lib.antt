@@ -1,2 +1,0 @@
--- which incidents are known
-pub mod Recent
