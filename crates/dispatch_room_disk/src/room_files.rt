@@ -3,21 +3,20 @@ ghost use Rattle.std.specs.Prelude.{◌≡◌, ◌⊎◌, ℕ, List, Option, Err
 ghost use Rattle.dispatch_room_endings.specs.declared.endings.Failure.TheVariants as failure;
 ghost use Rattle.dispatch_room_disk.specs.Faults.{IsFileFault, fault_of};
 
-use crate::new_files::make_file;
+use crate::new_files::{make_file, open_files};
 use dispatch_room_endings::endings::Failure;
 use dispatch_room_opening::rooms::Worked;
-use sqlite::{Alter, Connection, Error, ErrorCode, File, FileStore};
+use sqlite::{Alter, Connection, Error, ErrorCode, File, FileStore, Unknown};
 use sqlite_disk::Disk;
 use std::alloc::Global;
 use std::fs;
 use std::io::{self, ErrorKind, Read, Write};
-use std::os::unix::fs::PermissionsExt;
 
 /// The file of a room, as a command wants it.
 #[derive(Clone, Copy)]
 pub enum RoomFile<'a> {
-    /// It has to be there. A file in which no database was begun is none, and stays as it is: to the
-    /// database it is a new one, whose first page would be written.
+    /// It has to be there. A file in which no database was begun is none, and stays as it is: to
+    /// the database it is a new one, whose first page would be written.
     Kept(&'a str),
     /// It is made where it is not there, for its owner alone.
     New(&'a str),
@@ -31,8 +30,8 @@ impl<'a> RoomFile<'a> {
     }
 }
 
-/// What is done in the file of a room, over any storage. A proof about a file of the system opens all
-/// that is inside it, so `in_file` has one, and hands it on as a file on any disk.
+/// What is done in the file of a room, over any storage. A proof about a file of the system opens
+/// all that is inside it, so `in_file` has one, and hands it on as a file on any disk.
 pub trait Work: Drop {
     /// What comes of it.
     type Done: Drop;
@@ -107,9 +106,10 @@ fn connect(rt: &HostRuntime, file: RoomFile<'_>) -> Result<Connection<FileStore<
         RoomFile::Kept(path) => find(rt, path)?,
         RoomFile::New(path) => make_file(rt, path)?,
     }
-    match Connection::open(rt, file.path()) {
+    let (files, options) = open_files(rt, file.path(), Unknown)?;
+    match Connection::open_files(rt.alloc(), files, options) {
         Ok(conn) => Ok(conn),
-        Err(error) => Err(fault_of(error)),
+        Err((error, _)) => Err(fault_of(error)),
     }
 }
 

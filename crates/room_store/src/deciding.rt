@@ -19,9 +19,9 @@ ghost use Rattle.room_tables.specs.Stands.{House};
 ghost use Rattle.room_tables.specs.Finding.{Finds};
 ghost use Rattle.room_store.specs.Acting.{IsFor, IsIn};
 ghost use Rattle.room_store_reads.specs.CrewParts.{HasVehicle};
-ghost use Rattle.room_store_reads.specs.Parts.{AreNear};
-ghost use Rattle.room_store_cache.specs.Cache.{AreRowsOf, HasFleetOf, IsCacheOf};
-ghost use Rattle.room_store_cache.specs.Recent.{AreRecent};
+ghost use Rattle.room_store_reads.specs.Parts.{AreKnown, AreNear};
+ghost use Rattle.room_store_cache.specs.Cache.{HasFleetOf, IsCacheOf};
+ghost use Rattle.room_store_cache.specs.Dossiers.{AreDossiersOf};
 
 use room_core::calls::{decide_again, decide_call};
 use room_core::crews::{decide_order, decide_report, decide_report_again};
@@ -29,8 +29,9 @@ use room_core::decisions::Decision;
 use room_core::desks::decide_desk;
 use room_place::plans::{DivisionNumber, Plan};
 use room_store_cache::cache::Cache;
-use room_store_cache::fleets::{Fleet, FleetRows};
+use room_store_cache::fleets::Fleet;
 use room_store_reads::crews::{load_crew, load_report};
+use room_store_reads::learning::learn;
 use room_store_reads::working::load_working;
 use room_tables::loading::row_at;
 use room_tables_schema::faults::Fault;
@@ -62,7 +63,9 @@ pub(crate) fn decide<S: Alter>(
         → IfOk result (λ x. (house : House) (room : Room)
         → IsFor (state S.Store conn.old).now.trees plan.now cache.old event.now house room
         → x ≡ decided event.now room) }
-    ensures cache { Finds S.Store conn.old conn.new result (λ room _. IsCacheOf cache.old room
+    ensures cache { HasCleanDisk (state S.Store conn.new)
+        → IfOk result (λ _. (house : House) (room : Room)
+        → IsFor (state S.Store conn.old).now.trees plan.now cache.old event.now house room
         → IsCacheOf cache.new room) }
     ensures reads { ReadsOnly S.Store conn.old conn.new result }
 {
@@ -83,18 +86,17 @@ fn decide_known<S: Alter>(
         → IsTrue (state S.Store conn.old).is_open }
     ensures decided { Finds S.Store conn.old conn.new result (λ room x. IsWellFormed room
         → room.plan ≡ plan.now.areas → IsAddressed event.now room
-        → HasFleetOf cache.old.fleet room → AreRecent cache.old.recents room
-        → x ≡ decided event.now room) }
-    ensures cache { Finds S.Store conn.old conn.new result (λ room _.
-        HasFleetOf cache.old.fleet room → AreRecent cache.old.recents room
+        → HasFleetOf cache.old.fleet room → IsCacheOf cache.old room → x ≡ decided event.now room) }
+    ensures cache { Finds S.Store conn.old conn.new result (λ room _. IsWellFormed room
+        → room.plan ≡ plan.now.areas → IsAddressed event.now room
+        → HasFleetOf cache.old.fleet room → IsCacheOf cache.old room
         → IsCacheOf cache.new room) }
     ensures reads { ReadsOnly S.Store conn.old conn.new result }
 {
     match &event.who {
         Who::Desk(division) => {
             let near = Rows::new(alloc);
-            let fleet = cache.fleet.rows();
-            for_division(alloc, conn, plan, *division, event, fleet, &near)
+            for_division(alloc, conn, plan, cache, *division, event, &near)
         }
         Who::Crew(callsign) => {
             for_crew(
@@ -119,9 +121,9 @@ fn for_division<S: Alter>(
     alloc: Global,
     conn: &mut Connection<S>,
     plan: &Plan,
+    cache: &mut Cache,
     division: DivisionNumber,
     event: &Event,
-    fleet: &FleetRows,
     near: &Rows<Incident>,
 ) -> Result<Result<Decision, Refusal>, Fault>
     requires room { HasRoomSchema S.Store conn.old }
@@ -129,11 +131,17 @@ fn for_division<S: Alter>(
         → IsTrue (state S.Store conn.old).is_open }
     ensures decided { Finds S.Store conn.old conn.new result (λ room x. IsWellFormed room
         → room.plan ≡ plan.now.areas → IsIn event.now.who event.now.ask division room
-        → AreRowsOf fleet.now room → AreNear division event.now.ask event.now.at room near.now
+        → AreKnown cache.old room → AreNear division event.now.ask event.now.at room near.now
         → x ≡ decided event.now room) }
+    ensures dossiers { Finds S.Store conn.old conn.new result (λ room _. IsWellFormed room
+        → AreKnown cache.old room → AreNear division event.now.ask event.now.at room near.now
+        → AreDossiersOf cache.new.dossiers.kept.items room) }
+    ensures fleet { cache.new.fleet ≡ cache.old.fleet }
+    ensures recents { cache.new.recents ≡ cache.old.recents }
     ensures reads { ReadsOnly S.Store conn.old conn.new result }
 {
-    let rows = load_working(alloc, conn, division, &event.ask, fleet, near)?;
+    let rows = load_working(alloc, conn, division, &event.ask, cache, near)?;
+    learn(alloc, &mut cache.dossiers, division, &event.ask, &rows);
     match Slice::build(division, rows) {
         Some(slice) => {
             let decision = decide_on(alloc, plan, &slice, event);
@@ -236,11 +244,11 @@ fn for_call<S: Alter>(
     requires room { HasRoomSchema S.Store conn.old }
     ensures decided { Finds S.Store conn.old conn.new result (λ room x. IsWellFormed room
         → room.plan ≡ plan.now.areas → event.now.who ≡ Position position
-        → event.now.ask ≡ CallAsk form.now → AreRowsOf cache.old.fleet.rows room
-        → AreRecent cache.old.recents room → x ≡ decided event.now room) }
-    ensures recent { Finds S.Store conn.old conn.new result (λ room _.
-        AreRecent cache.old.recents room → AreRecent cache.new.recents room) }
-    ensures fleet { cache.new.fleet ≡ cache.old.fleet }
+        → event.now.ask ≡ CallAsk form.now → HasFleetOf cache.old.fleet room
+        → IsCacheOf cache.old room → x ≡ decided event.now room) }
+    ensures cache { Finds S.Store conn.old conn.new result (λ room _. IsWellFormed room
+        → event.now.ask ≡ CallAsk form.now → HasFleetOf cache.old.fleet room
+        → IsCacheOf cache.old room → IsCacheOf cache.new room) }
     ensures reads { ReadsOnly S.Store conn.old conn.new result }
 {
     let found = row_at::<Call, S>(conn, &(position, form.serial))?;
@@ -249,8 +257,7 @@ fn for_call<S: Alter>(
         None => match plan.division_of(form.place) {
             Some(division) => {
                 let near = cache.recents.near(alloc, conn, division, form, event.at)?;
-                let fleet = cache.fleet.rows();
-                for_division(alloc, conn, plan, division, event, fleet, &near)
+                for_division(alloc, conn, plan, cache, division, event, &near)
             }
             None => Ok(Err(Refusal::OutsideArea)),
         },

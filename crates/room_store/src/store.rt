@@ -1,5 +1,5 @@
 //! A room that is kept in the tables of a connection.
-ghost use Rattle.std.specs.Prelude.{◌≡◌, ◌↔◌, List, None, Result, Ok, false, IsTrue, IfOk, IfErr, OnOk, OnErr, option_map};
+ghost use Rattle.std.specs.Prelude.{◌≡◌, ◌↔◌, [], List, None, Result, Ok, false, IsTrue, IfOk, IfErr, OnOk, OnErr, option_map};
 ghost use Rattle.std.specs.Fn.{FnOnceReturnsAt};
 ghost use Rattle.sqlite.specs.Held.{state};
 ghost use Rattle.sqlite.specs.State.{HasCleanDisk, Survives};
@@ -195,6 +195,7 @@ impl<S: Alter> Store<S> {
         ensures plan { self.new.plan ≡ self.old.plan }
         ensures known { self.new.known ≡ self.old.known }
         ensures fleet { self.new.cache.fleet.is_known ≡ false }
+        ensures dossiers { self.new.cache.dossiers.kept.items ≡ [] }
         ensures recents { self.new.cache.recents.from ≡ None }
     {
         self.cache.forget();

@@ -2,3 +2,5 @@
 pub mod RecentLaws
 -- what a change does to the fleet's rows and the turns that are known
 pub mod FleetLaws
+-- what a change does to the dossiers that are kept
+pub mod DossierLaws

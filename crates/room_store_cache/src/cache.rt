@@ -1,8 +1,9 @@
 //! What is known of a room beside its tables, and what becomes of it by an event.
-ghost use Rattle.std.specs.Prelude.{◌≡◌, None, false};
+ghost use Rattle.std.specs.Prelude.{◌≡◌, [], None, false};
 ghost use Rattle.room_model.specs.Room.{IsInOrder, Room, apply};
 ghost use Rattle.room_store_cache.specs.Cache.{IsCacheOf};
 
+use crate::dossiers::Dossiers;
 use crate::fleets::Fleet;
 use crate::recents::Recents;
 use room_types::changes::Change;
@@ -13,6 +14,7 @@ use std::alloc::Global;
 #[derive(Drop)]
 pub struct Cache {
     pub fleet: Fleet,
+    pub dossiers: Dossiers,
     pub recents: Recents,
 }
 
@@ -20,10 +22,12 @@ impl Cache {
     /// Nothing is known yet.
     pub fn new(alloc: Global) -> Cache
         ensures fleet { result.fleet.is_known ≡ false }
+        ensures dossiers { result.dossiers.kept.items ≡ [] }
         ensures recents { result.recents.from ≡ None }
     {
         Cache {
             fleet: Fleet::new(alloc),
+            dossiers: Dossiers::new(alloc),
             recents: Recents::new(alloc),
         }
     }
@@ -31,9 +35,11 @@ impl Cache {
     /// Nothing is known any more.
     pub fn forget(&mut self)
         ensures fleet { self.new.fleet.is_known ≡ false }
+        ensures dossiers { self.new.dossiers.kept.items ≡ [] }
         ensures recents { self.new.recents.from ≡ None }
     {
         self.fleet.forget();
+        self.dossiers.forget();
         self.recents.forget();
     }
 
@@ -44,6 +50,7 @@ impl Cache {
     {
         for change in changes {
             self.fleet.follow(change);
+            self.dossiers.follow(change);
             self.recents.follow(change);
         }
     }

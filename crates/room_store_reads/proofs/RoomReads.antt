@@ -1,5 +1,5 @@
 -- Filters of rows, and the tests that they pass.
-use Rattle.std.proofs.Common.{Bool, List, [], ap, arith, cond, false, refl, true, ℕ, ◌&&◌, ◌++◌, ◌∙◌, ◌∷◌, ◌≡◌, ◌||◌}
+use Rattle.std.proofs.Common.{Bool, List, [], ap, arith, cond, false, refl, sym, true, ℕ, ◌&&◌, ◌++◌, ◌∙◌, ◌∷◌, ◌≡◌, ◌||◌}
 use Rattle.std.proofs.lemmas.Bool.Decides.{nat_tests}
 use Rattle.std.specs.Ordering.{is_eq, nat_cmp}
 use Rattle.std.specs.Prelude.{filter, ◌==◌}
@@ -106,6 +106,16 @@ and_again false b = refl
 -- what a division's number finds is its own
 pub own_pair : (d n a b : ℕ) → (a == d) && is_eq (pair_cmp (d, n) (a, b)) ≡ (a == d) && (n == b)
 own_pair d n a b = ap (λ c. (a == d) && c) (pair_is d n a b) ∙ and_again (a == d) (n == b)
+
+and_once : (a b : Bool) → (a && b) && b ≡ a && b
+and_once true true = refl
+and_once true false = refl
+and_once false b = refl
+
+-- rows that passed a test pass it again
+pub filter_again : {X : Type 0} (p q : X → Bool) (xs : List X)
+    → filter q (filter (λ x. p x && q x) xs) ≡ filter (λ x. p x && q x) xs
+filter_again p q xs = sym (filter_and (λ x. p x && q x) q xs) ∙ filter_as _ _ xs (λ x. and_once (p x) (q x))
 
 -- one item more is looked at
 pub any_last : {K : Type 0} (p : K → Bool) (k : K) (ks : List K)

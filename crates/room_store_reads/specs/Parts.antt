@@ -4,9 +4,17 @@ use Rattle.room_types.specs.declared.asks.Ask.{Ask}
 use Rattle.room_types.specs.declared.tables.Incident.{Incident}
 use Rattle.room_model.specs.Room.{Room}
 use Rattle.room_model.specs.Working.{working}
+use Rattle.room_store_cache.specs.Cache.{AreRowsOf}
+use Rattle.room_store_cache.specs.Dossiers.{AreDossiersOf}
+use Rattle.room_store_cache.specs.declared.cache.Cache.{Cache}
 use Rattle.room_store_cache.specs.declared.fleets.FleetRows.{FleetRows}
 use Rattle.room_store_reads.specs.Reading.{is_near}
 use Rattle.room_store_reads.specs.declared.working.Work.{Work}
+
+-- what is known of the fleet and of incidents is so in the room
+pub record AreKnown (known : Cache) (room : Room) : Type 0 where
+  pub rows : AreRowsOf known.fleet.rows room
+  pub dossiers : AreDossiersOf known.dossiers.kept.items room
 
 -- the division's incidents that a call may be linked to, and none for another request
 abbrev pub AreNear : ℕ → Ask → ℕ → Room → List Incident → Type 0

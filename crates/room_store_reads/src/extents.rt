@@ -41,10 +41,22 @@ pub fn part_of<R: Row>(
     match extent {
         Extent::Nothing => Ok(Rows::new(alloc)),
         Extent::One(key) => listed(alloc, owned_row(rows.get(key).copied(), division)),
-        Extent::Everything => match rows.owned_by(alloc, division) {
-            Ok(own) => Ok(own),
-            Err(_) => Err(Fault::Memory),
-        },
+        Extent::Everything => own_rows(alloc, rows, division),
+    }
+}
+
+/// The rows that a division owns. The one fault is `Memory`.
+pub fn own_rows<R: Row>(
+    alloc: Global,
+    rows: &Rows<R>,
+    division: DivisionNumber,
+) -> Result<Rows<R>, Fault>
+    ensures rows { IfOk result (λ x. x ≡ filter (R.owned division) rows.now) }
+    ensures memory { IfErr result (λ e. e ≡ Memory) }
+{
+    match rows.owned_by(alloc, division) {
+        Ok(own) => Ok(own),
+        Err(_) => Err(Fault::Memory),
     }
 }
 

@@ -3,6 +3,7 @@
 
 pub mod crews;
 mod extents;
+pub mod learning;
 mod naming;
 mod parts;
 mod unions;

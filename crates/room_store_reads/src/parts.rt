@@ -1,4 +1,5 @@
-//! Parts of a division's rows that an index or a key finds, and the load of all that are in some.
+//! Parts of a division's rows that a dossier has, or an index or a key finds, and the load of all
+//! that are in some.
 ghost use Rattle.std.specs.Prelude.{◌≡◌, ◌==◌, ◌&&◌, ℕ, Bool, filter, not, IsTrue};
 ghost use Rattle.sqlite.specs.Held.{state};
 ghost use Rattle.sqlite.specs.State.{HasCleanDisk};
@@ -7,12 +8,14 @@ ghost use Rattle.room_types_keyed.specs.Keyed.{IsKeyed};
 ghost use Rattle.room_tables.specs.Finding.{Finds};
 ghost use Rattle.room_tables_schema.specs.Connections.{HasRoomSchema};
 ghost use Rattle.room_tables_sql.specs.Outcomes.{ReadsOnly};
+ghost use Rattle.room_store_cache.specs.Dossiers.{AreDossiersOf};
 ghost use Rattle.room_store_reads.specs.Reading.{any, is_part};
 
-use crate::extents::load_one;
+use crate::extents::{load_one, own_rows};
 use crate::naming::IncidentPart;
-use crate::unions::add_all;
+use crate::unions::{add_all, listed};
 use room_place::plans::DivisionNumber;
+use room_store_cache::dossiers::Dossiers;
 use room_tables::calls::calls_of;
 use room_tables::incidents::{active_incidents, incidents_opened};
 use room_tables::reports::uncleared_reports;
@@ -38,6 +41,7 @@ pub trait Parted: Table {
     fn load_part<S: Alter>(
         alloc: Global,
         conn: &mut Connection<S>,
+        dossiers: &Dossiers,
         division: DivisionNumber,
         part: &Self::Part,
     ) -> Result<Rows<Self>, Fault>
@@ -45,7 +49,8 @@ pub trait Parted: Table {
         requires open { HasCleanDisk (state S.Store conn.old)
             → IsTrue (state S.Store conn.old).is_open }
         ensures rows { Finds S.Store conn.old conn.new result (λ room x.
-            IsKeyed Self.Key.cmp Self.key_of (Self.rows room)
+            AreDossiersOf dossiers.now.kept.items room
+            → IsKeyed Self.Key.cmp Self.key_of (Self.rows room)
             → x ≡ filter (is_in division part.now) (Self.rows room)) }
         ensures reads { ReadsOnly S.Store conn.old conn.new result };
 }
@@ -54,6 +59,7 @@ pub trait Parted: Table {
 pub fn load_parts<R: Parted, S: Alter>(
     alloc: Global,
     conn: &mut Connection<S>,
+    dossiers: &Dossiers,
     division: DivisionNumber,
     parts: &[R::Part],
 ) -> Result<Rows<R>, Fault>
@@ -61,13 +67,13 @@ pub fn load_parts<R: Parted, S: Alter>(
     requires open { HasCleanDisk (state S.Store conn.old)
         → IsTrue (state S.Store conn.old).is_open }
     ensures rows { Finds S.Store conn.old conn.new result (λ room x.
-        IsKeyed R.Key.cmp R.key_of (R.rows room)
+        AreDossiersOf dossiers.now.kept.items room → IsKeyed R.Key.cmp R.key_of (R.rows room)
         → x ≡ filter (λ y. any (λ p. R.is_in division p y) parts.now) (R.rows room)) }
     ensures reads { ReadsOnly S.Store conn.old conn.new result }
 {
     let mut rows = Rows::new(alloc);
     for part in parts {
-        let more = R::load_part::<S>(alloc, conn, division, part)?;
+        let more = R::load_part::<S>(alloc, conn, dossiers, division, part)?;
         add_all(&mut rows, &more)?;
     }
     Ok(rows)
@@ -82,6 +88,7 @@ impl Parted for Call {
     fn load_part<S: Alter>(
         alloc: Global,
         conn: &mut Connection<S>,
+        _dossiers: &Dossiers,
         division: DivisionNumber,
         part: &Number,
     ) -> Result<Rows<Call>, Fault> {
@@ -98,10 +105,14 @@ impl Parted for Turn {
     fn load_part<S: Alter>(
         alloc: Global,
         conn: &mut Connection<S>,
+        dossiers: &Dossiers,
         division: DivisionNumber,
         part: &Number,
     ) -> Result<Rows<Turn>, Fault> {
-        turns_of(alloc, conn, division, *part)
+        match dossiers.get(division, *part) {
+            Some(dossier) => own_rows(alloc, &dossier.turns, division),
+            None => turns_of(alloc, conn, division, *part),
+        }
     }
 }
 
@@ -115,6 +126,7 @@ impl Parted for Report {
     fn load_part<S: Alter>(
         alloc: Global,
         conn: &mut Connection<S>,
+        _dossiers: &Dossiers,
         division: DivisionNumber,
         part: &Outcome,
     ) -> Result<Rows<Report>, Fault> {
@@ -131,15 +143,17 @@ impl Parted for Incident {
     fn load_part<S: Alter>(
         alloc: Global,
         conn: &mut Connection<S>,
+        dossiers: &Dossiers,
         division: DivisionNumber,
         part: &IncidentPart,
     ) -> Result<Rows<Incident>, Fault> {
         match part {
             IncidentPart::Active => active_incidents(alloc, conn, division),
             IncidentPart::Between(from, to) => incidents_opened(alloc, conn, *from, *to, division),
-            IncidentPart::Numbered(number) => {
-                load_one::<Incident, S>(alloc, conn, division, &(division, *number))
-            }
+            IncidentPart::Numbered(number) => match dossiers.get(division, *number) {
+                Some(dossier) => listed(alloc, dossier.incident),
+                None => load_one::<Incident, S>(alloc, conn, division, &(division, *number)),
+            },
             IncidentPart::Nothing => Ok(Rows::new(alloc)),
         }
     }

@@ -14,7 +14,8 @@ ghost use Rattle.room_model.specs.Working.{is_last_turn, reads_active, reads_inc
 ghost use Rattle.room_tables_schema.specs.declared.faults.Fault.TheVariants.{Memory};
 ghost use Rattle.room_tables_schema.specs.Connections.{HasRoomSchema};
 ghost use Rattle.room_store_cache.specs.Cache.{AreRowsOf};
-ghost use Rattle.room_store_reads.specs.Parts.{AreNear, IsHeld, IsWork};
+ghost use Rattle.room_store_cache.specs.Dossiers.{AreDossiersOf};
+ghost use Rattle.room_store_reads.specs.Parts.{AreKnown, AreNear, IsHeld, IsWork};
 ghost use Rattle.room_store_reads.specs.Reading.{contains, is_number, is_turn};
 
 use crate::extents::{load_one, owned_row, part_of};
@@ -26,6 +27,8 @@ use crate::naming::{
 use crate::parts::load_parts;
 use crate::unions::add_all;
 use room_place::plans::DivisionNumber;
+use room_store_cache::cache::Cache;
+use room_store_cache::dossiers::Dossiers;
 use room_store_cache::fleets::FleetRows;
 use room_tables_schema::faults::Fault;
 use room_types::asks::Ask;
@@ -39,25 +42,25 @@ use sqlite::{Alter, Connection};
 use std::alloc::Global;
 
 /// The rows of a division that a request reads: what its desk asks, or a call that is placed in it.
-/// What stands of the fleet is handed over, and the incidents that a call may be linked to.
+/// What is known is handed over, and the incidents that a call may be linked to.
 pub fn load_working<S: Alter>(
     alloc: Global,
     conn: &mut Connection<S>,
     division: DivisionNumber,
     ask: &Ask,
-    fleet: &FleetRows,
+    known: &Cache,
     near: &Rows<Incident>,
 ) -> Result<DivisionRows, Fault>
     requires room { HasRoomSchema S.Store conn.old }
     requires open { HasCleanDisk (state S.Store conn.old)
         → IsTrue (state S.Store conn.old).is_open }
     ensures rows { Finds S.Store conn.old conn.new result (λ room x. IsInOrder room → (at : ℕ)
-        → AreRowsOf fleet.now room → AreNear division ask.now at room near.now
+        → AreKnown known.now room → AreNear division ask.now at room near.now
         → room_of room.plan x ≡ working division ask.now at room) }
     ensures reads { ReadsOnly S.Store conn.old conn.new result }
 {
-    let held = held_part(alloc, division, ask, fleet)?;
-    let work = load_work(alloc, conn, division, ask, fleet, near)?;
+    let held = held_part(alloc, division, ask, known.fleet.rows())?;
+    let work = load_work(alloc, conn, division, ask, known, near)?;
     Ok(DivisionRows {
         divisions: held.divisions,
         incidents: work.incidents,
@@ -98,6 +101,7 @@ fn held_part(
 fn load_reports<S: Alter>(
     alloc: Global,
     conn: &mut Connection<S>,
+    dossiers: &Dossiers,
     division: DivisionNumber,
     ask: &Ask,
 ) -> Result<Rows<Report>, Fault>
@@ -105,11 +109,12 @@ fn load_reports<S: Alter>(
     requires open { HasCleanDisk (state S.Store conn.old)
         → IsTrue (state S.Store conn.old).is_open }
     ensures rows { Finds S.Store conn.old conn.new result (λ room x. IsInOrder room
+        → AreDossiersOf dossiers.now.kept.items room
         → x ≡ filter (λ y. y.division == division && reads_report ask.now y) room.reports) }
     ensures reads { ReadsOnly S.Store conn.old conn.new result }
 {
     if reads_exceptions(ask) {
-        return load_parts::<Report, S>(alloc, conn, division, &EXCEPTIONS);
+        return load_parts::<Report, S>(alloc, conn, dossiers, division, &EXCEPTIONS);
     }
     match named_report(ask) {
         Some(named) => load_one::<Report, S>(alloc, conn, division, &named),
@@ -139,23 +144,23 @@ fn load_work<S: Alter>(
     conn: &mut Connection<S>,
     division: DivisionNumber,
     ask: &Ask,
-    fleet: &FleetRows,
+    known: &Cache,
     near: &Rows<Incident>,
 ) -> Result<Work, Fault>
     requires room { HasRoomSchema S.Store conn.old }
     requires open { HasCleanDisk (state S.Store conn.old)
         → IsTrue (state S.Store conn.old).is_open }
     ensures rows { Finds S.Store conn.old conn.new result (λ room x. IsInOrder room → (at : ℕ)
-        → AreRowsOf fleet.now room
+        → AreKnown known.now room
         → AreNear division ask.now at room near.now → IsWork division ask.now at room x) }
     ensures reads { ReadsOnly S.Store conn.old conn.new result }
 {
-    let incidents = load_incidents(alloc, conn, division, ask, near)?;
+    let incidents = load_incidents(alloc, conn, division, ask, known, near)?;
     let numbers = numbers_read(alloc, ask, &incidents)?;
     let of_calls = calls_read(ask, numbers.as_slice());
-    let calls = load_parts::<Call, S>(alloc, conn, division, of_calls)?;
-    let turns = load_turns(alloc, conn, division, ask, fleet, numbers.as_slice())?;
-    let reports = load_reports(alloc, conn, division, ask)?;
+    let calls = load_parts::<Call, S>(alloc, conn, &known.dossiers, division, of_calls)?;
+    let turns = load_turns(alloc, conn, division, ask, known, numbers.as_slice())?;
+    let reports = load_reports(alloc, conn, &known.dossiers, division, ask)?;
     Ok(Work {
         incidents,
         calls,
@@ -169,17 +174,24 @@ fn load_incidents<S: Alter>(
     conn: &mut Connection<S>,
     division: DivisionNumber,
     ask: &Ask,
+    known: &Cache,
     near: &Rows<Incident>,
 ) -> Result<Rows<Incident>, Fault>
     requires room { HasRoomSchema S.Store conn.old }
     requires open { HasCleanDisk (state S.Store conn.old)
         → IsTrue (state S.Store conn.old).is_open }
     ensures rows { Finds S.Store conn.old conn.new result (λ room x. IsInOrder room → (at : ℕ)
-        → AreNear division ask.now at room near.now
+        → AreKnown known.now room → AreNear division ask.now at room near.now
         → x ≡ (working division ask.now at room).incidents) }
     ensures reads { ReadsOnly S.Store conn.old conn.new result }
 {
-    let mut incidents = load_parts::<Incident, S>(alloc, conn, division, &incidents_read(ask))?;
+    let mut incidents = load_parts::<Incident, S>(
+        alloc,
+        conn,
+        &known.dossiers,
+        division,
+        &incidents_read(ask),
+    )?;
     add_all(&mut incidents, near)?;
     Ok(incidents)
 }
@@ -238,21 +250,21 @@ fn load_turns<S: Alter>(
     conn: &mut Connection<S>,
     division: DivisionNumber,
     ask: &Ask,
-    fleet: &FleetRows,
+    known: &Cache,
     numbers: &[Number],
 ) -> Result<Rows<Turn>, Fault>
     requires room { HasRoomSchema S.Store conn.old }
     requires open { HasCleanDisk (state S.Store conn.old)
         → IsTrue (state S.Store conn.old).is_open }
     ensures rows { Finds S.Store conn.old conn.new result (λ room x. IsInOrder room
-        → AreRowsOf fleet.now room
+        → AreKnown known.now room
         → ((n : ℕ) → contains n numbers.now ≡ reads_number division ask.now room n)
         → x ≡ (working division ask.now 0 room).turns) }
     ensures reads { ReadsOnly S.Store conn.old conn.new result }
 {
     match stood_down(ask) {
-        Some(callsign) => last_turn(alloc, conn, division, fleet, &callsign),
-        None => load_parts::<Turn, S>(alloc, conn, division, numbers),
+        Some(callsign) => last_turn(alloc, conn, division, known.fleet.rows(), &callsign),
+        None => load_parts::<Turn, S>(alloc, conn, &known.dossiers, division, numbers),
     }
 }
 

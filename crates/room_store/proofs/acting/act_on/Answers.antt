@@ -25,7 +25,7 @@ returns-clause-ok g c clean =
 pub returns-clause-cache : goal.returns-clause-cache
 returns-clause-cache g c clean house room h =
     let early : HasCleanDisk (state g.S.Store c.decide.new.conn) = omega (arith, c.write.ensures.survives.clean) in
-    let known = c.in-Ok.ensures.cache early house room h.stands h.cache in
+    let known = c.in-Ok.ensures.cache early house room h in
     let same = c.as_slice-2.ensures ∙ c.parts-changes.ensures.changes ∙ ap changes_of (c.in-Ok.ensures.decided early house room h) in
     subst (λ changes. IsCacheOf c.follow.new.self (apply room changes)) same (c.follow.ensures room h.formed.order known)
 

@@ -14,6 +14,7 @@ returns-in-One-clause-rows g c =
     IfOk-weaker c.listed.result _ _ (λ x is keyed.
     rw c.in-One.is (is ∙ ap list_of c.owned_row.ensures ∙ found_alone g.R.Key.Ord.cmp g.R.Row.key_of g.met.R.Key.Ord.total (g.R.Row.owned c.args.division) c.args.rows.now c.in-One.key _ keyed (c.copied.ensures ∙ c.get.ensures))) c.listed.ensures.rows
 
-pub returns-in-Ok-clause-rows : goal.returns-in-Ok-clause-rows
-returns-in-Ok-clause-rows g c keyed =
-    rw c.in-Everything.is (c.in-Ok.ensures.ok ∙ filter_as _ _ c.args.rows.now (λ y. sym (and_all (g.R.Row.owned c.args.division y))))
+pub returns-in-Everything-clause-rows : goal.returns-in-Everything-clause-rows
+returns-in-Everything-clause-rows g c =
+    IfOk-weaker c.own_rows.result _ _ (λ x own keyed.
+    rw c.in-Everything.is (own ∙ filter_as _ _ c.args.rows.now (λ y. sym (and_all (g.R.Row.owned c.args.division y))))) c.own_rows.ensures.rows

@@ -11,7 +11,7 @@ pub loop-part-init : goal.loop-part-init
 loop-part-init g c =
     record {
       looked = begins c.requires.open;
-      rows = λ clean house room h keyed. c.new-rows.ensures ∙ sym (filter_none (g.R.Table.rows room));
+      rows = λ clean house room h are keyed. c.new-rows.ensures ∙ sym (filter_none (g.R.Table.rows room));
     }
 
 pub loop-part-preserved : goal.loop-part-preserved
@@ -26,11 +26,11 @@ loop-part-preserved g c =
     let more : take (i + 1) ps ≡ take i ps ++ p ∷ [] = rw c.part-item.is (take_more ps i _ c.loop-part-test.true) in
     record {
       looked = and before.looked c.in_ok-more.ensures.reads;
-      rows = λ clean house room h keyed.
+      rows = λ clean house room h are keyed.
           let early = clean_before before.looked c.in_ok-more.ensures.reads clean in
           c.in_ok-add_all.ensures.either (g.R.Table.rows room) (λ x. any (λ q. is_in q x) (take i ps)) (is_in p) keyed
-          (before.rows early house room h keyed)
-          (c.in_ok-more.ensures.rows clean house room (kept old mid (before.looked.ok early) house room h) keyed)
+          (before.rows early house room h are keyed)
+          (c.in_ok-more.ensures.rows clean house room (kept old mid (before.looked.ok early) house room h) are keyed)
           ∙ filter_as _ _ (g.R.Table.rows room) (λ x. sym (ap (any (λ q. is_in q x)) more ∙ any_last (λ q. is_in q x) p (take i ps)));
     }
 
@@ -38,10 +38,10 @@ pub load_part-requires-clause-open : goal.load_part-requires-clause-open
 load_part-requires-clause-open g c clean = (c.loop-part.invariant.looked.ok clean).0.is_open
 
 pub returns-clause-rows : goal.returns-clause-rows
-returns-clause-rows g c clean house room h keyed =
+returns-clause-rows g c clean house room h are keyed =
     let past : length c.args.parts.now ≤ c.loop-part.part-index = omega (arith, c.loop-part-test.false) in
     let all = take_all c.loop-part.part-index c.args.parts.now past in
-    rw all at c.loop-part.invariant.rows clean house room h keyed
+    rw all at c.loop-part.invariant.rows clean house room h are keyed
 
 pub returns-in_err-more-clause-reads : goal.returns-in_err-more-clause-reads
 returns-in_err-more-clause-reads g c =

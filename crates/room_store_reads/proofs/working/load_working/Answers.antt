@@ -10,7 +10,7 @@ returns-in_err-work-clause-reads g c = fails c.from_residual-in_err-work.ensures
 pub returns : goal.returns
 returns g c = record {
   rows = λ clean house room h in_order at are near.
-      let held = c.in_ok-held.ensures.rows room in_order are in
+      let held = c.in_ok-held.ensures.rows room in_order (rw c.rows.ensures are.rows) in
       let work = c.in_ok-work.ensures.rows clean house room h in_order at are near in
       λ i. record {
         plan = room.plan;

@@ -22,5 +22,6 @@ loop-change-preserved c room in_order known =
     let then = in_order_apply room (take i cs) in_order in
     subst (IsCacheOf _) (sym (ap (apply room) more ∙ apply_last room (take i cs) x)) (record {
       fleet = c.follow.ensures _ then before.fleet;
-      recents = c.follow-in-loop-change.ensures _ then before.recents;
+      dossiers = c.follow-in-loop-change.ensures _ then before.dossiers;
+      recents = c.follow-in-loop-change-2.ensures _ then before.recents;
     })

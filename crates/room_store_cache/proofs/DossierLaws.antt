@@ -1,0 +1,58 @@
+-- What a change does to the dossiers that are kept.
+use Rattle.std.proofs.Common.{Bool, List, Some, arith, cond, refl, set, subst, sym, ℕ, ◌&&◌, ◌+◌, ◌∙◌, ◌≡◌}
+use Rattle.std.proofs.lemmas.Bool.Decides.{nat_tests}
+use Rattle.std.proofs.lemmas.List.{get_or-set_other}
+use Rattle.std.specs.List.{AllWithin}
+use Rattle.std.specs.Ordering.{is_eq, nat_cmp}
+use Rattle.std.specs.Prelude.{◌==◌}
+use Rattle.room_tables_sql.proofs.Comparisons.{is_eq-then}
+use Rattle.room_types_keyed.proofs.KeyedLaws.{filter_put, row_put}
+use Rattle.room_types_keyed.specs.Keyed.{drop_row, put_row}
+use Rattle.room_types.specs.Keys.{incident_key, numbered_cmp, pair_cmp, turn_key}
+use Rattle.room_types.specs.Orders.{numbered_total, pairs_total}
+use Rattle.room_types.specs.declared.changes.Change.TheVariants.{PutIncident, PutTurn}
+use Rattle.room_types.specs.declared.tables.Incident.{Incident}
+use Rattle.room_types.specs.declared.tables.Turn.{Turn}
+use Rattle.room_model.specs.Room.{IsInOrder, Room, apply_one}
+use Rattle.room_store_cache.specs.Dossiers.{IsDossierOf}
+use Rattle.room_store_cache.specs.declared.dossiers.Dossier.{Dossier}
+
+-- it is what the division has under the number
+abbrev pub is_under : Dossier → ℕ → ℕ → Bool
+is_under x d n = x.division == d && x.number == n
+
+same_number : (m n : ℕ) → is_eq (nat_cmp m n) ≡ (m == n)
+same_number m n = grind (arith, nat_tests)
+
+pair_is : (d n a b : ℕ) → is_eq (pair_cmp (d, n) (a, b)) ≡ d == a && n == b
+pair_is d n a b = is_eq-then (nat_cmp d a) (nat_cmp n b) ∙ (λ i. same_number d a i && same_number n b i)
+
+turned : (d n a b : ℕ) → b == n && a == d ≡ d == a && n == b
+turned d n a b = grind (arith, nat_tests)
+
+-- an incident is put: it is this dossier's, or changes nothing here
+pub incident_put : (x : Dossier) (i : Incident) (room : Room) (own : Bool)
+    → own ≡ is_under x i.division i.number → IsDossierOf x room
+    → IsDossierOf (record x { incident = cond own (Some i) x.incident })
+    (apply_one room (PutIncident i))
+incident_put x i room own is known = record {
+  incident = rw (row_put pair_cmp incident_key pairs_total room.incidents i (x.division, x.number), pair_is x.division x.number i.division i.number, is, known.incident) refl;
+  turns = known.turns;
+}
+
+-- a turn is put: it is this dossier's, or the one of its key is taken out
+pub turn_put : (x : Dossier) (t : Turn) (room : Room) (own : Bool)
+    → own ≡ is_under x t.division t.incident → IsInOrder room → IsDossierOf x room
+    → IsDossierOf (record x {
+      turns = cond own (put_row numbered_cmp turn_key x.turns t)
+          (drop_row numbered_cmp turn_key x.turns (turn_key t));
+    }) (apply_one room (PutTurn t))
+turn_put x t room own is in_order known = record {
+  incident = known.incident;
+  turns = rw (filter_put numbered_cmp turn_key numbered_total (λ t. t.incident == x.number && t.division == x.division) room.turns t in_order.turns, turned x.division x.number t.division t.incident, is, known.turns) refl;
+}
+
+-- where one is set, those after it stay as they are
+pub others_stay : {X : Type 0} (P : X → Type 0) (xs : List X) (at end : ℕ) (x : X)
+    → AllWithin P xs at end → AllWithin P (set xs at x) (at + 1) end
+others_stay P xs at end x all k d low high = subst P (sym (get_or-set_other xs at k x d (omega arith))) (all k d (omega arith) high)

@@ -1,0 +1,129 @@
+//! Incidents that desks named last, each with all its turns.
+ghost use Rattle.std.specs.Prelude.{◌≡◌, ◌==◌, ◌&&◌, [], IfErr, IfSome, OnOk};
+ghost use Rattle.room_tables_schema.specs.declared.faults.Fault.TheVariants.{Memory};
+ghost use Rattle.room_model.specs.Room.{IsInOrder, Room, apply_one};
+ghost use Rattle.room_store_cache.specs.Dossiers.{AreDossiersOf, IsDossierOf};
+
+use crate::rows::put;
+use room_place::plans::DivisionNumber;
+use room_tables_schema::faults::Fault;
+use room_types::changes::Change;
+use room_types::numbers::Number;
+use room_types::rows::{Row, Rows};
+use room_types::tables::{Incident, Turn};
+use std::alloc::Global;
+
+// How many are kept: one more takes the place of the one that was kept first.
+const MOST: usize = 64;
+
+/// What a division has under an incident's number: the incident, if there is one, and its turns.
+#[derive(Drop)]
+pub struct Dossier {
+    pub division: DivisionNumber,
+    pub number: Number,
+    pub incident: Option<Incident>,
+    pub turns: Rows<Turn>,
+}
+
+/// Some dossiers of the room.
+#[derive(Drop)]
+pub struct Dossiers {
+    kept: Vec<Dossier>,
+    // Whose place the next one takes, where no more may be kept.
+    oldest: usize,
+}
+
+impl Dossiers {
+    /// None is kept yet.
+    pub fn new(alloc: Global) -> Dossiers
+        ensures { result.kept.items ≡ [] }
+    {
+        Dossiers {
+            kept: Vec::new(alloc),
+            oldest: 0,
+        }
+    }
+
+    /// None is kept any more.
+    pub fn forget(&mut self)
+        ensures { self.new.kept.items ≡ [] }
+    {
+        self.kept.clear();
+        self.oldest = 0;
+    }
+
+    /// The dossier of a division's number, if it is kept.
+    pub fn get(&self, division: DivisionNumber, number: Number) -> Option<&Dossier>
+        ensures { (room : Room) → AreDossiersOf self.now.kept.items room
+            → IfSome result (λ x. (x.now.division ≡ division) × (x.now.number ≡ number)
+            × IsDossierOf x.now room) }
+    {
+        for dossier in &self.kept {
+            if dossier.is_of(division, number) {
+                return Some(dossier);
+            }
+        }
+        None
+    }
+
+    /// Keeps a dossier, where memory is not refused.
+    pub fn keep(&mut self, dossier: Dossier)
+        ensures { (room : Room) → AreDossiersOf self.old.kept.items room → IsDossierOf dossier room
+            → AreDossiersOf self.new.kept.items room }
+    {
+        if self.kept.len() < MOST {
+            let _ = self.kept.push(dossier);
+            return;
+        }
+        let place = self.oldest % MOST;
+        self.kept[place] = dossier;
+        self.oldest = place + 1;
+    }
+
+    /// What is kept after a change of the room: nothing, where memory is refused.
+    pub fn follow(&mut self, change: &Change)
+        ensures { (room : Room) → IsInOrder room → AreDossiersOf self.old.kept.items room
+            → AreDossiersOf self.new.kept.items (apply_one room change.now) }
+    {
+        for at in 0..self.kept.len() {
+            if self.kept[at].follow(change).is_err() {
+                self.forget();
+                return;
+            }
+        }
+    }
+}
+
+impl Dossier {
+    /// Makes a change of the room, where it is of this incident or of its turns. The one fault is
+    /// `Memory`.
+    fn follow(&mut self, change: &Change) -> Result<(), Fault>
+        ensures dossier { OnOk result ((room : Room) → IsInOrder room → IsDossierOf self.old room
+            → IsDossierOf self.new (apply_one room change.now)) }
+        ensures memory { IfErr result (λ e. e ≡ Memory) }
+    {
+        match change {
+            Change::PutIncident(incident) => {
+                if self.is_of(incident.division, incident.number) {
+                    self.incident = Some(*incident);
+                }
+                Ok(())
+            }
+            Change::PutTurn(turn) => {
+                if self.is_of(turn.division, turn.incident) {
+                    return put(&mut self.turns, turn);
+                }
+                let _ = self.turns.take(&turn.key());
+                Ok(())
+            }
+            _ => Ok(()),
+        }
+    }
+
+    // Whether it is what a division has under a number.
+    fn is_of(&self, division: DivisionNumber, number: Number) -> bool
+        ensures { result ≡ self.now.division == division && self.now.number == number }
+    {
+        self.division == division && self.number == number
+    }
+}
