@@ -69,6 +69,7 @@ def open_room(path):
     room.row_factory = sqlite3.Row
     room.execute('PRAGMA journal_mode = WAL')
     room.execute('PRAGMA synchronous = FULL')
+    room.execute('PRAGMA wal_autocheckpoint = 4096')
     return room
 
 

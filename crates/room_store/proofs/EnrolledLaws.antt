@@ -73,17 +73,17 @@ module _ {S : Type 0} (g : Ghosts S) (old new : Store S) (row : FleetRow)
   in_plan is_open = record { stands = is.tables is_open; plan = is.plan }
 
   pub room_after_row : new.plan ≡ old.plan → new.known ≡ old.known
-      → new.cache.fleet.is_known ≡ false → new.cache.dossiers.kept.items ≡ []
-      → new.cache.recents.from ≡ None
+      → new.cache.fleet.is_known ≡ false → new.cache.boards.kept.items ≡ []
+      → new.cache.dossiers.kept.items ≡ [] → new.cache.recents.from ≡ None
       → Enrols (state g old.conn) (state g new.conn) row
       (StandsInPlan (state g old.conn).now.trees old.plan) (fate_in row)
       → IsRoom g new (terminals_enrolled room terminals row) (room_enrolled room terminals row)
-  room_after_row same same_known unknown unkept none wrote = record {
+  room_after_row same same_known unknown unshown unkept none wrote = record {
     formed = enrolled_kept room terminals row is.formed;
     fits = terminals_kept room terminals row is.fits;
     plan = rw same (plan_by (fate_of room terminals row) row room ∙ is.plan);
     known = rw same_known (still_known room terminals row old.known.items is.known);
-    cache = knows_nothing new.cache (room_enrolled room terminals row) unknown unkept none;
+    cache = knows_nothing new.cache (room_enrolled room terminals row) unknown unshown unkept none;
     tables = λ _. rw same (wrote.stands (house_of old.plan terminals) room (in_plan wrote.was_open));
   }
 

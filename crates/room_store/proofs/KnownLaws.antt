@@ -15,15 +15,18 @@ use Rattle.room_model.specs.Enrol.{fate_of, new_terminal, terminal_at, terminal_
 use Rattle.room_model.specs.Room.{Room}
 use Rattle.room_service.specs.Rooms.{who_at}
 use Rattle.room_store_cache.specs.Cache.{IsCacheOf}
+use Rattle.room_store_cache.specs.Boards.{IsBoardOf}
 use Rattle.room_store_cache.specs.Dossiers.{IsDossierOf}
 use Rattle.room_store_cache.specs.declared.cache.Cache.{Cache}
 use Rattle.room_store.specs.Keeping.{IsOneOf}
 
 -- where nothing is known, nothing is asked of it
 pub knows_nothing : (cache : Cache) (room : Room) → cache.fleet.is_known ≡ false
-    → cache.dossiers.kept.items ≡ [] → cache.recents.from ≡ None → IsCacheOf cache room
-knows_nothing cache room unknown unkept none = record {
+    → cache.boards.kept.items ≡ [] → cache.dossiers.kept.items ≡ [] → cache.recents.from ≡ None
+    → IsCacheOf cache room
+knows_nothing cache room unknown unshown unkept none = record {
   fleet = λ is. let never : false ≡ true = sym unknown ∙ is in cc;
+  boards = All-same (λ x. IsBoardOf x room) cache.boards.kept.items [] unshown (All-nil (λ x. IsBoardOf x room));
   dossiers = All-same (λ x. IsDossierOf x room) cache.dossiers.kept.items [] unkept (All-nil (λ x. IsDossierOf x room));
   recents = rw none tt;
 }

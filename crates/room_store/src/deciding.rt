@@ -21,7 +21,6 @@ ghost use Rattle.room_store.specs.Acting.{IsFor, IsIn};
 ghost use Rattle.room_store_reads.specs.CrewParts.{HasVehicle};
 ghost use Rattle.room_store_reads.specs.Parts.{AreKnown, AreNear};
 ghost use Rattle.room_store_cache.specs.Cache.{HasFleetOf, IsCacheOf};
-ghost use Rattle.room_store_cache.specs.Dossiers.{AreDossiersOf};
 
 use room_core::calls::{decide_again, decide_call};
 use room_core::crews::{decide_order, decide_report, decide_report_again};
@@ -133,15 +132,15 @@ fn for_division<S: Alter>(
         → room.plan ≡ plan.now.areas → IsIn event.now.who event.now.ask division room
         → AreKnown cache.old room → AreNear division event.now.ask event.now.at room near.now
         → x ≡ decided event.now room) }
-    ensures dossiers { Finds S.Store conn.old conn.new result (λ room _. IsWellFormed room
+    ensures known { Finds S.Store conn.old conn.new result (λ room _. IsWellFormed room
         → AreKnown cache.old room → AreNear division event.now.ask event.now.at room near.now
-        → AreDossiersOf cache.new.dossiers.kept.items room) }
+        → AreKnown cache.new room) }
     ensures fleet { cache.new.fleet ≡ cache.old.fleet }
     ensures recents { cache.new.recents ≡ cache.old.recents }
     ensures reads { ReadsOnly S.Store conn.old conn.new result }
 {
     let rows = load_working(alloc, conn, division, &event.ask, cache, near)?;
-    learn(alloc, &mut cache.dossiers, division, &event.ask, &rows);
+    learn(alloc, cache, division, &event.ask, &rows);
     match Slice::build(division, rows) {
         Some(slice) => {
             let decision = decide_on(alloc, plan, &slice, event);

@@ -195,6 +195,7 @@ impl<S: Alter> Store<S> {
         ensures plan { self.new.plan ≡ self.old.plan }
         ensures known { self.new.known ≡ self.old.known }
         ensures fleet { self.new.cache.fleet.is_known ≡ false }
+        ensures boards { self.new.cache.boards.kept.items ≡ [] }
         ensures dossiers { self.new.cache.dossiers.kept.items ≡ [] }
         ensures recents { self.new.cache.recents.from ≡ None }
     {

@@ -1,12 +1,10 @@
 -- What a change does to the dossiers that are kept.
-use Rattle.std.proofs.Common.{Bool, List, Some, arith, cond, refl, set, subst, sym, ℕ, ◌&&◌, ◌+◌, ◌∙◌, ◌≡◌}
+use Rattle.std.proofs.Common.{Bool, Some, arith, cond, refl, sym, ℕ, ◌&&◌, ◌∙◌, ◌≡◌}
 use Rattle.std.proofs.lemmas.Bool.Decides.{nat_tests}
-use Rattle.std.proofs.lemmas.List.{get_or-set_other}
-use Rattle.std.specs.List.{AllWithin}
 use Rattle.std.specs.Ordering.{is_eq, nat_cmp}
 use Rattle.std.specs.Prelude.{◌==◌}
 use Rattle.room_tables_sql.proofs.Comparisons.{is_eq-then}
-use Rattle.room_types_keyed.proofs.KeyedLaws.{filter_put, row_put}
+use Rattle.room_types_keyed.proofs.KeyedLaws.{row_put}
 use Rattle.room_types_keyed.specs.Keyed.{drop_row, put_row}
 use Rattle.room_types.specs.Keys.{incident_key, numbered_cmp, pair_cmp, turn_key}
 use Rattle.room_types.specs.Orders.{numbered_total, pairs_total}
@@ -14,6 +12,7 @@ use Rattle.room_types.specs.declared.changes.Change.TheVariants.{PutIncident, Pu
 use Rattle.room_types.specs.declared.tables.Incident.{Incident}
 use Rattle.room_types.specs.declared.tables.Turn.{Turn}
 use Rattle.room_model.specs.Room.{IsInOrder, Room, apply_one}
+use Rattle.room_store_cache.proofs.KeptLaws.{pass_put}
 use Rattle.room_store_cache.specs.Dossiers.{IsDossierOf}
 use Rattle.room_store_cache.specs.declared.dossiers.Dossier.{Dossier}
 
@@ -49,10 +48,5 @@ pub turn_put : (x : Dossier) (t : Turn) (room : Room) (own : Bool)
     }) (apply_one room (PutTurn t))
 turn_put x t room own is in_order known = record {
   incident = known.incident;
-  turns = rw (filter_put numbered_cmp turn_key numbered_total (λ t. t.incident == x.number && t.division == x.division) room.turns t in_order.turns, turned x.division x.number t.division t.incident, is, known.turns) refl;
+  turns = pass_put numbered_cmp turn_key numbered_total (λ t. t.incident == x.number && t.division == x.division) x.turns room.turns t own (is ∙ sym (turned x.division x.number t.division t.incident)) in_order.turns known.turns;
 }
-
--- where one is set, those after it stay as they are
-pub others_stay : {X : Type 0} (P : X → Type 0) (xs : List X) (at end : ℕ) (x : X)
-    → AllWithin P xs at end → AllWithin P (set xs at x) (at + 1) end
-others_stay P xs at end x all k d low high = subst P (sym (get_or-set_other xs at k x d (omega arith))) (all k d (omega arith) high)

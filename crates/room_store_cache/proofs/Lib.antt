@@ -1,3 +1,5 @@
+-- what a change does to rows kept beside a table, and to a list whose elements each follow it
+pub mod KeptLaws
 -- what a change does to the incidents that are known, and what a call is given of them
 pub mod RecentLaws
 -- what a change does to the fleet's rows and the turns that are known

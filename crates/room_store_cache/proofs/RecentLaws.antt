@@ -1,10 +1,10 @@
 -- What a change does to the incidents that are known, and what a call is given of them.
-use Rattle.std.proofs.Common.{Bool, Err, List, Ok, Result, ap, arith, false, get_or, length, refl, subst, sym, take, true, ℕ, ◌&&◌, ◌+◌, ◌-◌, ◌<◌, ◌∙◌, ◌≡◌, ◌≤◌}
+use Rattle.std.proofs.Common.{Bool, Err, List, Ok, Result, ap, arith, cond, false, get_or, length, subst, sym, take, true, ℕ, ◌&&◌, ◌+◌, ◌-◌, ◌<◌, ◌∙◌, ◌≡◌, ◌≤◌}
 use Rattle.std.proofs.lemmas.Bool.Decides.{nat_tests}
 use Rattle.std.proofs.lemmas.Int.{ints}
 use Rattle.std.specs.Prelude.{OnErr, OnOk, filter, int_le, nat_le, pos, ◌==◌}
 use Rattle.std.specs.Result.{is_err}
-use Rattle.room_types_keyed.proofs.KeyedLaws.{filter_put, keyed_taken, with_passing}
+use Rattle.room_types_keyed.proofs.KeyedLaws.{keyed_taken, with_passing}
 use Rattle.room_types_keyed.specs.Keyed.{IsKeyed, drop_row, put_row}
 use Rattle.room_types.specs.Keys.{incident_key, pair_cmp}
 use Rattle.room_types.specs.Orders.{pairs_total}
@@ -15,6 +15,7 @@ use Rattle.room_model.proofs.Tests.{filter_filter, left_true, right_true}
 use Rattle.room_model.specs.Room.{Room}
 use Rattle.room_model.specs.Working.{is_around, names_opening}
 use Rattle.room_tables.proofs.Streams.{put_end}
+use Rattle.room_store_cache.proofs.KeptLaws.{pass_put}
 use Rattle.room_store_cache.specs.Recent.{AreRecent, Reaches}
 use Rattle.room_store_cache.specs.declared.recents.Recents.{Recents}
 
@@ -36,23 +37,16 @@ pub where_err : {T E P : Type 0} (r : Result T E) → is_err r ≡ true → OnEr
 where_err (Ok x) e p = absurd (cc)
 where_err (Err y) e p = p
 
--- one that was opened later is put in its key's place
-pub put_later : (from : ℕ) (x : Incident) (known all : List Incident)
-    → IsKeyed pair_cmp incident_key all → from ≤ x.opened → known ≡ filter (opened_since from) all
-    → put_row pair_cmp incident_key known x
+-- one that was opened later is put in its key's place, and else that of its key is taken out
+pub since_put : (from : ℕ) (x : Incident) (late : Bool) (known all : List Incident)
+    → late ≡ nat_le from x.opened → IsKeyed pair_cmp incident_key all
+    → known ≡ filter (opened_since from) all
+    → cond late (put_row pair_cmp incident_key known x)
+    (drop_row pair_cmp incident_key known (incident_key x))
     ≡ filter (opened_since from) (put_row pair_cmp incident_key all x)
-put_later from x known all keyed late e =
-    let later : opened_since from x ≡ true = grind (arith, ints) in
-    rw e (sym (filter_put pair_cmp incident_key pairs_total (opened_since from) all x keyed ∙ rw later refl))
-
--- the one of a key that was opened before is taken out
-pub drop_earlier : (from : ℕ) (x : Incident) (known all : List Incident)
-    → IsKeyed pair_cmp incident_key all → x.opened < from → known ≡ filter (opened_since from) all
-    → drop_row pair_cmp incident_key known (incident_key x)
-    ≡ filter (opened_since from) (put_row pair_cmp incident_key all x)
-drop_earlier from x known all keyed early e =
-    let earlier : opened_since from x ≡ false = grind (arith, ints) in
-    rw e (sym (filter_put pair_cmp incident_key pairs_total (opened_since from) all x keyed ∙ rw earlier refl))
+since_put from x late known all is keyed e =
+    let same : nat_le from x.opened ≡ opened_since from x = grind (arith, ints, nat_tests) in
+    pass_put pair_cmp incident_key pairs_total (opened_since from) known all x late (is ∙ same) keyed e
 
 -- one row more that passes
 pub put_passing : (p : Incident → Bool) (xs kept : List Incident) (i : ℕ) (x : Incident)

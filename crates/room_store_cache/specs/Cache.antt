@@ -5,6 +5,7 @@ use Rattle.room_types.specs.Keys.{numbered_cmp, turn_key}
 use Rattle.room_types.specs.Texts.{Callsign}
 use Rattle.room_types.specs.declared.tables.Turn.{Turn}
 use Rattle.room_model.specs.Room.{Room}
+use Rattle.room_store_cache.specs.Boards.{AreBoardsOf}
 use Rattle.room_store_cache.specs.Dossiers.{AreDossiersOf}
 use Rattle.room_store_cache.specs.Recent.{AreRecent}
 use Rattle.room_store_cache.specs.declared.cache.Cache.{Cache}
@@ -38,4 +39,5 @@ IsFleetOf fleet room = IsTrue fleet.is_known → HasFleetOf fleet room
 pub record IsCacheOf (cache : Cache) (room : Room) : Type 0 where
   pub fleet : IsFleetOf cache.fleet room
   pub recents : AreRecent cache.recents room
+  pub boards : AreBoardsOf cache.boards.kept.items room
   pub dossiers : AreDossiersOf cache.dossiers.kept.items room

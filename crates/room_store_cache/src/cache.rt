@@ -3,6 +3,7 @@ ghost use Rattle.std.specs.Prelude.{◌≡◌, [], None, false};
 ghost use Rattle.room_model.specs.Room.{IsInOrder, Room, apply};
 ghost use Rattle.room_store_cache.specs.Cache.{IsCacheOf};
 
+use crate::boards::Boards;
 use crate::dossiers::Dossiers;
 use crate::fleets::Fleet;
 use crate::recents::Recents;
@@ -14,6 +15,7 @@ use std::alloc::Global;
 #[derive(Drop)]
 pub struct Cache {
     pub fleet: Fleet,
+    pub boards: Boards,
     pub dossiers: Dossiers,
     pub recents: Recents,
 }
@@ -22,11 +24,13 @@ impl Cache {
     /// Nothing is known yet.
     pub fn new(alloc: Global) -> Cache
         ensures fleet { result.fleet.is_known ≡ false }
+        ensures boards { result.boards.kept.items ≡ [] }
         ensures dossiers { result.dossiers.kept.items ≡ [] }
         ensures recents { result.recents.from ≡ None }
     {
         Cache {
             fleet: Fleet::new(alloc),
+            boards: Boards::new(alloc),
             dossiers: Dossiers::new(alloc),
             recents: Recents::new(alloc),
         }
@@ -35,10 +39,12 @@ impl Cache {
     /// Nothing is known any more.
     pub fn forget(&mut self)
         ensures fleet { self.new.fleet.is_known ≡ false }
+        ensures boards { self.new.boards.kept.items ≡ [] }
         ensures dossiers { self.new.dossiers.kept.items ≡ [] }
         ensures recents { self.new.recents.from ≡ None }
     {
         self.fleet.forget();
+        self.boards.forget();
         self.dossiers.forget();
         self.recents.forget();
     }
@@ -50,6 +56,7 @@ impl Cache {
     {
         for change in changes {
             self.fleet.follow(change);
+            self.boards.follow(change);
             self.dossiers.follow(change);
             self.recents.follow(change);
         }

@@ -4,12 +4,12 @@ ghost use Rattle.room_tables_schema.specs.declared.faults.Fault.TheVariants.{Mem
 ghost use Rattle.room_model.specs.Room.{IsInOrder, Room, apply_one};
 ghost use Rattle.room_store_cache.specs.Dossiers.{AreDossiersOf, IsDossierOf};
 
-use crate::rows::put;
+use crate::rows::keep_if;
 use room_place::plans::DivisionNumber;
 use room_tables_schema::faults::Fault;
 use room_types::changes::Change;
 use room_types::numbers::Number;
-use room_types::rows::{Row, Rows};
+use room_types::rows::Rows;
 use room_types::tables::{Incident, Turn};
 use std::alloc::Global;
 
@@ -110,11 +110,8 @@ impl Dossier {
                 Ok(())
             }
             Change::PutTurn(turn) => {
-                if self.is_of(turn.division, turn.incident) {
-                    return put(&mut self.turns, turn);
-                }
-                let _ = self.turns.take(&turn.key());
-                Ok(())
+                let is_own = self.is_of(turn.division, turn.incident);
+                keep_if(is_own, &mut self.turns, turn)
             }
             _ => Ok(()),
         }

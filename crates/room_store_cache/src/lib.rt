@@ -1,7 +1,9 @@
 //! Rows that are known beside the tables: what stands of the fleet, its open turns that were met,
-//! the incidents that desks named last with their turns, and those that were opened last.
+//! what waits in a division, the incidents that desks named last with their turns, and those that
+//! were opened last.
 #![tactic(auto)]
 
+pub mod boards;
 pub mod cache;
 pub mod dossiers;
 pub mod fleets;

@@ -12,14 +12,14 @@ ghost use Rattle.room_model.specs.Room.{IsInOrder, Room, apply_one};
 ghost use Rattle.room_model.specs.Working.{names_opening};
 ghost use Rattle.room_store_cache.specs.Recent.{AreRecent, Reaches};
 
-use crate::rows::put;
+use crate::rows::{keep_if, put};
 use room_place::plans::DivisionNumber;
 use room_tables::incidents::incidents_since;
 use room_tables_schema::faults::Fault;
 use room_types::asks::CallForm;
 use room_types::changes::Change;
 use room_types::numbers::Moment;
-use room_types::rows::{Row, Rows};
+use room_types::rows::Rows;
 use room_types::tables::Incident;
 use sqlite::{Alter, Connection};
 use std::alloc::Global;
@@ -159,9 +159,8 @@ impl Recents {
         let Some(from) = self.from else {
             return;
         };
-        if incident.opened.get() < from {
-            let _ = self.incidents.take(&incident.key());
-        } else if self.incidents.put(*incident).is_err() {
+        let is_late = incident.opened.get() >= from;
+        if keep_if(is_late, &mut self.incidents, incident).is_err() {
             self.from = None;
         }
     }

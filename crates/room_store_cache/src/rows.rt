@@ -1,7 +1,7 @@
 //! Rows in key order, kept in memory.
-ghost use Rattle.std.specs.Prelude.{◌≡◌, IfErr, OnOk};
+ghost use Rattle.std.specs.Prelude.{◌≡◌, IfErr, OnOk, if◌then◌else◌};
 ghost use Rattle.room_tables_schema.specs.declared.faults.Fault.TheVariants.{Memory};
-ghost use Rattle.room_types_keyed.specs.Keyed.{put_row};
+ghost use Rattle.room_types_keyed.specs.Keyed.{drop_row, put_row};
 
 use room_tables_schema::faults::Fault;
 use room_types::rows::{Row, Rows};
@@ -15,4 +15,20 @@ pub fn put<R: Row>(rows: &mut Rows<R>, row: &R) -> Result<(), Fault>
         Ok(_) => Ok(()),
         Err(_) => Err(Fault::Memory),
     }
+}
+
+/// Puts a row in its key's place where it is kept, and else takes out the one of its key. So rows
+/// stay those of a table that pass a test, when this one is put in the table. The one fault is
+/// `Memory`.
+pub fn keep_if<R: Row>(is_kept: bool, rows: &mut Rows<R>, row: &R) -> Result<(), Fault>
+    ensures kept { OnOk result (rows.new
+        ≡ (if is_kept then put_row R.Key.cmp R.key_of rows.old row.now
+        else drop_row R.Key.cmp R.key_of rows.old (R.key_of row.now))) }
+    ensures memory { IfErr result (λ e. e ≡ Memory) }
+{
+    if is_kept {
+        return put(rows, row);
+    }
+    let _ = rows.take(&row.key());
+    Ok(())
 }

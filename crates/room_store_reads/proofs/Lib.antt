@@ -4,3 +4,4 @@ pub mod ReportTests
 pub mod ReadNumbers
 pub mod OneIncident
 pub mod CrewReads
+pub mod QueueReads

@@ -29,7 +29,7 @@ contains_cond : (n : ℕ) (b : Bool) (x : Incident) (xs : List Incident)
 contains_cond n true x xs = refl
 contains_cond n false x xs = refl
 
-passes : (b : Bool) (x : Incident) → is_some (cond b (Some x) None) ≡ b
+pub passes : (b : Bool) (x : Incident) → is_some (cond b (Some x) None) ≡ b
 passes true x = refl
 passes false x = refl
 

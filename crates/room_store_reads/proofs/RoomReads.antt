@@ -117,6 +117,16 @@ pub filter_again : {X : Type 0} (p q : X → Bool) (xs : List X)
     → filter q (filter (λ x. p x && q x) xs) ≡ filter (λ x. p x && q x) xs
 filter_again p q xs = sym (filter_and (λ x. p x && q x) q xs) ∙ filter_as _ _ xs (λ x. and_once (p x) (q x))
 
+own_again : (a b : Bool) → (a && b) && a ≡ a && b
+own_again true true = refl
+own_again true false = refl
+own_again false b = refl
+
+-- rows that were read as a division's are its own
+pub filter_owned : {X : Type 0} (own p : X → Bool) (xs : List X)
+    → filter own (filter (λ x. own x && p x) xs) ≡ filter (λ x. own x && p x) xs
+filter_owned own p xs = sym (filter_and (λ x. own x && p x) own xs) ∙ filter_as _ _ xs (λ x. own_again (own x) (p x))
+
 -- one item more is looked at
 pub any_last : {K : Type 0} (p : K → Bool) (k : K) (ks : List K)
     → any p (ks ++ k ∷ []) ≡ any p ks || p k

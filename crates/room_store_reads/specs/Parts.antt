@@ -4,6 +4,7 @@ use Rattle.room_types.specs.declared.asks.Ask.{Ask}
 use Rattle.room_types.specs.declared.tables.Incident.{Incident}
 use Rattle.room_model.specs.Room.{Room}
 use Rattle.room_model.specs.Working.{working}
+use Rattle.room_store_cache.specs.Boards.{AreBoardsOf}
 use Rattle.room_store_cache.specs.Cache.{AreRowsOf}
 use Rattle.room_store_cache.specs.Dossiers.{AreDossiersOf}
 use Rattle.room_store_cache.specs.declared.cache.Cache.{Cache}
@@ -11,9 +12,10 @@ use Rattle.room_store_cache.specs.declared.fleets.FleetRows.{FleetRows}
 use Rattle.room_store_reads.specs.Reading.{is_near}
 use Rattle.room_store_reads.specs.declared.working.Work.{Work}
 
--- what is known of the fleet and of incidents is so in the room
+-- what is known of the fleet, of what waits and of incidents is so in the room
 pub record AreKnown (known : Cache) (room : Room) : Type 0 where
   pub rows : AreRowsOf known.fleet.rows room
+  pub boards : AreBoardsOf known.boards.kept.items room
   pub dossiers : AreDossiersOf known.dossiers.kept.items room
 
 -- the division's incidents that a call may be linked to, and none for another request

@@ -1,6 +1,6 @@
 -- What a request names of the rows that it reads.
 use Rattle.std.specs.Ordering.{is_eq}
-use Rattle.std.specs.Prelude.{Bool, List, None, Option, Some, [], false, int_le, int_lt, pos, ℕ, ◌&&◌, ◌==◌, ◌||◌, ◌∷◌, ◌≡◌}
+use Rattle.std.specs.Prelude.{Bool, List, None, Option, Some, [], false, int_le, int_lt, pos, ℕ, ◌&&◌, ◌==◌, ◌||◌, ◌∷◌}
 use Rattle.room_types.specs.Codes.{is_active}
 use Rattle.room_types.specs.Keys.{numbered_cmp, same_callsign, turn_key}
 use Rattle.room_types.specs.Texts.{Callsign}
@@ -10,7 +10,7 @@ use Rattle.room_types.specs.declared.tables.Incident.{Incident}
 use Rattle.room_types.specs.declared.tables.Turn.{Turn}
 use Rattle.room_model.specs.Queries.{held}
 use Rattle.room_model.specs.Room.{Room}
-use Rattle.room_model.specs.Working.{is_last_turn, names_incident, names_opening, names_turn, reads_active}
+use Rattle.room_model.specs.Working.{is_last_turn, names_opening}
 use Rattle.room_store_reads.specs.declared.naming.IncidentPart.{IncidentPart}
 use Rattle.room_store_reads.specs.declared.naming.IncidentPart.TheVariants.{Active, Between, Nothing, Numbered}
 
@@ -60,10 +60,3 @@ is_last_of d (Some c) room t = is_last_turn (held d c room) t
 abbrev pub is_turn : Option (Callsign × ℕ) → Turn → Bool
 is_turn None t = false
 is_turn (Some k) t = is_eq (numbered_cmp k (turn_key t))
-
--- it reads the incident of this number, with its turns, and no other
-pub record IsOfOne (a : Ask) (n : ℕ) : Type 0 where
-  pub active : reads_active a ≡ false
-  pub named : (m : ℕ) → names_incident a m ≡ n == m
-  pub opened : (at : ℕ) (i : Incident) → names_opening a at i ≡ false
-  pub sent : (d : ℕ) (r : Room) (t : Turn) → names_turn d a r t ≡ false

@@ -1,4 +1,4 @@
-//! Parts of a division's rows that a dossier has, or an index or a key finds, and the load of all
+//! Parts of a division's rows that are known, or that an index or a key finds, and the load of all
 //! that are in some.
 ghost use Rattle.std.specs.Prelude.{◌≡◌, ◌==◌, ◌&&◌, ℕ, Bool, filter, not, IsTrue};
 ghost use Rattle.sqlite.specs.Held.{state};
@@ -8,14 +8,14 @@ ghost use Rattle.room_types_keyed.specs.Keyed.{IsKeyed};
 ghost use Rattle.room_tables.specs.Finding.{Finds};
 ghost use Rattle.room_tables_schema.specs.Connections.{HasRoomSchema};
 ghost use Rattle.room_tables_sql.specs.Outcomes.{ReadsOnly};
-ghost use Rattle.room_store_cache.specs.Dossiers.{AreDossiersOf};
+ghost use Rattle.room_store_reads.specs.Parts.{AreKnown};
 ghost use Rattle.room_store_reads.specs.Reading.{any, is_part};
 
 use crate::extents::{load_one, own_rows};
 use crate::naming::IncidentPart;
 use crate::unions::{add_all, listed};
 use room_place::plans::DivisionNumber;
-use room_store_cache::dossiers::Dossiers;
+use room_store_cache::cache::Cache;
 use room_tables::calls::calls_of;
 use room_tables::incidents::{active_incidents, incidents_opened};
 use room_tables::reports::uncleared_reports;
@@ -41,7 +41,7 @@ pub trait Parted: Table {
     fn load_part<S: Alter>(
         alloc: Global,
         conn: &mut Connection<S>,
-        dossiers: &Dossiers,
+        known: &Cache,
         division: DivisionNumber,
         part: &Self::Part,
     ) -> Result<Rows<Self>, Fault>
@@ -49,7 +49,7 @@ pub trait Parted: Table {
         requires open { HasCleanDisk (state S.Store conn.old)
             → IsTrue (state S.Store conn.old).is_open }
         ensures rows { Finds S.Store conn.old conn.new result (λ room x.
-            AreDossiersOf dossiers.now.kept.items room
+            AreKnown known.now room
             → IsKeyed Self.Key.cmp Self.key_of (Self.rows room)
             → x ≡ filter (is_in division part.now) (Self.rows room)) }
         ensures reads { ReadsOnly S.Store conn.old conn.new result };
@@ -59,7 +59,7 @@ pub trait Parted: Table {
 pub fn load_parts<R: Parted, S: Alter>(
     alloc: Global,
     conn: &mut Connection<S>,
-    dossiers: &Dossiers,
+    known: &Cache,
     division: DivisionNumber,
     parts: &[R::Part],
 ) -> Result<Rows<R>, Fault>
@@ -67,13 +67,13 @@ pub fn load_parts<R: Parted, S: Alter>(
     requires open { HasCleanDisk (state S.Store conn.old)
         → IsTrue (state S.Store conn.old).is_open }
     ensures rows { Finds S.Store conn.old conn.new result (λ room x.
-        AreDossiersOf dossiers.now.kept.items room → IsKeyed R.Key.cmp R.key_of (R.rows room)
+        AreKnown known.now room → IsKeyed R.Key.cmp R.key_of (R.rows room)
         → x ≡ filter (λ y. any (λ p. R.is_in division p y) parts.now) (R.rows room)) }
     ensures reads { ReadsOnly S.Store conn.old conn.new result }
 {
     let mut rows = Rows::new(alloc);
     for part in parts {
-        let more = R::load_part::<S>(alloc, conn, dossiers, division, part)?;
+        let more = R::load_part::<S>(alloc, conn, known, division, part)?;
         add_all(&mut rows, &more)?;
     }
     Ok(rows)
@@ -88,7 +88,7 @@ impl Parted for Call {
     fn load_part<S: Alter>(
         alloc: Global,
         conn: &mut Connection<S>,
-        _dossiers: &Dossiers,
+        _known: &Cache,
         division: DivisionNumber,
         part: &Number,
     ) -> Result<Rows<Call>, Fault> {
@@ -105,11 +105,11 @@ impl Parted for Turn {
     fn load_part<S: Alter>(
         alloc: Global,
         conn: &mut Connection<S>,
-        dossiers: &Dossiers,
+        known: &Cache,
         division: DivisionNumber,
         part: &Number,
     ) -> Result<Rows<Turn>, Fault> {
-        match dossiers.get(division, *part) {
+        match known.dossiers.get(division, *part) {
             Some(dossier) => own_rows(alloc, &dossier.turns, division),
             None => turns_of(alloc, conn, division, *part),
         }
@@ -126,7 +126,7 @@ impl Parted for Report {
     fn load_part<S: Alter>(
         alloc: Global,
         conn: &mut Connection<S>,
-        _dossiers: &Dossiers,
+        _known: &Cache,
         division: DivisionNumber,
         part: &Outcome,
     ) -> Result<Rows<Report>, Fault> {
@@ -143,14 +143,17 @@ impl Parted for Incident {
     fn load_part<S: Alter>(
         alloc: Global,
         conn: &mut Connection<S>,
-        dossiers: &Dossiers,
+        known: &Cache,
         division: DivisionNumber,
         part: &IncidentPart,
     ) -> Result<Rows<Incident>, Fault> {
         match part {
-            IncidentPart::Active => active_incidents(alloc, conn, division),
+            IncidentPart::Active => match known.boards.get(division) {
+                Some(board) => own_rows(alloc, &board.incidents, division),
+                None => active_incidents(alloc, conn, division),
+            },
             IncidentPart::Between(from, to) => incidents_opened(alloc, conn, *from, *to, division),
-            IncidentPart::Numbered(number) => match dossiers.get(division, *number) {
+            IncidentPart::Numbered(number) => match known.dossiers.get(division, *number) {
                 Some(dossier) => listed(alloc, dossier.incident),
                 None => load_one::<Incident, S>(alloc, conn, division, &(division, *number)),
             },

@@ -14,11 +14,10 @@ ghost use Rattle.room_model.specs.Working.{is_last_turn, reads_active, reads_inc
 ghost use Rattle.room_tables_schema.specs.declared.faults.Fault.TheVariants.{Memory};
 ghost use Rattle.room_tables_schema.specs.Connections.{HasRoomSchema};
 ghost use Rattle.room_store_cache.specs.Cache.{AreRowsOf};
-ghost use Rattle.room_store_cache.specs.Dossiers.{AreDossiersOf};
 ghost use Rattle.room_store_reads.specs.Parts.{AreKnown, AreNear, IsHeld, IsWork};
 ghost use Rattle.room_store_reads.specs.Reading.{contains, is_number, is_turn};
 
-use crate::extents::{load_one, owned_row, part_of};
+use crate::extents::{load_one, own_rows, owned_row, part_of};
 use crate::naming::{
     assignments_read, calls_read, divisions_read, incidents_read, loans_read, named_incidents,
     named_report, offers_read, points_read, reads_active, reads_exceptions, stood_down,
@@ -28,7 +27,6 @@ use crate::parts::load_parts;
 use crate::unions::add_all;
 use room_place::plans::DivisionNumber;
 use room_store_cache::cache::Cache;
-use room_store_cache::dossiers::Dossiers;
 use room_store_cache::fleets::FleetRows;
 use room_tables_schema::faults::Fault;
 use room_types::asks::Ask;
@@ -101,7 +99,7 @@ fn held_part(
 fn load_reports<S: Alter>(
     alloc: Global,
     conn: &mut Connection<S>,
-    dossiers: &Dossiers,
+    known: &Cache,
     division: DivisionNumber,
     ask: &Ask,
 ) -> Result<Rows<Report>, Fault>
@@ -109,12 +107,15 @@ fn load_reports<S: Alter>(
     requires open { HasCleanDisk (state S.Store conn.old)
         → IsTrue (state S.Store conn.old).is_open }
     ensures rows { Finds S.Store conn.old conn.new result (λ room x. IsInOrder room
-        → AreDossiersOf dossiers.now.kept.items room
+        → AreKnown known.now room
         → x ≡ filter (λ y. y.division == division && reads_report ask.now y) room.reports) }
     ensures reads { ReadsOnly S.Store conn.old conn.new result }
 {
     if reads_exceptions(ask) {
-        return load_parts::<Report, S>(alloc, conn, dossiers, division, &EXCEPTIONS);
+        return match known.boards.get(division) {
+            Some(board) => own_rows(alloc, &board.exceptions, division),
+            None => load_parts::<Report, S>(alloc, conn, known, division, &EXCEPTIONS),
+        };
     }
     match named_report(ask) {
         Some(named) => load_one::<Report, S>(alloc, conn, division, &named),
@@ -158,9 +159,9 @@ fn load_work<S: Alter>(
     let incidents = load_incidents(alloc, conn, division, ask, known, near)?;
     let numbers = numbers_read(alloc, ask, &incidents)?;
     let of_calls = calls_read(ask, numbers.as_slice());
-    let calls = load_parts::<Call, S>(alloc, conn, &known.dossiers, division, of_calls)?;
+    let calls = load_parts::<Call, S>(alloc, conn, known, division, of_calls)?;
     let turns = load_turns(alloc, conn, division, ask, known, numbers.as_slice())?;
-    let reports = load_reports(alloc, conn, &known.dossiers, division, ask)?;
+    let reports = load_reports(alloc, conn, known, division, ask)?;
     Ok(Work {
         incidents,
         calls,
@@ -188,7 +189,7 @@ fn load_incidents<S: Alter>(
     let mut incidents = load_parts::<Incident, S>(
         alloc,
         conn,
-        &known.dossiers,
+        known,
         division,
         &incidents_read(ask),
     )?;
@@ -264,7 +265,7 @@ fn load_turns<S: Alter>(
 {
     match stood_down(ask) {
         Some(callsign) => last_turn(alloc, conn, division, known.fleet.rows(), &callsign),
-        None => load_parts::<Turn, S>(alloc, conn, &known.dossiers, division, numbers),
+        None => load_parts::<Turn, S>(alloc, conn, known, division, numbers),
     }
 }
 

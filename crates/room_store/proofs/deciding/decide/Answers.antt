@@ -14,14 +14,14 @@ returns-clause-decided g c clean =
     let first : HasCleanDisk (state g.S.Store c.know.new.conn) = omega (arith, c.decide_known.ensures.reads.survives.clean) in
     IfOk-weaker c.decide_known.result _ _ (λ x told house room h.
     let fleet = c.in_ok-know.ensures.known first house room h.stands h.cache.fleet in
-    told house room (kept _ _ (c.in_ok-know.ensures.reads.ok first) house room h.stands) h.formed h.plan h.addressed fleet (record { fleet = λ _. fleet; dossiers = h.cache.dossiers; recents = h.cache.recents })) (c.decide_known.ensures.decided clean)
+    told house room (kept _ _ (c.in_ok-know.ensures.reads.ok first) house room h.stands) h.formed h.plan h.addressed fleet (record { fleet = λ _. fleet; boards = h.cache.boards; dossiers = h.cache.dossiers; recents = h.cache.recents })) (c.decide_known.ensures.decided clean)
 
 pub returns-clause-cache : goal.returns-clause-cache
 returns-clause-cache g c clean =
     let first : HasCleanDisk (state g.S.Store c.know.new.conn) = omega (arith, c.decide_known.ensures.reads.survives.clean) in
     IfOk-weaker c.decide_known.result _ _ (λ x now house room h.
     let fleet = c.in_ok-know.ensures.known first house room h.stands h.cache.fleet in
-    now house room (kept _ _ (c.in_ok-know.ensures.reads.ok first) house room h.stands) h.formed h.plan h.addressed fleet (record { fleet = λ _. fleet; dossiers = h.cache.dossiers; recents = h.cache.recents })) (c.decide_known.ensures.cache clean)
+    now house room (kept _ _ (c.in_ok-know.ensures.reads.ok first) house room h.stands) h.formed h.plan h.addressed fleet (record { fleet = λ _. fleet; boards = h.cache.boards; dossiers = h.cache.dossiers; recents = h.cache.recents })) (c.decide_known.ensures.cache clean)
 
 pub returns-in_err-know-clause-reads : goal.returns-in_err-know-clause-reads
 returns-in_err-know-clause-reads g c = fails c.from_residual.ensures.0 c.in_err-know.ensures.reads

@@ -6,16 +6,14 @@ use Rattle.room_store.proofs.deciding.decide_known.Goals as goal
 
 pub returns-in-Desk-clause-decided : goal.returns-in-Desk-clause-decided
 returns-in-Desk-clause-decided g c clean = IfOk-weaker c.for_division.result _ _ (λ x told house room h formed planned addressed fleet is.
-    told house room h formed planned (rw c.in-Desk.is refl) (record { rows = fleet.rows; dossiers = is.dossiers })
+    told house room h formed planned (rw c.in-Desk.is refl) (record { rows = fleet.rows; boards = is.boards; dossiers = is.dossiers })
     (c.new-near.ensures ∙ sym (desk_near c.in-Desk.division c.args.event.now c.in-Desk.is room addressed c.in-Desk.division))) (c.for_division.ensures.decided clean)
 
 pub returns-in-Desk-clause-cache : goal.returns-in-Desk-clause-cache
-returns-in-Desk-clause-cache g c clean = IfOk-weaker c.for_division.result _ _ (λ x learnt house room h formed planned addressed fleet is. record {
-  fleet = λ _. rw c.for_division.ensures.fleet fleet;
-  dossiers = learnt house room h formed (record { rows = fleet.rows; dossiers = is.dossiers })
-      (c.new-near.ensures ∙ sym (desk_near c.in-Desk.division c.args.event.now c.in-Desk.is room addressed c.in-Desk.division));
-  recents = rw c.for_division.ensures.recents is.recents;
-}) (c.for_division.ensures.dossiers clean)
+returns-in-Desk-clause-cache g c clean = IfOk-weaker c.for_division.result _ _ (λ x learnt house room h formed planned addressed fleet is.
+    let now = learnt house room h formed (record { rows = fleet.rows; boards = is.boards; dossiers = is.dossiers })
+    (c.new-near.ensures ∙ sym (desk_near c.in-Desk.division c.args.event.now c.in-Desk.is room addressed c.in-Desk.division)) in
+    record { fleet = λ _. rw c.for_division.ensures.fleet fleet; boards = now.boards; dossiers = now.dossiers; recents = rw c.for_division.ensures.recents is.recents }) (c.for_division.ensures.known clean)
 
 pub returns-in-Crew-clause-decided : goal.returns-in-Crew-clause-decided
 returns-in-Crew-clause-decided g c clean = IfOk-weaker c.for_crew.result _ _ (λ x told house room h formed planned addressed fleet is.
@@ -23,7 +21,7 @@ returns-in-Crew-clause-decided g c clean = IfOk-weaker c.for_crew.result _ _ (λ
 
 pub returns-in-Crew-clause-cache : goal.returns-in-Crew-clause-cache
 returns-in-Crew-clause-cache g c clean = IfOk-weaker c.for_crew.result _ _ (λ x known house room h formed planned addressed fleet is.
-    record { fleet = λ _. known house room h fleet; dossiers = is.dossiers; recents = is.recents }) (c.for_crew.ensures.known clean)
+    record { fleet = λ _. known house room h fleet; boards = is.boards; dossiers = is.dossiers; recents = is.recents }) (c.for_crew.ensures.known clean)
 
 pub returns-in-Call-clause-decided : goal.returns-in-Call-clause-decided
 returns-in-Call-clause-decided g c clean = IfOk-weaker c.for_call.result _ _ (λ x told house room h formed planned addressed fleet is.

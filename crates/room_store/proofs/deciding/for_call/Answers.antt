@@ -30,7 +30,7 @@ returns-in_ok-near-in-Some-division_of-clause-decided g c clean =
     decides house room later formed planned
     (is_in c.args.event.now c.args.position c.args.form.now c.args.plan.now.areas room planned who ask c.in_ok-found.found (c.in_ok-found.ensures.row first house room h)
     c.division_of.result c.division_of.ensures.value c.in-Some-division_of.division c.in-None.is c.in-Some-division_of.is)
-    (record { rows = fleet.rows; dossiers = is.dossiers }) (rw ask near)) (c.for_division.ensures.decided clean)
+    (record { rows = fleet.rows; boards = is.boards; dossiers = is.dossiers }) (rw ask near)) (c.for_division.ensures.decided clean)
 
 pub returns-in_ok-near-in-Some-division_of-clause-cache : goal.returns-in_ok-near-in-Some-division_of-clause-cache
 returns-in_ok-near-in-Some-division_of-clause-cache g c clean =
@@ -41,11 +41,13 @@ returns-in_ok-near-in-Some-division_of-clause-cache g c clean =
     let there = kept _ _ (one.ok first) house room h in
     let later = kept _ _ ((and one c.in_ok-near-in-Some-division_of.ensures.reads).ok second) house room h in
     let near = c.in_ok-near-in-Some-division_of.ensures.rows second house room there is.recents in
+    let now = learnt house room later formed (record { rows = fleet.rows; boards = is.boards; dossiers = is.dossiers }) (rw ask near) in
     record {
       fleet = λ _. rw c.for_division.ensures.fleet fleet;
-      dossiers = learnt house room later formed (record { rows = fleet.rows; dossiers = is.dossiers }) (rw ask near);
+      boards = now.boards;
+      dossiers = now.dossiers;
       recents = rw c.for_division.ensures.recents (c.in_ok-near-in-Some-division_of.ensures.kept second house room there is.recents);
-    }) (c.for_division.ensures.dossiers clean)
+    }) (c.for_division.ensures.known clean)
 
 pub returns-in-None-division_of-clause-decided : goal.returns-in-None-division_of-clause-decided
 returns-in-None-division_of-clause-decided g c clean house room h formed planned who ask _ _ =

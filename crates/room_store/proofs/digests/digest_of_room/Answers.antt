@@ -40,7 +40,7 @@ pub returns-in-Err-clause-same : goal.returns-in-Err-clause-same
 returns-in-Err-clause-same g c clean terminals room is =
     let left : Leaves (state g.S.Store c.args.store.now.conn) (state g.S.Store c.test_file.new.self.conn) =
     rw c.test_file.ensures.conn (left_failed _ _ (outside c.is_autocommit.result _ c.requires.ready.outside c.is_autocommit.ensures.value c.is_autocommit.ensures.settled) (c.in-Err.ensures.reads.err (rw c.test_file.ensures.conn at clean))) in
-    room_left g.S.Store c.args.store.now c.test_file.new.self terminals room left c.test_file.ensures.plan (rw c.test_file.ensures.known is.known) (knows_nothing c.test_file.new.self.cache room c.test_file.ensures.fleet c.test_file.ensures.dossiers c.test_file.ensures.recents) is
+    room_left g.S.Store c.args.store.now c.test_file.new.self terminals room left c.test_file.ensures.plan (rw c.test_file.ensures.known is.known) (knows_nothing c.test_file.new.self.cache room c.test_file.ensures.fleet c.test_file.ensures.boards c.test_file.ensures.dossiers c.test_file.ensures.recents) is
 
 pub returns-in-Err-clause-left : goal.returns-in-Err-clause-left
 returns-in-Err-clause-left g c clean kept terminals room is =

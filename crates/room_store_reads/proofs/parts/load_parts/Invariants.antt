@@ -6,7 +6,7 @@ use Rattle.room_model.specs.Room.{Room}
 use Rattle.room_tables.specs.Stands.{House, Stands}
 use Rattle.room_tables_sql.proofs.ReadLaws.{Looked}
 use Rattle.room_types_keyed.specs.Keyed.{IsKeyed}
-use Rattle.room_store_cache.specs.Dossiers.{AreDossiersOf}
+use Rattle.room_store_reads.specs.Parts.{AreKnown}
 use Rattle.room_store_reads.specs.Reading.{any}
 use Rattle.room_store_reads.proofs.parts.load_parts.Given as goal
 
@@ -17,5 +17,5 @@ invariant-loop-part g l =
     record {
       looked : Looked g.S.Store l.fn.conn l.conn;
       rows : HasCleanDisk (state g.S.Store l.conn) → (house : House) (room : Room) → Stands (state g.S.Store l.fn.conn).now.trees house room
-          → AreDossiersOf l.dossiers.kept.items room → IsKeyed g.R.Key.Ord.cmp g.R.Row.key_of (table room) → l.rows ≡ filter (λ x. any (λ p. g.R.Parted.is_in l.division p x) seen) (table room);
+          → AreKnown l.known room → IsKeyed g.R.Key.Ord.cmp g.R.Row.key_of (table room) → l.rows ≡ filter (λ x. any (λ p. g.R.Parted.is_in l.division p x) seen) (table room);
     }

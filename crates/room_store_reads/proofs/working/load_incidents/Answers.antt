@@ -9,7 +9,7 @@ pub returns-clause-rows : goal.returns-clause-rows
 returns-clause-rows g c clean house room h in_order at are near =
     let d = c.args.division in
     let a = c.args.ask.now in
-    let asked = c.in_ok-incidents.ensures.rows clean house room h are.dossiers in_order.incidents in
+    let asked = c.in_ok-incidents.ensures.rows clean house room h are in_order.incidents in
     c.in_ok-add_all.ensures.either room.incidents (λ i. any (λ p. i.division == d && is_part p i) c.incidents_read.result) (λ i. i.division == d && is_near a at i) in_order.incidents asked near
     ∙ filter_as _ _ room.incidents (λ i. c.incidents_read.ensures d at i)
 

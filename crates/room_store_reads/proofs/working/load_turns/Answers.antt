@@ -19,6 +19,6 @@ returns-in-None-clause-rows g c clean =
     let d = c.args.division in
     let a = c.args.ask.now in
     IfOk-weaker c.load_parts.result _ _ (λ x found house room h in_order are numbers.
-    found house room h are.dossiers in_order.turns ∙ filter_as _ _ room.turns (λ t.
+    found house room h are in_order.turns ∙ filter_as _ _ room.turns (λ t.
     let unnamed : names_turn d a room t ≡ false = c.stood_down.ensures.turn d room t ∙ rw c.in-None.is refl in
     own_contains (t.division == d) t.incident c.args.numbers.now ∙ ap (λ b. (t.division == d) && b) (numbers t.incident ∙ sym (or_none (reads_number d a room t.incident)) ∙ ap (λ b. reads_number d a room t.incident || b) (sym unnamed)))) (c.load_parts.ensures.rows clean)

@@ -32,14 +32,14 @@ returns-clause-rows g c clean house room h in_order at are near =
     let incidents = c.in_ok-incidents.ensures.rows first house room h in_order at are near in
     let numbers = c.in_ok-numbers.ensures.ok d at room in_order incidents in
     let seen : (n : ℕ) → contains n c.as_slice.result.now ≡ reads_number d a room n = rw c.as_slice.ensures.value numbers in
-    let calls = c.in_ok-calls.ensures.rows second house room (kept start (state g.S.Store c.load_incidents.new.conn) (one.ok first) house room h) are.dossiers in_order.calls in
+    let calls = c.in_ok-calls.ensures.rows second house room (kept start (state g.S.Store c.load_incidents.new.conn) (one.ok first) house room h) are in_order.calls in
     let turns = c.in_ok-turns.ensures.rows third house room (kept start (state g.S.Store c.load_parts.new.conn) (two.ok second) house room h) in_order are in
     record {
       incidents = incidents;
       calls = calls ∙ filter_as _ _ room.calls (λ x. own_contains (x.division == d) x.incident c.calls_read-of_calls.result.now
           ∙ ap (λ b. (x.division == d) && b) (c.calls_read-of_calls.ensures x.incident ∙ ap (λ b. reads_calls a && b) (seen x.incident)));
       turns = turns (rw c.as_slice-2.ensures.value numbers);
-      reports = c.in_ok-reports.ensures.rows clean house room (kept start (state g.S.Store c.load_turns.new.conn) (three.ok third) house room h) in_order are.dossiers;
+      reports = c.in_ok-reports.ensures.rows clean house room (kept start (state g.S.Store c.load_turns.new.conn) (three.ok third) house room h) in_order are;
     }
 
 pub returns-in_err-incidents-clause-reads : goal.returns-in_err-incidents-clause-reads

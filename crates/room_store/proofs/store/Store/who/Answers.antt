@@ -57,7 +57,7 @@ returns-in-Err-terminal_at-clause-leaves g c clean = rw c.test_file.ensures.conn
 
 pub returns-in-Err-terminal_at-clause-same : goal.returns-in-Err-terminal_at-clause-same
 returns-in-Err-terminal_at-clause-same g c clean terminals room is =
-    room_left g.S.Store c.args.self.now c.test_file.new.self terminals room (returns-in-Err-terminal_at-clause-leaves g c clean) c.test_file.ensures.plan (rw c.test_file.ensures.known is.known) (knows_nothing c.test_file.new.self.cache room c.test_file.ensures.fleet c.test_file.ensures.dossiers c.test_file.ensures.recents) is
+    room_left g.S.Store c.args.self.now c.test_file.new.self terminals room (returns-in-Err-terminal_at-clause-leaves g c clean) c.test_file.ensures.plan (rw c.test_file.ensures.known is.known) (knows_nothing c.test_file.new.self.cache room c.test_file.ensures.fleet c.test_file.ensures.boards c.test_file.ensures.dossiers c.test_file.ensures.recents) is
 
 pub returns-in-Err-terminal_at-clause-survives : goal.returns-in-Err-terminal_at-clause-survives
 returns-in-Err-terminal_at-clause-survives g c = rw c.test_file.ensures.conn c.terminal_at.ensures.reads.survives

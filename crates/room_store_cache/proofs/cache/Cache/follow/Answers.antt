@@ -22,6 +22,7 @@ loop-change-preserved c room in_order known =
     let then = in_order_apply room (take i cs) in_order in
     subst (IsCacheOf _) (sym (ap (apply room) more ∙ apply_last room (take i cs) x)) (record {
       fleet = c.follow.ensures _ then before.fleet;
-      dossiers = c.follow-in-loop-change.ensures _ then before.dossiers;
-      recents = c.follow-in-loop-change-2.ensures _ then before.recents;
+      boards = c.follow-in-loop-change.ensures _ then before.boards;
+      dossiers = c.follow-in-loop-change-2.ensures _ then before.dossiers;
+      recents = c.follow-in-loop-change-3.ensures _ then before.recents;
     })

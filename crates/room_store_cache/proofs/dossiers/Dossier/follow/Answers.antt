@@ -14,12 +14,8 @@ pub returns-else-is_of-clause-dossier : goal.returns-else-is_of-clause-dossier
 returns-else-is_of-clause-dossier c room in_order known =
     rw c.in-PutIncident.is (incident_put c.args.self.now c.in-PutIncident.incident room false (sym c.if-is_of.false ∙ c.is_of.ensures) known)
 
-pub returns-then-is_of-2-clause-dossier : goal.returns-then-is_of-2-clause-dossier
-returns-then-is_of-2-clause-dossier c =
+pub returns-in-PutTurn-clause-dossier : goal.returns-in-PutTurn-clause-dossier
+returns-in-PutTurn-clause-dossier c =
     let x = c.args.self.now in
     let t = c.in-PutTurn.turn in
-    on_ok_weaker c.put.result (λ put room in_order known. rw c.in-PutTurn.is (subst (λ rows. IsDossierOf (record x { turns = rows }) (apply_one room (PutTurn t))) (sym put) (turn_put x t room true (sym c.if-is_of-2.true ∙ c.is_of-in-PutTurn.ensures) in_order known))) c.put.ensures.put
-
-pub returns-else-is_of-2-clause-dossier : goal.returns-else-is_of-2-clause-dossier
-returns-else-is_of-2-clause-dossier c room in_order known =
-    rw (c.in-PutTurn.is, c.take.ensures.removed, c.key.ensures) (turn_put c.args.self.now c.in-PutTurn.turn room false (sym c.if-is_of-2.false ∙ c.is_of-in-PutTurn.ensures) in_order known)
+    on_ok_weaker c.keep_if.result (λ kept room in_order known. rw c.in-PutTurn.is (subst (λ rows. IsDossierOf (record x { turns = rows }) (apply_one room (PutTurn t))) (sym kept) (turn_put x t room _ c.is_of-is_own.ensures in_order known))) c.keep_if.ensures.kept

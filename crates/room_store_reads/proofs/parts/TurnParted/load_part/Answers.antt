@@ -9,7 +9,7 @@ use Rattle.room_store_reads.proofs.parts.TurnParted.load_part.Goals as goal
 pub returns-in-Some-clause-rows : goal.returns-in-Some-clause-rows
 returns-in-Some-clause-rows g c clean =
     IfOk-weaker c.own_rows.result _ _ (λ x own house room h are keyed.
-    let kept = rw c.in-Some.is at c.get.ensures room are in
+    let kept = rw c.in-Some.is at c.get.ensures room are.dossiers in
     let turns = rw (kept.0, kept.1) at kept.2.turns in
     rw turns at own ∙ filter_again (λ t. t.incident == c.args.part.now) (owns_turn c.args.division) room.turns) c.own_rows.ensures.rows
 
