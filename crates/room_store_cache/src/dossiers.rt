@@ -1,4 +1,4 @@
-//! Incidents that desks named last, each with all its turns.
+//! Active incidents that desks named last, each with all its turns.
 ghost use Rattle.std.specs.Prelude.{◌≡◌, ◌==◌, ◌&&◌, [], IfErr, IfSome, OnOk};
 ghost use Rattle.room_tables_schema.specs.declared.faults.Fault.TheVariants.{Memory};
 ghost use Rattle.room_model.specs.Room.{IsInOrder, Room, apply_one};
@@ -28,9 +28,8 @@ pub struct Dossier {
 /// Some dossiers of the room.
 #[derive(Drop)]
 pub struct Dossiers {
+    // In the order in which they were kept.
     kept: Vec<Dossier>,
-    // Whose place the next one takes, where no more may be kept.
-    oldest: usize,
 }
 
 impl Dossiers {
@@ -40,7 +39,6 @@ impl Dossiers {
     {
         Dossiers {
             kept: Vec::new(alloc),
-            oldest: 0,
         }
     }
 
@@ -49,7 +47,6 @@ impl Dossiers {
         ensures { self.new.kept.items ≡ [] }
     {
         self.kept.clear();
-        self.oldest = 0;
     }
 
     /// The dossier of a division's number, if it is kept.
@@ -71,23 +68,47 @@ impl Dossiers {
         ensures { (room : Room) → AreDossiersOf self.old.kept.items room → IsDossierOf dossier room
             → AreDossiersOf self.new.kept.items room }
     {
-        if self.kept.len() < MOST {
-            let _ = self.kept.push(dossier);
-            return;
+        if self.kept.len() == MOST {
+            drop(self.kept.remove(0));
         }
-        let place = self.oldest % MOST;
-        self.kept[place] = dossier;
-        self.oldest = place + 1;
+        let _ = self.kept.push(dossier);
     }
 
-    /// What is kept after a change of the room: nothing, where memory is refused.
+    /// What is kept after a change of the room: nothing, where memory is refused. An incident that
+    /// is active no more is let go.
     pub fn follow(&mut self, change: &Change)
+        ensures { (room : Room) → IsInOrder room → AreDossiersOf self.old.kept.items room
+            → AreDossiersOf self.new.kept.items (apply_one room change.now) }
+    {
+        if let Change::PutIncident(incident) = change
+            && !incident.state.is_active()
+        {
+            self.let_go(incident.division, incident.number);
+        }
+        self.follow_each(change);
+    }
+
+    // The dossiers after a change of the room: none, where memory is refused.
+    fn follow_each(&mut self, change: &Change)
         ensures { (room : Room) → IsInOrder room → AreDossiersOf self.old.kept.items room
             → AreDossiersOf self.new.kept.items (apply_one room change.now) }
     {
         for at in 0..self.kept.len() {
             if self.kept[at].follow(change).is_err() {
                 self.forget();
+                return;
+            }
+        }
+    }
+
+    // Lets the dossier of a division's number go.
+    fn let_go(&mut self, division: DivisionNumber, number: Number)
+        ensures { (room : Room) → AreDossiersOf self.old.kept.items room
+            → AreDossiersOf self.new.kept.items room }
+    {
+        for at in 0..self.kept.len() {
+            if self.kept[at].is_of(division, number) {
+                drop(self.kept.remove(at));
                 return;
             }
         }

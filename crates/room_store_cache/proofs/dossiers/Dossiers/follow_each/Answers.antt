@@ -3,7 +3,7 @@ use Rattle.room_model.specs.Room.{apply_one}
 use Rattle.room_store_cache.proofs.KeptLaws.{one_follows, others_stay}
 use Rattle.room_store_cache.proofs.RecentLaws.{where_ok}
 use Rattle.room_store_cache.specs.Dossiers.{IsDossierOf}
-use Rattle.room_store_cache.proofs.dossiers.Dossiers.follow.Goals as goal
+use Rattle.room_store_cache.proofs.dossiers.Dossiers.follow_each.Goals as goal
 
 pub loop-at-preserved : goal.loop-at-preserved
 loop-at-preserved c =

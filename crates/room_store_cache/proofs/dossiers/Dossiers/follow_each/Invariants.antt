@@ -2,7 +2,7 @@ use Rattle.std.proofs.Common.{length, ◌≡◌}
 use Rattle.std.specs.List.{AllWithin}
 use Rattle.room_model.specs.Room.{IsInOrder, Room, apply_one}
 use Rattle.room_store_cache.specs.Dossiers.{AreDossiersOf, IsDossierOf}
-use Rattle.room_store_cache.proofs.dossiers.Dossiers.follow.Given as goal
+use Rattle.room_store_cache.proofs.dossiers.Dossiers.follow_each.Given as goal
 
 abbrev pub invariant-loop-at : goal.invariant-loop-at
 invariant-loop-at l = record {
