@@ -177,7 +177,7 @@ class Check(TestCase):
 
     def test_bytes_behind_the_end(self):
         whole = run('check', self.room)
-        for count, told in [(1, whole), (1023, whole), (1024, (3, '', 'storage\n'))]:
+        for count, told in [(1, whole), (511, whole), (512, (3, '', 'storage\n'))]:
             changed = self.copy()
             with changed.open('ab') as file:
                 file.write(bytes(count))

@@ -122,7 +122,7 @@ class Served(OperatingTestCase):
 
     def test_one_after_the_other(self):
         """A file and a log of two moments are no room."""
-        with self.called(1000) as (port, _):
+        with self.called(10000) as (port, _):
             shutil.copy(self.room, self.copy)
             size, serial = self.room.stat().st_size, 1
             while self.room.stat().st_size == size:
@@ -202,10 +202,11 @@ class NotServed(OperatingTestCase):
         self.check(f'{name}: its rows', dump(copy), before)
 
     def test_other_pages(self):
-        """A room has pages of 1 KiB. A copy with others is the same room, and is served as it is."""
+        """A room has pages of 512 bytes. A copy with others is the same room, and is served as it
+        is."""
         self.end()
-        self.check('the pages of a room', sql(self.room, 'PRAGMA page_size'), '1024\n')
-        for size in [4096, 1024]:
+        self.check('the pages of a room', sql(self.room, 'PRAGMA page_size'), '512\n')
+        for size in [4096, 512]:
             told = sql(self.room, f"PRAGMA page_size = {size}; VACUUM INTO '{self.copy}'")
             self.check('what sqlite3 says', told, '')
             self.check('its rows', dump(self.copy), dump(self.room))

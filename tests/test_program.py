@@ -241,7 +241,7 @@ class Import(TestCase):
     def test_into_no_database(self):
         """An empty file, and one whose first page is not finished, as its first byte is written
         last."""
-        for what, held in [('an empty file', b''), ('a begun file', bytes(1024))]:
+        for what, held in [('an empty file', b''), ('a begun file', bytes(512))]:
             room = self.folder / 'none.db'
             room.write_bytes(held)
             self.check(f'import into {what}', run('import', room, FLEET),

@@ -67,13 +67,13 @@ KEYS = {("INTEGER",): NUMBER, ("TEXT",): TEXT, ("INTEGER", "INTEGER"): PAIR, ("T
 
 # The rows of a table: their type, and which of its fields are the key.
 class Table:
-    def __init__(self, name, row, kind, fields, loads=(), drops=False, overwrites=False, rows=None, of="room", key=None):
+    def __init__(self, name, row, kind, fields, loads=(), drops=False, inserts=False, overwrites=False, rows=None, of="room", key=None):
         self.name, self.row, self.kind, self.fields = name, row, kind, fields
         self.defined = DEFINED[name]
         self.columns, self.tree, self.has_rowid = self.defined.columns, self.defined.tree, self.defined.has_rowid
         self.at, self.place = self.defined.at, self.defined.place
         self.key = key or KEYS[self.defined.key_kinds]
-        self.loads, self.drops, self.overwrites, self.rows, self.of = loads, drops, overwrites, rows or f"{of}.{name}", of
+        self.loads, self.drops, self.inserts, self.overwrites, self.rows, self.of = loads, drops, inserts, overwrites, rows or f"{of}.{name}", of
 
     def places(self, names):
         return "(" + "".join(f"{self.place(name)} ∷ " for name in names) + "[])"
@@ -107,20 +107,8 @@ def equal_number(field, n):
     return equal(field, f"number {n}", f"equal-numbers x.{field} {n}")
 
 
-def owned(name, text, row, field="division"):
-    return load(name, text, "(d : ℕ)", f"owns_{row} d", equal_number(field, "d"))
-
-
 def incident_rows(name, text):
     return load(name, text, "(d n : ℕ)", "λ x. x.incident == n && x.division == d", equal_number("incident", "n"), equal_number("division", "d"))
-
-
-# One of two columns equals the division.
-def party(name, text, row, one="lender", other="borrower"):
-    return dict(name=name, text=text, args="(d : ℕ)", chosen=f"owns_{row} d", names=(one, other), params="number d ∷ []", tells="and_last (is_true-Or _ _)",
-                terms=lambda one, other: f"either (equals {one} 0) (equals {other} 0) ∷ []",
-                test=lambda one, other: f"equal Binary (column r {one}) (number d) || equal Binary (column r {other}) (number d)",
-                same=f"or_else (equal-numbers x.{one} d) (equal-numbers x.{other} d)")
 
 
 def compared(op, term, name, param, why):
@@ -132,7 +120,7 @@ TABLES = [
     Table("areas", "area", "ℕ × Area", ["x.0"], rows="(numbered 1 room.plan)"),
     Table("terminals", "terminal", "Terminal", ["x.token"], of="house", key=TOKEN),
     Table("divisions", "division", "Division", ["x.number"]),
-    Table("incidents", "incident", "Incident", ["x.division", "x.number"], overwrites=True, loads=[
+    Table("incidents", "incident", "Incident", ["x.division", "x.number"], inserts=True, overwrites=True, loads=[
         load("active_incidents", "ACTIVE_INCIDENTS", "(d : ℕ)", "λ x. is_active x.state && x.division == d",
              equal("state", "number (state_number Active)", "equal-active x.state"), equal_number("division", "d")),
         load("incidents_opened", "INCIDENTS_OPENED", "(from to : ℤ) (d : ℕ)", "λ x. int_le from (pos x.opened) && (int_lt (pos x.opened) to && x.division == d)",
@@ -141,18 +129,18 @@ TABLES = [
         load("incidents_since", "INCIDENTS_SINCE", "(from : ℤ)", "λ x. int_le from (pos x.opened)",
              compared("Ge", "at_least", "opened", "Int from", "at_least-integers (pos x.opened) from")),
     ]),
-    Table("calls", "call", "Call", ["x.position", "x.serial"], loads=[incident_rows("calls_of", "CALLS_OF")]),
-    Table("vehicles", "vehicle", "Vehicle", ["x.callsign"], overwrites=True, loads=[owned("vehicles_held", "VEHICLES_HELD", "vehicle", "holder")]),
-    Table("turns", "turn", "Turn", ["x.callsign", "x.order"], overwrites=True, loads=[incident_rows("turns_of", "TURNS_OF")]),
-    Table("assignments", "assignment", "Assignment", ["x.callsign"], drops=True, loads=[owned("assignments_of", "ASSIGNMENTS_OF", "assignment")]),
-    Table("points", "point", "Point", ["x.division", "x.number"], loads=[owned("points_of", "POINTS_OF", "point")]),
-    Table("loans", "loan", "Loan", ["x.callsign"], drops=True, loads=[party("loans_of", "LOANS_OF", "loan")]),
-    Table("reports", "report", "Report", ["x.callsign", "x.number"], loads=[
+    Table("calls", "call", "Call", ["x.position", "x.serial"], inserts=True, loads=[incident_rows("calls_of", "CALLS_OF")]),
+    Table("vehicles", "vehicle", "Vehicle", ["x.callsign"], overwrites=True),
+    Table("turns", "turn", "Turn", ["x.callsign", "x.order"], inserts=True, overwrites=True, loads=[incident_rows("turns_of", "TURNS_OF")]),
+    Table("assignments", "assignment", "Assignment", ["x.callsign"], inserts=True, drops=True),
+    Table("points", "point", "Point", ["x.division", "x.number"]),
+    Table("loans", "loan", "Loan", ["x.callsign"], drops=True),
+    Table("reports", "report", "Report", ["x.callsign", "x.number"], inserts=True, loads=[
         load("uncleared_reports", "UNCLEARED_REPORTS", "(o : Outcome) (d : ℕ)", "λ x. outcome_number x.outcome == outcome_number o && (not x.cleared && x.division == d)",
              equal("outcome", "outcome_code o", "equal-numbers (outcome_number x.outcome) (outcome_number o)"), equal("cleared", "truth false", "equal-false x.cleared"),
              equal_number("division", "d")),
     ]),
-    Table("offers", "offer", "Offer", ["x.callsign"], drops=True, loads=[party("offers_of", "OFFERS_OF", "offer")]),
+    Table("offers", "offer", "Offer", ["x.callsign"], drops=True),
 ]
 ROWS = TABLES[3:]  # the tables of the room's rows
 KEYED = TABLES[2:]  # those whose rows are found by a key
@@ -167,7 +155,7 @@ def home(module, names):
         HOMES[name] = module
 
 
-home("Rattle.std.proofs.Common", "◌≡◌ ◌∷◌ ◌||◌ ◌&&◌ ◌==◌ ◌∙◌ ℕ ℤ pos List [] filter not Ok refl sym false")
+home("Rattle.std.proofs.Common", "◌≡◌ ◌∷◌ ◌&&◌ ◌==◌ ◌∙◌ ℕ ℤ pos List [] filter not Ok refl sym false")
 home("Rattle.std.proofs.lemmas.Bool", "eqb-false")
 home("Rattle.std.specs.Prelude", "int_le int_lt")
 home("Rattle.std.specs.Ordering", "nat_cmp is_eq")
@@ -181,17 +169,17 @@ home("Rattle.sqlite.specs.Effect", "Database")
 home("Rattle.sqlite.specs.Listing", "understood")
 home("Rattle.sqlite.specs.State", "State Executes")
 home("Rattle.room_tables_sql.specs.Outcomes", "Inside Only")
-home("Rattle.room_tables_sql.specs.Statements", "Selects StandsAlone Upserts Overwrites Deletes Stores Covers equals equals_by_value at_least below either row_values row_update rowid_values rowid_update")
+home("Rattle.room_tables_sql.specs.Statements", "Selects StandsAlone Inserts Upserts Overwrites Deletes Stores Covers equals equals_by_value at_least below row_values row_update rowid_values rowid_update")
 home("Rattle.room_tables_sql.specs.Typed", "number")
 home("Rattle.room_tables_sql.proofs.ColumnValues", "AreKept cast-Int cast-Null cast-number_or_null")
-home("Rattle.room_tables_sql.proofs.Comparisons", "and_then and_last is_true-Or or_else equal-by_value equal-numbers tie-numbers tie-texts tie_of_one tie_of_two conflict_of_one conflict_of_two is_eq-then compare_by")
+home("Rattle.room_tables_sql.proofs.Comparisons", "and_then and_last equal-by_value equal-numbers tie-numbers tie-texts tie_of_one tie_of_two conflict_of_one conflict_of_two is_eq-then compare_by")
 home("Rattle.room_tables_sql.proofs.Standing", "holds_still holds_none")
 home("Rattle.room_tables_sql.proofs.StoredRows", "stores_row covers_row stores_rowid")
 home("Rattle.room_place.specs.declared.plans.Area", "Area")
 home("Rattle.room_types.specs.Codes", "outcome_number state_number is_active")
 home("Rattle.room_types_keyed.specs.Keyed", "put_row")
 home("Rattle.room_types_keyed.specs.Keyed", "row_at")
-home("Rattle.room_types.specs.Keys", "callsign_cmp pair_cmp numbered_cmp " + " ".join(f"{t.row}_key owns_{t.row}" for t in ROWS))
+home("Rattle.room_types.specs.Keys", "callsign_cmp pair_cmp numbered_cmp " + " ".join(f"{t.row}_key" for t in ROWS))
 home("Rattle.room_types.specs.Texts", "Callsign Token")
 home("Rattle.room_types.specs.declared.changes.Change.TheVariants", " ".join(f"Put{t.kind} Drop{t.kind}" for t in ROWS))
 home("Rattle.room_types.specs.declared.codes.Outcome", "Outcome")
@@ -213,11 +201,11 @@ home("Rattle.room_tables_rows.specs.Stands", "House Stands StandsFor numbered em
 home("Rattle.room_tables_schema.specs.Definitions", "IsBlank")
 home("Rattle.room_tables_rows.specs.Writes", "Changes")
 home("Rattle.room_tables_rows.proofs.Tests", "equal-active equal-false at_least-integers below-integers and_three cast-text_or_null")
-home("Rattle.room_tables_rows.specs.Tables", "IsHeld SelectsChosen PutsRow IsTable IsDropped IsOverwritten")
+home("Rattle.room_tables_rows.specs.Tables", "IsHeld SelectsChosen InsertsRow PutsRow IsTable IsDropped IsOverwritten")
 home("Rattle.room_tables_rows.proofs.Loads", "Shows ShowsRow ShowsAll chosen_rows row_of_key all_rows")
 home("Rattle.room_tables_rows.proofs.Puts", "put_changes")
 home("Rattle.room_tables_rows.proofs.Kept", " ".join(f"with_{t.name}" for t in TABLES))
-OPERATORS = {"≡": "◌≡◌", "∷": "◌∷◌", "++": "◌++◌", "||": "◌||◌", "&&": "◌&&◌", "==": "◌==◌", "∙": "◌∙◌"}
+OPERATORS = {"≡": "◌≡◌", "∷": "◌∷◌", "++": "◌++◌", "&&": "◌&&◌", "==": "◌==◌", "∙": "◌∙◌"}
 
 
 def write(path, first, body, homes=()):
@@ -327,19 +315,13 @@ pub {t.row}_at_is : {t.key['args']} → ShowsRow {t.row}_row {one}_AT.now ({para
 {t.row}_at_is k = row_of_key {t.name}_held {one}_AT.now ({params}) k ({t.row}_at_chooses k)
 """
     for l in t.loads:
-        if "conditions" in l:
-            cs = l["conditions"]
-            terms = "".join(c["term"](t.place(c["name"]), i) + " ∷ " for i, c in enumerate(cs)) + "[]"
-            params = "".join(c["param"] + " ∷ " for c in cs) + "[]"
-            test, same = both([c["test"](t.at(c["name"])) for c in cs]), conjunction([c["why"] for c in cs])
-            tell = told(cs, t)
-        else:
-            terms, test = l["terms"](*map(t.place, l["names"])), l["test"](*map(t.at, l["names"]))
-            params, tell, same = l["params"], l["tells"], l["same"]
-        out += chooses(l["name"], l["text"], l["args"], terms, params, l["chosen"], test, tell, same)
-        if l["chosen"] != f"owns_{t.row} d":
-            names = " ".join(re.findall(r"\(([^:]*) :", l["args"]))
-            out += f"""
+        cs = l["conditions"]
+        terms = "".join(c["term"](t.place(c["name"]), i) + " ∷ " for i, c in enumerate(cs)) + "[]"
+        params = "".join(c["param"] + " ∷ " for c in cs) + "[]"
+        test, same = both([c["test"](t.at(c["name"])) for c in cs]), conjunction([c["why"] for c in cs])
+        out += chooses(l["name"], l["text"], l["args"], terms, params, l["chosen"], test, told(cs, t), same)
+        names = " ".join(re.findall(r"\(([^:]*) :", l["args"]))
+        out += f"""
 pub {l['name']}_are : {l['args']} → Shows {t.row}_row {l['text']}.now ({params}) (λ found house room. found ≡ filter ({l['chosen']}) {t.rows})
 {l['name']}_are {names} = chosen_rows {t.name}_held {l['text']}.now ({params}) ({l['chosen']}) ({l['name']}_chooses {names})
 """
@@ -416,6 +398,16 @@ pub {t.name}_are : IsTable {typed} {t.key['cells']} {t.name}_table (λ room. {t.
   leads = λ old new house room x h only is. {after};
 }}
 """
+    if t.inserts:
+        out += f"""
+pub insert_{t.row}_means : Inserts room_schema INSERT_{one}.now {at} {n} ({kind}_values {n})
+unfolding understood everything
+insert_{t.row}_means = record {{ command = refl; plain = (refl, refl) }}
+
+pub {t.row}_inserts : InsertsRow {t.name}_table {t.row}_row {t.name}_are.is_held.at INSERT_{one}.now
+unfolding {t.name}_are
+{t.row}_inserts = record {{ columns = {n}; values = {kind}_values {n}; update = {kind}_update {n}; inserts = insert_{t.row}_means; stores = {t.row}_stores }}
+"""
     if t.overwrites:
         out += f"""
 pub overwrite_{t.row}_means : Overwrites room_schema OVERWRITE_{one}.now {at} {t.name}_table {key} {n}
@@ -448,7 +440,7 @@ pub {t.name}_dropped : IsDropped {typed} {t.key['cells']} {t.name}_table (λ roo
 
 
 def constants(t):
-    names = [f"ALL_{t.name.upper()}", f"{t.row.upper()}_AT", f"PUT_{t.row.upper()}", f"DROP_{t.row.upper()}", f"OVERWRITE_{t.row.upper()}"] + [l["text"] for l in t.loads]
+    names = [f"ALL_{t.name.upper()}", f"{t.row.upper()}_AT", f"INSERT_{t.row.upper()}", f"PUT_{t.row.upper()}", f"DROP_{t.row.upper()}", f"OVERWRITE_{t.row.upper()}"] + [l["text"] for l in t.loads]
     return {name: f"Rattle.room_tables_rows.specs.declared.{t.name}.TheConstants" for name in names}
 
 

@@ -69,7 +69,7 @@ def open_room(path):
     room.row_factory = sqlite3.Row
     room.execute('PRAGMA journal_mode = WAL')
     room.execute('PRAGMA synchronous = FULL')
-    room.execute('PRAGMA wal_autocheckpoint = 4096')
+    room.execute('PRAGMA wal_autocheckpoint = 8192')
     return room
 
 

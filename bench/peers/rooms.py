@@ -80,7 +80,7 @@ def make(path, now, waiting):
     `init` gives it."""
     path.touch(mode=0o600)
     room = sqlite3.connect(path)
-    room.execute('PRAGMA page_size = 1024')
+    room.execute('PRAGMA page_size = 512')
     for text in schema():
         room.execute(text)
     put_plan(room)

@@ -131,7 +131,7 @@ void open_room(const char *path)
 {
     expect(sqlite3_open_v2(path, &file, SQLITE_OPEN_READWRITE, NULL) == SQLITE_OK);
     expect(sqlite3_exec(file, "PRAGMA locking_mode = EXCLUSIVE; PRAGMA journal_mode = WAL;"
-                              " PRAGMA synchronous = FULL; PRAGMA wal_autocheckpoint = 4096",
+                              " PRAGMA synchronous = FULL; PRAGMA wal_autocheckpoint = 8192",
                               NULL, NULL, NULL) == SQLITE_OK);
     for (int which = 0; which < STATEMENTS; which++)
         expect(sqlite3_prepare_v3(file, texts[which], -1, SQLITE_PREPARE_PERSISTENT,

@@ -2,4 +2,5 @@
 #![tactic(auto)]
 
 mod new_files;
+mod opening;
 pub mod room_files;

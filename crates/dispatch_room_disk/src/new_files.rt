@@ -1,32 +1,25 @@
 //! The file of a new room: its owner's alone, and with small pages.
 ghost use Rattle.std.specs.Prelude.{◌≡◌, IfErr, IfOk, IsTrue, OnOk};
 ghost use Rattle.sqlite_pages.specs.declared.error.Error.TheVariants.{Corrupt};
-ghost use Rattle.sqlite_std_file.specs.File.{file_is_usable};
 ghost use Rattle.sqlite_wal.specs.Reads.{AreClean};
 ghost use Rattle.dispatch_room_disk.specs.Faults.{IsFileFault};
 ghost use Rattle.dispatch_room_disk.specs.NewFiles.{IsBegun};
 
+use crate::opening::open_files;
 use dispatch_room_endings::endings::Failure;
-use sqlite::{FileFrom, Files, Options, Start, Unknown};
+use sqlite::{Files, Options, Unknown};
 use sqlite_disk::Disk;
 use sqlite_pager::{PageSize, Pager};
 use sqlite_pages::Error;
 use sqlite_pool::Pool;
-use sqlite_std_file::OpenError;
 use std::alloc::Global;
 use std::fs::OpenOptions;
-use std::hash::{BuildHasher, RandomState};
 use std::io::ErrorKind;
 use std::os::unix::fs::OpenOptionsExt;
 
 // How many bytes a page of a new room has. A write writes each page whole on which a row changes,
 // and a row has some hundred bytes. Left to choose, the database makes pages of 4,096.
-const PAGE: usize = 1024;
-
-// How many written pages the log holds before they are copied into the file: 4 MiB, as many bytes
-// as the database would choose with pages of 4,096. A copy keeps a request waiting for a
-// millisecond and more, and costs less the more often each page was written.
-const LOG_PAGES: usize = 4096;
+const PAGE: usize = 512;
 
 /// Makes the file of a room where none is there, and begins an empty database in it where it holds
 /// none.
@@ -37,28 +30,6 @@ pub fn make_file(rt: &HostRuntime, path: &str) -> Result<(), Failure>
     let (files, options) = open_files(rt, path, Unknown)?;
     begin(rt.alloc(), files, options)?;
     Ok(())
-}
-
-/// The files of a room, and how the database keeps them.
-pub fn open_files<S: Start>(
-    rt: &HostRuntime,
-    path: &str,
-    start: S,
-) -> Result<(Files<FileFrom<S>>, Options), Failure>
-    ensures log { IfOk result (λ opened. IsTrue (file_is_usable S.Start opened.0.log)) }
-    ensures db { IfOk result (λ opened. IsTrue (file_is_usable S.Start opened.0.db)) }
-    ensures fault { IfErr result IsFileFault }
-{
-    let files = match sqlite_std_file::open(rt, path, start) {
-        Ok(files) => files,
-        Err(error) => return Err(fault_of(&error)),
-    };
-    let Ok(random) = RandomState::new(rt) else {
-        return Err(Failure::Storage);
-    };
-    let mut options = Options::new(random.hash_one(&0u8));
-    options.checkpoint_frames = LOG_PAGES;
-    Ok((files, options))
 }
 
 // Makes a file that its owner alone reads and writes, where none is there; its log gets the same
@@ -74,16 +45,6 @@ fn make_private(rt: &HostRuntime, path: &str) -> Result<(), Failure>
     {
         Err(error) if error.kind() == ErrorKind::OutOfMemory => Err(Failure::Memory),
         _ => Ok(()),
-    }
-}
-
-fn fault_of(error: &OpenError) -> Failure
-    ensures { IsFileFault result }
-{
-    match error {
-        OpenError::OutOfMemory => Failure::Memory,
-        OpenError::Io(error) if error.kind() == ErrorKind::OutOfMemory => Failure::Memory,
-        _ => Failure::Storage,
     }
 }
 

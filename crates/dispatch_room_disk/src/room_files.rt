@@ -3,7 +3,8 @@ ghost use Rattle.std.specs.Prelude.{◌≡◌, ◌⊎◌, ℕ, List, Option, Err
 ghost use Rattle.dispatch_room_endings.specs.declared.endings.Failure.TheVariants as failure;
 ghost use Rattle.dispatch_room_disk.specs.Faults.{IsFileFault, fault_of};
 
-use crate::new_files::{make_file, open_files};
+use crate::new_files::make_file;
+use crate::opening::open_files;
 use dispatch_room_endings::endings::Failure;
 use dispatch_room_opening::rooms::Worked;
 use sqlite::{Alter, Connection, Error, ErrorCode, File, FileStore, Unknown};

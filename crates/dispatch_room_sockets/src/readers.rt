@@ -23,6 +23,8 @@ pub struct SocketReader<'a, T, C> {
     clock: &'a C,
     pace: Pace,
     idle: Duration,
+    // How long a read waits, as the system was told last.
+    told: Option<Duration>,
     reads: u32,
     // Whether a read failed, where it was not made too: the turn was over.
     failed: bool,
@@ -46,6 +48,7 @@ impl<'a, T: Read + OpenStream, C: Clock> SocketReader<'a, T, C> {
             clock,
             pace: Pace::new(waits, ends),
             idle: waits.idle,
+            told: None,
             reads: 0,
             failed: false,
             ended: false,
@@ -78,7 +81,7 @@ impl<'a, T: Read + OpenStream, C: Clock> Source for SocketReader<'a, T, C> {
             self.failed = true;
             return Err(ReadFailed);
         };
-        match read_until(&mut self.stream, self.clock, moment, buf) {
+        match read_until(&mut self.stream, self.clock, &mut self.told, moment, buf) {
             Ok(count) => {
                 self.pace.gave(count);
                 if count == 0 && !buf.is_empty() {
@@ -114,7 +117,13 @@ impl<'a, T: Read + OpenStream, C: Clock> SocketReader<'a, T, C> {
                 return;
             };
             let silent = earlier(now.saturating_add(self.idle), moment);
-            match read_until(&mut self.stream, self.clock, silent, &mut piece) {
+            match read_until(
+                &mut self.stream,
+                self.clock,
+                &mut self.told,
+                silent,
+                &mut piece,
+            ) {
                 Ok(0) | Err(_) => return,
                 Ok(_) => {}
             }

@@ -12,10 +12,12 @@ use std::time::{Clock, Duration};
 // How often it is tried at most: the moment comes long before.
 const MOST_TRIES: u32 = u32::MAX;
 
-/// Reads some bytes to the front of `buf`, and waits for them until a moment of the clock.
+/// Reads some bytes to the front of `buf`, and waits for them until a moment of the clock. The
+/// system is told how long, where that isn't what it was told last.
 pub(crate) fn read_until<T: Read + OpenStream, C: Clock>(
     stream: &mut T,
     clock: &C,
+    told: &mut Option<Duration>,
     moment: Duration,
     buf: &mut [u8],
 ) -> Result<usize, ReadFailed>
@@ -26,8 +28,11 @@ pub(crate) fn read_until<T: Read + OpenStream, C: Clock>(
         let Some(left) = time_until(clock, moment) else {
             return Err(ReadFailed);
         };
-        if stream.set_read_timeout(Some(left)).is_err() {
-            return Err(ReadFailed);
+        if *told != Some(left) {
+            if stream.set_read_timeout(Some(left)).is_err() {
+                return Err(ReadFailed);
+            }
+            *told = Some(left);
         }
         match stream.read(buf) {
             Ok(count) => return Ok(count),
@@ -38,10 +43,12 @@ pub(crate) fn read_until<T: Read + OpenStream, C: Clock>(
     Err(ReadFailed)
 }
 
-/// Writes some of the first bytes, and waits until a moment of the clock for room for them.
+/// Writes some of the first bytes, and waits until a moment of the clock for room for them. The
+/// system is told how long, where that isn't what it was told last.
 pub(crate) fn write_until<T: Write + OpenStream, C: Clock>(
     stream: &mut T,
     clock: &C,
+    told: &mut Option<Duration>,
     moment: Duration,
     buf: &[u8],
 ) -> Result<usize, WriteFailed>
@@ -52,8 +59,11 @@ pub(crate) fn write_until<T: Write + OpenStream, C: Clock>(
         let Some(left) = time_until(clock, moment) else {
             return Err(WriteFailed);
         };
-        if stream.set_write_timeout(Some(left)).is_err() {
-            return Err(WriteFailed);
+        if *told != Some(left) {
+            if stream.set_write_timeout(Some(left)).is_err() {
+                return Err(WriteFailed);
+            }
+            *told = Some(left);
         }
         match stream.write(buf) {
             Ok(count) => return Ok(count),

@@ -6,6 +6,9 @@ use std::time::{Clock, Duration};
 
 const TURN: u32 = 5;
 
+// Of a millisecond.
+const NANOS: u32 = 1_000_000;
+
 /// How long a connection is waited for.
 #[derive(Clone, Copy)]
 pub struct Waits {
@@ -44,5 +47,20 @@ pub(crate) fn time_until<C: Clock>(clock: &C, moment: Duration) -> Option<Durati
 {
     let now = clock.monotonic().ok()?;
     let left = moment.saturating_sub(now);
-    if left.is_zero() { None } else { Some(left) }
+    if left.is_zero() {
+        None
+    } else {
+        Some(in_millis(left))
+    }
+}
+
+// The whole milliseconds of a wait, where it has some: so waits that are told one after the other
+// are mostly equal, and the system is told the first alone.
+fn in_millis(wait: Duration) -> Duration
+    ensures within { as_nanos result ≤ as_nanos wait }
+    ensures waits { 0 < as_nanos wait → 0 < as_nanos result }
+{
+    let rest = Duration::from_nanos(u64::from(wait.subsec_nanos() % NANOS));
+    let whole = wait.saturating_sub(rest);
+    if whole.is_zero() { wait } else { whole }
 }

@@ -19,6 +19,8 @@ pub struct SocketWriter<'a, T, C> {
     last: Duration,
     // Until when the last write might wait.
     until: Option<Duration>,
+    // How long a write waits, as the system was told last.
+    told: Option<Duration>,
     // Whether it left a part of its answer.
     within: bool,
     // Whether a write failed.
@@ -45,6 +47,7 @@ impl<'a, T: Write + OpenStream, C: Clock> SocketWriter<'a, T, C> {
             patience,
             last,
             until: None,
+            told: None,
             within: false,
             failed: false,
         }
@@ -91,7 +94,7 @@ impl<'a, T: Write + OpenStream, C: Clock> Sink for SocketWriter<'a, T, C> {
             return Err(WriteFailed);
         };
         self.until = Some(moment);
-        match write_until(&mut self.stream, self.clock, moment, buf) {
+        match write_until(&mut self.stream, self.clock, &mut self.told, moment, buf) {
             Ok(count) => {
                 self.within = count < buf.len();
                 if count == 0 && !buf.is_empty() {

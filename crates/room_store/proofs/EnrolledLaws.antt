@@ -1,6 +1,6 @@
 -- Fleet rows enrolled: one whose fate was found by reads and then written, one in a store, and one
 -- more after others.
-use Rattle.std.proofs.Common.{IsTrue, List, None, ap, arith, false, inl, inr, refl, subst, sym, take, ℕ, [], ◌++◌, ◌+◌, ◌∙◌, ◌∷◌, ◌≡◌}
+use Rattle.std.proofs.Common.{IsTrue, List, ap, arith, inl, inr, refl, subst, sym, take, ℕ, [], ◌++◌, ◌+◌, ◌∙◌, ◌∷◌, ◌≡◌}
 use Rattle.std.specs.Prelude.{◌⊎◌}
 use Rattle.std.proofs.lemmas.List.{append_assoc}
 use Rattle.sqlite.specs.Held.{state}
@@ -19,6 +19,7 @@ use Rattle.room_model.specs.Room.{Room}
 use Rattle.room_tables.specs.Stands.{House, Stands}
 use Rattle.room_tables.proofs.RoomReads.{kept}
 use Rattle.room_store_writes.specs.Enrolling.{Enrols, StandsAfter}
+use Rattle.room_store_cache.specs.Cache.{KnowsNothing}
 use Rattle.room_model.specs.Fleets.{enrolled, fates_of}
 use Rattle.room_store.specs.Enrolling.{MayBeEnrolled, StandsAfterRows, StandsInPlan, fate_in, room_after_rows, terminals_after_rows}
 use Rattle.room_store.specs.Keeping.{IsKept, IsRoom}
@@ -72,18 +73,16 @@ module _ {S : Type 0} (g : Ghosts S) (old new : Store S) (row : FleetRow)
       → StandsInPlan (state g old.conn).now.trees old.plan (house_of old.plan terminals) room
   in_plan is_open = record { stands = is.tables is_open; plan = is.plan }
 
-  pub room_after_row : new.plan ≡ old.plan → new.known ≡ old.known
-      → new.cache.fleet.is_known ≡ false → new.cache.boards.kept.items ≡ []
-      → new.cache.dossiers.kept.items ≡ [] → new.cache.recents.from ≡ None
+  pub room_after_row : new.plan ≡ old.plan → new.known ≡ old.known → KnowsNothing new.cache
       → Enrols (state g old.conn) (state g new.conn) row
       (StandsInPlan (state g old.conn).now.trees old.plan) (fate_in row)
       → IsRoom g new (terminals_enrolled room terminals row) (room_enrolled room terminals row)
-  room_after_row same same_known unknown unshown unkept none wrote = record {
+  room_after_row same same_known nothing wrote = record {
     formed = enrolled_kept room terminals row is.formed;
     fits = terminals_kept room terminals row is.fits;
     plan = rw same (plan_by (fate_of room terminals row) row room ∙ is.plan);
     known = rw same_known (still_known room terminals row old.known.items is.known);
-    cache = knows_nothing new.cache (room_enrolled room terminals row) unknown unshown unkept none;
+    cache = knows_nothing new.cache (room_enrolled room terminals row) nothing;
     tables = λ _. rw same (wrote.stands (house_of old.plan terminals) room (in_plan wrote.was_open));
   }
 

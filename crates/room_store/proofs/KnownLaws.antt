@@ -14,26 +14,28 @@ use Rattle.room_model.proofs.KeptCalls.{row_stays}
 use Rattle.room_model.specs.Enrol.{fate_of, new_terminal, terminal_at, terminal_key, terminals_by, terminals_enrolled, token_cmp}
 use Rattle.room_model.specs.Room.{Room}
 use Rattle.room_service.specs.Rooms.{who_at}
-use Rattle.room_store_cache.specs.Cache.{IsCacheOf}
+use Rattle.room_store_cache.specs.Cache.{IsCacheOf, KnowsNothing}
 use Rattle.room_store_cache.specs.Boards.{IsBoardOf}
 use Rattle.room_store_cache.specs.Dossiers.{IsDossierOf}
 use Rattle.room_store_cache.specs.declared.cache.Cache.{Cache}
 use Rattle.room_store.specs.Keeping.{IsOneOf}
 
+-- where none is kept, nothing is asked of any
+none_kept : {A : Type 0} (P : A → Type 0) (xs : List A) → xs ≡ [] → All P xs
+none_kept P xs none = All-same P xs [] none (All-nil P)
+
 -- where nothing is known, nothing is asked of it
-pub knows_nothing : (cache : Cache) (room : Room) → cache.fleet.is_known ≡ false
-    → cache.boards.kept.items ≡ [] → cache.dossiers.kept.items ≡ [] → cache.recents.from ≡ None
-    → IsCacheOf cache room
-knows_nothing cache room unknown unshown unkept none = record {
-  fleet = λ is. let never : false ≡ true = sym unknown ∙ is in cc;
-  boards = All-same (λ x. IsBoardOf x room) cache.boards.kept.items [] unshown (All-nil (λ x. IsBoardOf x room));
-  dossiers = All-same (λ x. IsDossierOf x room) cache.dossiers.kept.items [] unkept (All-nil (λ x. IsDossierOf x room));
-  recents = rw none tt;
+pub knows_nothing : (cache : Cache) (room : Room) → KnowsNothing cache → IsCacheOf cache room
+knows_nothing cache room nothing = record {
+  fleet = λ is. let never : false ≡ true = sym nothing.fleet ∙ is in cc;
+  boards = none_kept (λ x. IsBoardOf x room) cache.boards.kept.items nothing.boards;
+  dossiers = none_kept (λ x. IsDossierOf x room) cache.dossiers.kept.items nothing.dossiers;
+  recents = rw nothing.recents tt;
 }
 
 -- a store that begins knows no terminal
 pub knows_none : (terminals known : List Terminal) → known ≡ [] → All (IsOneOf terminals) known
-knows_none terminals known none = All-same (IsOneOf terminals) known [] none (All-nil (IsOneOf terminals))
+knows_none terminals known none = none_kept (IsOneOf terminals) known none
 
 module _ (terminals : List Terminal) (token : Token) where
   -- the terminal of a token that is known tells who shows it

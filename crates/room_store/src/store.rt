@@ -1,5 +1,5 @@
 //! A room that is kept in the tables of a connection.
-ghost use Rattle.std.specs.Prelude.{◌≡◌, ◌↔◌, [], List, None, Result, Ok, false, IsTrue, IfOk, IfErr, OnOk, OnErr, option_map};
+ghost use Rattle.std.specs.Prelude.{◌≡◌, ◌↔◌, List, Result, Ok, IsTrue, IfOk, IfErr, OnOk, OnErr, option_map};
 ghost use Rattle.std.specs.Fn.{FnOnceReturnsAt};
 ghost use Rattle.sqlite.specs.Held.{state};
 ghost use Rattle.sqlite.specs.State.{HasCleanDisk, Survives};
@@ -14,7 +14,7 @@ ghost use Rattle.room_tables_schema.specs.Schema.{room_schema};
 ghost use Rattle.room_service.specs.Rooms.{IsWant, who_at};
 ghost use Rattle.room_tables.specs.Stands.{Stands};
 ghost use Rattle.room_store_writes.specs.Writing.{IsSettled, Leaves};
-ghost use Rattle.room_store_cache.specs.Cache.{IsCacheOf};
+ghost use Rattle.room_store_cache.specs.Cache.{IsCacheOf, KnowsNothing};
 ghost use Rattle.room_store.specs.Keeping.{IsReady, IsRoom};
 ghost use Rattle.room_store_writes.specs.Houses.{house_of};
 
@@ -194,10 +194,7 @@ impl<S: Alter> Store<S> {
         ensures conn { self.new.conn ≡ self.old.conn }
         ensures plan { self.new.plan ≡ self.old.plan }
         ensures known { self.new.known ≡ self.old.known }
-        ensures fleet { self.new.cache.fleet.is_known ≡ false }
-        ensures boards { self.new.cache.boards.kept.items ≡ [] }
-        ensures dossiers { self.new.cache.dossiers.kept.items ≡ [] }
-        ensures recents { self.new.cache.recents.from ≡ None }
+        ensures nothing { KnowsNothing self.new.cache }
     {
         self.cache.forget();
         self.is_sound = is_room(self.conn.schema());

@@ -1,5 +1,5 @@
 -- What is known of a room.
-use Rattle.std.specs.Prelude.{IfSome, IsTrue, List, Some, ℕ, ◌≡◌}
+use Rattle.std.specs.Prelude.{IfSome, IsTrue, List, None, Some, [], false, ℕ, ◌≡◌}
 use Rattle.room_types_keyed.specs.Keyed.{row_at}
 use Rattle.room_types.specs.Keys.{numbered_cmp, turn_key}
 use Rattle.room_types.specs.Texts.{Callsign}
@@ -34,6 +34,13 @@ pub record HasFleetOf (fleet : Fleet) (room : Room) : Type 0 where
 -- it is so, where it is known
 abbrev pub IsFleetOf : Fleet → Room → Type 0
 IsFleetOf fleet room = IsTrue fleet.is_known → HasFleetOf fleet room
+
+-- nothing is known
+pub record KnowsNothing (cache : Cache) : Type 0 where
+  pub fleet : cache.fleet.is_known ≡ false
+  pub boards : cache.boards.kept.items ≡ []
+  pub dossiers : cache.dossiers.kept.items ≡ []
+  pub recents : cache.recents.from ≡ None
 
 -- what is known is so in this room
 pub record IsCacheOf (cache : Cache) (room : Room) : Type 0 where

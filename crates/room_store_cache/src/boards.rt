@@ -1,4 +1,4 @@
-//! What waits in a division, as its desk saw it last: active incidents and uncleared exceptions.
+//! What waits in a division: its active incidents and its uncleared exceptions.
 ghost use Rattle.std.specs.Prelude.{◌≡◌, [], IfErr, IfSome, OnOk};
 ghost use Rattle.room_tables_schema.specs.declared.faults.Fault.TheVariants.{Memory};
 ghost use Rattle.room_model.specs.Room.{IsInOrder, Room, apply_one};

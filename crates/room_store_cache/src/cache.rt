@@ -1,7 +1,6 @@
 //! What is known of a room beside its tables, and what becomes of it by an event.
-ghost use Rattle.std.specs.Prelude.{◌≡◌, [], None, false};
 ghost use Rattle.room_model.specs.Room.{IsInOrder, Room, apply};
-ghost use Rattle.room_store_cache.specs.Cache.{IsCacheOf};
+ghost use Rattle.room_store_cache.specs.Cache.{IsCacheOf, KnowsNothing};
 
 use crate::boards::Boards;
 use crate::dossiers::Dossiers;
@@ -23,10 +22,7 @@ pub struct Cache {
 impl Cache {
     /// Nothing is known yet.
     pub fn new(alloc: Global) -> Cache
-        ensures fleet { result.fleet.is_known ≡ false }
-        ensures boards { result.boards.kept.items ≡ [] }
-        ensures dossiers { result.dossiers.kept.items ≡ [] }
-        ensures recents { result.recents.from ≡ None }
+        ensures { KnowsNothing result }
     {
         Cache {
             fleet: Fleet::new(alloc),
@@ -38,10 +34,7 @@ impl Cache {
 
     /// Nothing is known any more.
     pub fn forget(&mut self)
-        ensures fleet { self.new.fleet.is_known ≡ false }
-        ensures boards { self.new.boards.kept.items ≡ [] }
-        ensures dossiers { self.new.dossiers.kept.items ≡ [] }
-        ensures recents { self.new.recents.from ≡ None }
+        ensures { KnowsNothing self.new }
     {
         self.fleet.forget();
         self.boards.forget();

@@ -135,7 +135,7 @@ pub fn calls_read<'a>(ask: &Ask, numbers: &'a [Number]) -> &'a [Number]
     }
 }
 
-/// The incidents that a request names.
+/// The incidents that a request names. One alone stands second.
 pub fn named_incidents(ask: &Ask) -> (Option<Number>, Option<Number>)
     ensures { (n : ℕ) → names_incident ask.now n ≡ is_number result.0 n || is_number result.1 n }
 {

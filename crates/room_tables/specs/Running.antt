@@ -18,17 +18,17 @@ use Rattle.room_tables_rows.specs.Loans.{loan_row}
 use Rattle.room_tables_rows.specs.Offers.{offer_row}
 use Rattle.room_tables_rows.specs.Reports.{report_row}
 use Rattle.room_tables_rows.specs.declared.divisions.TheConstants.{PUT_DIVISION}
-use Rattle.room_tables_rows.specs.declared.incidents.TheConstants.{OVERWRITE_INCIDENT, PUT_INCIDENT}
-use Rattle.room_tables_rows.specs.declared.calls.TheConstants.{PUT_CALL}
+use Rattle.room_tables_rows.specs.declared.incidents.TheConstants.{INSERT_INCIDENT, OVERWRITE_INCIDENT, PUT_INCIDENT}
+use Rattle.room_tables_rows.specs.declared.calls.TheConstants.{INSERT_CALL, PUT_CALL}
 use Rattle.room_tables_rows.specs.declared.vehicles.TheConstants.{OVERWRITE_VEHICLE, PUT_VEHICLE}
-use Rattle.room_tables_rows.specs.declared.turns.TheConstants.{OVERWRITE_TURN, PUT_TURN}
-use Rattle.room_tables_rows.specs.declared.assignments.TheConstants.{DROP_ASSIGNMENT, PUT_ASSIGNMENT}
+use Rattle.room_tables_rows.specs.declared.turns.TheConstants.{INSERT_TURN, OVERWRITE_TURN, PUT_TURN}
+use Rattle.room_tables_rows.specs.declared.assignments.TheConstants.{DROP_ASSIGNMENT, INSERT_ASSIGNMENT, PUT_ASSIGNMENT}
 use Rattle.room_tables_rows.specs.declared.points.TheConstants.{PUT_POINT}
 use Rattle.room_tables_rows.specs.declared.loans.TheConstants.{DROP_LOAN, PUT_LOAN}
 use Rattle.room_tables_rows.specs.declared.offers.TheConstants.{DROP_OFFER, PUT_OFFER}
-use Rattle.room_tables_rows.specs.declared.reports.TheConstants.{PUT_REPORT}
+use Rattle.room_tables_rows.specs.declared.reports.TheConstants.{INSERT_REPORT, PUT_REPORT}
 use Rattle.room_tables.specs.declared.changing.Way.{Way}
-use Rattle.room_tables.specs.declared.changing.Way.TheVariants.{Statement, Overwriting, Settling}
+use Rattle.room_tables.specs.declared.changing.Way.TheVariants.{Statement, Inserting, Overwriting, Settling}
 
 -- A statement ran on a room's tables, in a transaction that goes on.
 pub record Ran (text : List ℕ) (params : Row) (old new : State) : Type 0 where
@@ -59,6 +59,20 @@ IsStatement text params (change.DropLoan key) = (text ≡ DROP_LOAN.now) × (par
 IsStatement text params (change.DropOffer key) = (text ≡ DROP_OFFER.now) × (params ≡ text_cells key)
 IsStatement text params (change.Settle callsign division) = ⊥
 
+-- this text inserts the row of the change
+abbrev pub IsInsertion : List ℕ → Change → Type 0
+IsInsertion text (change.PutIncident row) = text ≡ INSERT_INCIDENT.now
+IsInsertion text (change.PutCall row) = text ≡ INSERT_CALL.now
+IsInsertion text (change.PutTurn row) = text ≡ INSERT_TURN.now
+IsInsertion text (change.PutAssignment row) = text ≡ INSERT_ASSIGNMENT.now
+IsInsertion text (change.PutReport row) = text ≡ INSERT_REPORT.now
+IsInsertion text _ = ⊥
+
+-- these two, with these values, make the change: the second where the first is refused
+abbrev pub AreInsertions : List ℕ → List ℕ → Row → Change → Type 0
+AreInsertions insertion put params made =
+    IsInsertion insertion made × IsStatement put params made
+
 -- this text writes the row of the change over the one with its key
 abbrev pub IsOverwriting : List ℕ → Change → Type 0
 IsOverwriting text (change.PutIncident row) = text ≡ OVERWRITE_INCIDENT.now
@@ -73,5 +87,6 @@ AreStatements over put params made = IsOverwriting over made × IsStatement put 
 -- the change is made this way
 abbrev pub IsWay : Way → Change → Type 0
 IsWay (Statement text params) made = IsStatement text.now params made
+IsWay (Inserting insertion put params) made = AreInsertions insertion.now put.now params made
 IsWay (Overwriting over put params) made = AreStatements over.now put.now params made
 IsWay (Settling callsign division) made = made ≡ change.Settle callsign.now division

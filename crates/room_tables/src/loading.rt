@@ -1,21 +1,18 @@
-//! Rows of any table: all of them, that of a key, and those that a division owns.
+//! Rows of any table: all of them, and that of a key.
 
-ghost use Rattle.std.specs.Prelude.{◌≡◌, filter, IfOk, [], ◌∷◌};
+ghost use Rattle.std.specs.Prelude.{◌≡◌, IfOk, []};
 ghost use Rattle.sqlite.specs.Held.{state};
 ghost use Rattle.sqlite.specs.State.{HasCleanDisk};
 ghost use Rattle.room_tables_schema.specs.Connections.{HasRoomSchema};
 ghost use Rattle.room_tables_sql.specs.Tables.{AreNumbered};
-ghost use Rattle.room_tables_sql.specs.Typed.{number};
 ghost use Rattle.room_tables_sql.specs.Outcomes.{ReadsInside, ReadsOnly};
 ghost use Rattle.room_types_keyed.specs.Keyed.{row_at};
 ghost use Rattle.room_tables_rows.specs.Stands.{StandsFor};
 ghost use Rattle.room_tables.specs.Failures.{AreMoreThanOne, AreNoRows, TellsWhy};
 ghost use Rattle.room_tables.specs.Finding.{Finds};
 
-use crate::reading::{find, load, rows_of};
-use crate::tables::{Owned, Table};
-use room_place::plans::DivisionNumber;
-use room_tables_rows::columns::Field;
+use crate::reading::{find, rows_of};
+use crate::tables::Table;
 use room_tables_schema::faults::Fault;
 use room_tables_sql::reading::select_inside;
 use room_types::rows::Rows;
@@ -55,20 +52,4 @@ pub fn row_at<X: Table, S: Alter>(
         (AreMoreThanOne X.is_row) }
 {
     find(conn, X::statements().at, X::key_columns(key).as_slice())
-}
-
-/// The rows that a division owns.
-pub fn rows_owned_by<X: Owned, S: Alter>(
-    alloc: Global,
-    conn: &mut Connection<S>,
-    division: DivisionNumber,
-) -> Result<Rows<X>, Fault>
-    requires room { HasRoomSchema S.Store conn.old }
-    ensures rows { Finds S.Store conn.old conn.new result (λ room rows.
-        rows ≡ filter (X.owned division) (X.rows room)) }
-    ensures reads { ReadsOnly S.Store conn.old conn.new result }
-    ensures why { TellsWhy S.Store conn.old conn.new result X.owned_text (number division
-        ∷ []) (AreNoRows X.is_row X.Key.cmp X.key_of X.cells) }
-{
-    load(alloc, conn, X::select_owned(), &[division.store()])
 }

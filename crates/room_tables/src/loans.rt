@@ -2,11 +2,11 @@
 
 ghost use Rattle.room_types.specs.declared.changes.Change.TheVariants as change;
 ghost use Rattle.room_tables_schema.specs.Schema.{loans_table};
-ghost use Rattle.room_tables_rows.specs.declared.loans.TheConstants.{ALL_LOANS, LOANS_OF, LOAN_AT, PUT_LOAN};
-ghost use Rattle.room_tables_rows.proofs.LoansTable.{loans_are, loans_of_chooses};
+ghost use Rattle.room_tables_rows.specs.declared.loans.TheConstants.{ALL_LOANS, LOAN_AT, PUT_LOAN};
+ghost use Rattle.room_tables_rows.proofs.LoansTable.{loans_are};
 
-use crate::tables::{Owned, Statements, Table};
-use room_tables_rows::loans::{ALL_LOANS, LOAN_AT, LOANS_OF, PUT_LOAN};
+use crate::tables::{Statements, Table};
+use room_tables_rows::loans::{ALL_LOANS, LOAN_AT, PUT_LOAN};
 use room_types::tables::Loan;
 
 impl Table for Loan {
@@ -26,15 +26,5 @@ impl Table for Loan {
             at: LOAN_AT,
             put: PUT_LOAN,
         }
-    }
-}
-
-impl Owned for Loan {
-    ghost owned_text = { LOANS_OF.now };
-
-    ghost selects_owned = { loans_of_chooses };
-
-    fn select_owned() -> &'static str {
-        LOANS_OF
     }
 }

@@ -2,11 +2,11 @@
 
 ghost use Rattle.room_types.specs.declared.changes.Change.TheVariants as change;
 ghost use Rattle.room_tables_schema.specs.Schema.{offers_table};
-ghost use Rattle.room_tables_rows.specs.declared.offers.TheConstants.{ALL_OFFERS, OFFERS_OF, OFFER_AT, PUT_OFFER};
-ghost use Rattle.room_tables_rows.proofs.OffersTable.{offers_are, offers_of_chooses};
+ghost use Rattle.room_tables_rows.specs.declared.offers.TheConstants.{ALL_OFFERS, OFFER_AT, PUT_OFFER};
+ghost use Rattle.room_tables_rows.proofs.OffersTable.{offers_are};
 
-use crate::tables::{Owned, Statements, Table};
-use room_tables_rows::offers::{ALL_OFFERS, OFFER_AT, OFFERS_OF, PUT_OFFER};
+use crate::tables::{Statements, Table};
+use room_tables_rows::offers::{ALL_OFFERS, OFFER_AT, PUT_OFFER};
 use room_types::tables::Offer;
 
 impl Table for Offer {
@@ -26,15 +26,5 @@ impl Table for Offer {
             at: OFFER_AT,
             put: PUT_OFFER,
         }
-    }
-}
-
-impl Owned for Offer {
-    ghost owned_text = { OFFERS_OF.now };
-
-    ghost selects_owned = { offers_of_chooses };
-
-    fn select_owned() -> &'static str {
-        OFFERS_OF
     }
 }

@@ -2,11 +2,11 @@
 
 ghost use Rattle.room_types.specs.declared.changes.Change.TheVariants as change;
 ghost use Rattle.room_tables_schema.specs.Schema.{points_table};
-ghost use Rattle.room_tables_rows.specs.declared.points.TheConstants.{ALL_POINTS, POINTS_OF, POINT_AT, PUT_POINT};
-ghost use Rattle.room_tables_rows.proofs.PointsTable.{points_are, points_of_chooses};
+ghost use Rattle.room_tables_rows.specs.declared.points.TheConstants.{ALL_POINTS, POINT_AT, PUT_POINT};
+ghost use Rattle.room_tables_rows.proofs.PointsTable.{points_are};
 
-use crate::tables::{Owned, Statements, Table};
-use room_tables_rows::points::{ALL_POINTS, POINT_AT, POINTS_OF, PUT_POINT};
+use crate::tables::{Statements, Table};
+use room_tables_rows::points::{ALL_POINTS, POINT_AT, PUT_POINT};
 use room_types::tables::Point;
 
 impl Table for Point {
@@ -26,15 +26,5 @@ impl Table for Point {
             at: POINT_AT,
             put: PUT_POINT,
         }
-    }
-}
-
-impl Owned for Point {
-    ghost owned_text = { POINTS_OF.now };
-
-    ghost selects_owned = { points_of_chooses };
-
-    fn select_owned() -> &'static str {
-        POINTS_OF
     }
 }

@@ -1,11 +1,10 @@
 //! What a table of the room's rows is, and the statements that it has.
 
-ghost use Rattle.std.specs.Prelude.{◌≡◌, ℕ, List, [], ◌∷◌};
+ghost use Rattle.std.specs.Prelude.{◌≡◌, List};
 ghost use Rattle.sqlite_schema.specs.declared.schema.Table.{Table as SchemaTable};
-ghost use Rattle.room_tables_sql.specs.Typed.{number};
 ghost use Rattle.room_types.specs.declared.changes.Change.{Change};
 ghost use Rattle.room_model.specs.Room.{Room};
-ghost use Rattle.room_tables_rows.specs.Tables.{IsTable, SelectsChosen, Texts};
+ghost use Rattle.room_tables_rows.specs.Tables.{IsTable, Texts};
 
 use room_tables_rows::rows::StoredRow;
 
@@ -44,16 +43,4 @@ pub trait Table: StoredRow {
 
     ghost is_table: { IsTable Self.Key.cmp Self.key_of Self.cells Self.key_cells table rows put
         texts };
-}
-
-/// A table whose rows are found by the division that owns them.
-pub trait Owned: Table {
-    ghost owned_text: { List ℕ };
-
-    /// Selects the rows that a division owns.
-    fn select_owned() -> &'static str
-        ensures { result.now ≡ owned_text };
-
-    ghost selects_owned: { (d : ℕ)
-        → SelectsChosen Self.table Self.cells owned_text (number d ∷ []) (Self.owned d) };
 }

@@ -2,11 +2,11 @@
 
 ghost use Rattle.room_types.specs.declared.changes.Change.TheVariants as change;
 ghost use Rattle.room_tables_schema.specs.Schema.{vehicles_table};
-ghost use Rattle.room_tables_rows.specs.declared.vehicles.TheConstants.{ALL_VEHICLES, PUT_VEHICLE, VEHICLES_HELD, VEHICLE_AT};
-ghost use Rattle.room_tables_rows.proofs.VehiclesTable.{vehicles_are, vehicles_held_chooses};
+ghost use Rattle.room_tables_rows.specs.declared.vehicles.TheConstants.{ALL_VEHICLES, PUT_VEHICLE, VEHICLE_AT};
+ghost use Rattle.room_tables_rows.proofs.VehiclesTable.{vehicles_are};
 
-use crate::tables::{Owned, Statements, Table};
-use room_tables_rows::vehicles::{ALL_VEHICLES, PUT_VEHICLE, VEHICLE_AT, VEHICLES_HELD};
+use crate::tables::{Statements, Table};
+use room_tables_rows::vehicles::{ALL_VEHICLES, PUT_VEHICLE, VEHICLE_AT};
 use room_types::tables::Vehicle;
 
 impl Table for Vehicle {
@@ -26,15 +26,5 @@ impl Table for Vehicle {
             at: VEHICLE_AT,
             put: PUT_VEHICLE,
         }
-    }
-}
-
-impl Owned for Vehicle {
-    ghost owned_text = { VEHICLES_HELD.now };
-
-    ghost selects_owned = { vehicles_held_chooses };
-
-    fn select_owned() -> &'static str {
-        VEHICLES_HELD
     }
 }

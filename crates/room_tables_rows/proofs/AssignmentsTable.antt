@@ -5,15 +5,14 @@ use Rattle.room_tables_rows.proofs.RowLaws.{assignment_faithful}
 use Rattle.room_tables_rows.specs.Assignments.{assignment_row}
 use Rattle.room_tables_rows.specs.Keys.{text_cells}
 use Rattle.room_tables_rows.specs.Stands.{House}
-use Rattle.room_tables_rows.specs.Tables.{IsDropped, IsHeld, IsTable, PutsRow, SelectsChosen}
-use Rattle.room_tables_rows.specs.declared.assignments.TheConstants.{ALL_ASSIGNMENTS, ASSIGNMENTS_OF, ASSIGNMENT_AT, DROP_ASSIGNMENT, PUT_ASSIGNMENT}
+use Rattle.room_tables_rows.specs.Tables.{InsertsRow, IsDropped, IsHeld, IsTable, PutsRow, SelectsChosen}
+use Rattle.room_tables_rows.specs.declared.assignments.TheConstants.{ALL_ASSIGNMENTS, ASSIGNMENT_AT, DROP_ASSIGNMENT, INSERT_ASSIGNMENT, PUT_ASSIGNMENT}
 use Rattle.room_tables_schema.specs.Schema.{assignments_table, room_schema}
 use Rattle.room_tables_sql.proofs.ColumnValues.{cast-Int}
-use Rattle.room_tables_sql.proofs.Comparisons.{and_last, conflict_of_one, equal-numbers, tie-texts}
+use Rattle.room_tables_sql.proofs.Comparisons.{and_last, conflict_of_one, tie-texts}
 use Rattle.room_tables_sql.proofs.StoredRows.{stores_row}
-use Rattle.room_tables_sql.specs.Statements.{Deletes, Selects, StandsAlone, Stores, Upserts, equals, row_update, row_values}
-use Rattle.room_tables_sql.specs.Typed.{number}
-use Rattle.room_types.specs.Keys.{assignment_key, callsign_cmp, owns_assignment}
+use Rattle.room_tables_sql.specs.Statements.{Deletes, Inserts, Selects, StandsAlone, Stores, Upserts, equals, row_update, row_values}
+use Rattle.room_types.specs.Keys.{assignment_key, callsign_cmp}
 use Rattle.room_types.specs.Texts.{Callsign}
 use Rattle.room_types.specs.declared.changes.Change.TheVariants.{DropAssignment, PutAssignment}
 use Rattle.room_types.specs.declared.tables.Assignment.{Assignment}
@@ -23,7 +22,7 @@ use Rattle.sqlite_tied.specs.Compute.{everything}
 use Rattle.sqlite_value.specs.Order.{column}
 use Rattle.sqlite_value.specs.declared.keys.Collation.TheVariants.{Binary}
 use Rattle.sqlite_value.specs.declared.value.Value.TheVariants.{Text}
-use Rattle.std.proofs.Common.{List, [], refl, ℕ, ◌∷◌}
+use Rattle.std.proofs.Common.{List, [], refl, ◌∷◌}
 use Rattle.std.specs.Ordering.{is_eq}
 
 abbrev all_of : House → Room → List Assignment
@@ -46,13 +45,6 @@ assignment_at_means = record { names = _; command = refl; plain = (refl, refl); 
 pub assignment_at_chooses : (k : Callsign) → SelectsChosen assignments_table assignment_row ASSIGNMENT_AT.now (Text k ∷ []) (λ x. is_eq (callsign_cmp k (assignment_key x)))
 assignment_at_chooses k = record { terms = equals 1 0 ∷ []; selects = assignment_at_means; chooses = record { test = λ r. equal Binary (column r 0) (Text k); tells = λ r. and_last refl; same = λ x. tie-texts x.callsign k } }
 
-pub assignments_of_means : Selects room_schema ASSIGNMENTS_OF.now 13 (1 ∷ 2 ∷ 3 ∷ 4 ∷ 5 ∷ 6 ∷ 7 ∷ []) (1 ∷ []) (equals 2 0 ∷ [])
-unfolding understood everything
-assignments_of_means = record { names = _; command = refl; plain = (refl, refl); unlisted = refl }
-
-pub assignments_of_chooses : (d : ℕ) → SelectsChosen assignments_table assignment_row ASSIGNMENTS_OF.now (number d ∷ []) (owns_assignment d)
-assignments_of_chooses d = record { terms = equals 2 0 ∷ []; selects = assignments_of_means; chooses = record { test = λ r. equal Binary (column r 1) (number d); tells = λ r. and_last refl; same = λ x. equal-numbers x.division d } }
-
 pub put_assignment_means : Upserts room_schema PUT_ASSIGNMENT.now 8 assignments_table (1 ∷ []) 7 (row_values 7) (row_update 7)
 unfolding understood everything
 put_assignment_means = record { command = refl; plain = (refl, refl) }
@@ -73,6 +65,14 @@ assignments_are = record {
   puts = assignment_puts;
   leads = λ old new house room x h only is. with_assignments old new house room h only _ is;
 }
+
+pub insert_assignment_means : Inserts room_schema INSERT_ASSIGNMENT.now 8 7 (row_values 7)
+unfolding understood everything
+insert_assignment_means = record { command = refl; plain = (refl, refl) }
+
+pub assignment_inserts : InsertsRow assignments_table assignment_row assignments_are.is_held.at INSERT_ASSIGNMENT.now
+unfolding assignments_are
+assignment_inserts = record { columns = 7; values = row_values 7; update = row_update 7; inserts = insert_assignment_means; stores = assignment_stores }
 
 pub drop_assignment_means : Deletes room_schema DROP_ASSIGNMENT.now 8 assignments_table (equals 1 0 ∷ [])
 unfolding understood everything

@@ -6,13 +6,13 @@ use Rattle.room_tables_rows.proofs.RowLaws.{call_faithful}
 use Rattle.room_tables_rows.specs.Calls.{call_row}
 use Rattle.room_tables_rows.specs.Keys.{pair_cells}
 use Rattle.room_tables_rows.specs.Stands.{House}
-use Rattle.room_tables_rows.specs.Tables.{IsHeld, IsTable, PutsRow, SelectsChosen}
-use Rattle.room_tables_rows.specs.declared.calls.TheConstants.{ALL_CALLS, CALLS_OF, CALL_AT, PUT_CALL}
+use Rattle.room_tables_rows.specs.Tables.{InsertsRow, IsHeld, IsTable, PutsRow, SelectsChosen}
+use Rattle.room_tables_rows.specs.declared.calls.TheConstants.{ALL_CALLS, CALLS_OF, CALL_AT, INSERT_CALL, PUT_CALL}
 use Rattle.room_tables_schema.specs.Schema.{calls_table, room_schema}
 use Rattle.room_tables_sql.proofs.ColumnValues.{cast-Int}
 use Rattle.room_tables_sql.proofs.Comparisons.{and_last, and_then, conflict_of_two, equal-numbers, is_eq-then, tie-numbers}
 use Rattle.room_tables_sql.proofs.StoredRows.{stores_row}
-use Rattle.room_tables_sql.specs.Statements.{Selects, StandsAlone, Stores, Upserts, equals, row_update, row_values}
+use Rattle.room_tables_sql.specs.Statements.{Inserts, Selects, StandsAlone, Stores, Upserts, equals, row_update, row_values}
 use Rattle.room_tables_sql.specs.Typed.{number}
 use Rattle.room_types.specs.Keys.{call_key, pair_cmp}
 use Rattle.room_types.specs.declared.changes.Change.TheVariants.{PutCall}
@@ -75,3 +75,11 @@ calls_are = record {
   puts = call_puts;
   leads = λ old new house room x h only is. with_calls old new house room h only _ is;
 }
+
+pub insert_call_means : Inserts room_schema INSERT_CALL.now 5 14 (row_values 14)
+unfolding understood everything
+insert_call_means = record { command = refl; plain = (refl, refl) }
+
+pub call_inserts : InsertsRow calls_table call_row calls_are.is_held.at INSERT_CALL.now
+unfolding calls_are
+call_inserts = record { columns = 14; values = row_values 14; update = row_update 14; inserts = insert_call_means; stores = call_stores }

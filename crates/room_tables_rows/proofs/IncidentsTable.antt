@@ -7,13 +7,13 @@ use Rattle.room_tables_rows.proofs.Tests.{at_least-integers, below-integers, equ
 use Rattle.room_tables_rows.specs.Incidents.{incident_row}
 use Rattle.room_tables_rows.specs.Keys.{pair_cells}
 use Rattle.room_tables_rows.specs.Stands.{House}
-use Rattle.room_tables_rows.specs.Tables.{IsHeld, IsOverwritten, IsTable, PutsRow, SelectsChosen}
-use Rattle.room_tables_rows.specs.declared.incidents.TheConstants.{ACTIVE_INCIDENTS, ALL_INCIDENTS, INCIDENTS_OPENED, INCIDENTS_SINCE, INCIDENT_AT, OVERWRITE_INCIDENT, PUT_INCIDENT}
+use Rattle.room_tables_rows.specs.Tables.{InsertsRow, IsHeld, IsOverwritten, IsTable, PutsRow, SelectsChosen}
+use Rattle.room_tables_rows.specs.declared.incidents.TheConstants.{ACTIVE_INCIDENTS, ALL_INCIDENTS, INCIDENTS_OPENED, INCIDENTS_SINCE, INCIDENT_AT, INSERT_INCIDENT, OVERWRITE_INCIDENT, PUT_INCIDENT}
 use Rattle.room_tables_schema.specs.Schema.{incidents_table, room_schema}
 use Rattle.room_tables_sql.proofs.ColumnValues.{AreKept, cast-Int, cast-number_or_null}
 use Rattle.room_tables_sql.proofs.Comparisons.{and_last, and_then, compare_by, conflict_of_two, equal-by_value, equal-numbers, is_eq-then, tie-numbers, tie_of_two}
 use Rattle.room_tables_sql.proofs.StoredRows.{covers_row, stores_row}
-use Rattle.room_tables_sql.specs.Statements.{Covers, Overwrites, Selects, StandsAlone, Stores, Upserts, at_least, below, equals, equals_by_value, row_update, row_values}
+use Rattle.room_tables_sql.specs.Statements.{Covers, Inserts, Overwrites, Selects, StandsAlone, Stores, Upserts, at_least, below, equals, equals_by_value, row_update, row_values}
 use Rattle.room_tables_sql.specs.Typed.{number}
 use Rattle.room_types.specs.Codes.{is_active, state_number}
 use Rattle.room_types.specs.Keys.{incident_key, pair_cmp}
@@ -104,6 +104,14 @@ incidents_are = record {
   puts = incident_puts;
   leads = λ old new house room x h only is. with_incidents old new house room h only _ is;
 }
+
+pub insert_incident_means : Inserts room_schema INSERT_INCIDENT.now 4 12 (row_values 12)
+unfolding understood everything
+insert_incident_means = record { command = refl; plain = (refl, refl) }
+
+pub incident_inserts : InsertsRow incidents_table incident_row incidents_are.is_held.at INSERT_INCIDENT.now
+unfolding incidents_are
+incident_inserts = record { columns = 12; values = row_values 12; update = row_update 12; inserts = insert_incident_means; stores = incident_stores }
 
 pub overwrite_incident_means : Overwrites room_schema OVERWRITE_INCIDENT.now 4 incidents_table (1 ∷ 2 ∷ []) 12
 unfolding understood everything

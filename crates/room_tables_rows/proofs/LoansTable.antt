@@ -6,14 +6,13 @@ use Rattle.room_tables_rows.specs.Keys.{text_cells}
 use Rattle.room_tables_rows.specs.Loans.{loan_row}
 use Rattle.room_tables_rows.specs.Stands.{House}
 use Rattle.room_tables_rows.specs.Tables.{IsDropped, IsHeld, IsTable, PutsRow, SelectsChosen}
-use Rattle.room_tables_rows.specs.declared.loans.TheConstants.{ALL_LOANS, DROP_LOAN, LOANS_OF, LOAN_AT, PUT_LOAN}
+use Rattle.room_tables_rows.specs.declared.loans.TheConstants.{ALL_LOANS, DROP_LOAN, LOAN_AT, PUT_LOAN}
 use Rattle.room_tables_schema.specs.Schema.{loans_table, room_schema}
 use Rattle.room_tables_sql.proofs.ColumnValues.{cast-Int}
-use Rattle.room_tables_sql.proofs.Comparisons.{and_last, conflict_of_one, equal-numbers, is_true-Or, or_else, tie-texts}
+use Rattle.room_tables_sql.proofs.Comparisons.{and_last, conflict_of_one, tie-texts}
 use Rattle.room_tables_sql.proofs.StoredRows.{stores_row}
-use Rattle.room_tables_sql.specs.Statements.{Deletes, Selects, StandsAlone, Stores, Upserts, either, equals, row_update, row_values}
-use Rattle.room_tables_sql.specs.Typed.{number}
-use Rattle.room_types.specs.Keys.{callsign_cmp, loan_key, owns_loan}
+use Rattle.room_tables_sql.specs.Statements.{Deletes, Selects, StandsAlone, Stores, Upserts, equals, row_update, row_values}
+use Rattle.room_types.specs.Keys.{callsign_cmp, loan_key}
 use Rattle.room_types.specs.Texts.{Callsign}
 use Rattle.room_types.specs.declared.changes.Change.TheVariants.{DropLoan, PutLoan}
 use Rattle.room_types.specs.declared.tables.Loan.{Loan}
@@ -23,7 +22,7 @@ use Rattle.sqlite_tied.specs.Compute.{everything}
 use Rattle.sqlite_value.specs.Order.{column}
 use Rattle.sqlite_value.specs.declared.keys.Collation.TheVariants.{Binary}
 use Rattle.sqlite_value.specs.declared.value.Value.TheVariants.{Text}
-use Rattle.std.proofs.Common.{List, [], refl, ℕ, ◌||◌, ◌∷◌}
+use Rattle.std.proofs.Common.{List, [], refl, ◌∷◌}
 use Rattle.std.specs.Ordering.{is_eq}
 
 abbrev all_of : House → Room → List Loan
@@ -45,13 +44,6 @@ loan_at_means = record { names = _; command = refl; plain = (refl, refl); unlist
 
 pub loan_at_chooses : (k : Callsign) → SelectsChosen loans_table loan_row LOAN_AT.now (Text k ∷ []) (λ x. is_eq (callsign_cmp k (loan_key x)))
 loan_at_chooses k = record { terms = equals 1 0 ∷ []; selects = loan_at_means; chooses = record { test = λ r. equal Binary (column r 0) (Text k); tells = λ r. and_last refl; same = λ x. tie-texts x.callsign k } }
-
-pub loans_of_means : Selects room_schema LOANS_OF.now 17 (1 ∷ 2 ∷ 3 ∷ 4 ∷ 5 ∷ 6 ∷ []) (1 ∷ []) (either (equals 2 0) (equals 3 0) ∷ [])
-unfolding understood everything
-loans_of_means = record { names = _; command = refl; plain = (refl, refl); unlisted = refl }
-
-pub loans_of_chooses : (d : ℕ) → SelectsChosen loans_table loan_row LOANS_OF.now (number d ∷ []) (owns_loan d)
-loans_of_chooses d = record { terms = either (equals 2 0) (equals 3 0) ∷ []; selects = loans_of_means; chooses = record { test = λ r. equal Binary (column r 1) (number d) || equal Binary (column r 2) (number d); tells = λ r. and_last (is_true-Or _ _); same = λ x. or_else (equal-numbers x.lender d) (equal-numbers x.borrower d) } }
 
 pub put_loan_means : Upserts room_schema PUT_LOAN.now 10 loans_table (1 ∷ []) 6 (row_values 6) (row_update 6)
 unfolding understood everything

@@ -6,14 +6,13 @@ use Rattle.room_tables_rows.specs.Keys.{text_cells}
 use Rattle.room_tables_rows.specs.Offers.{offer_row}
 use Rattle.room_tables_rows.specs.Stands.{House}
 use Rattle.room_tables_rows.specs.Tables.{IsDropped, IsHeld, IsTable, PutsRow, SelectsChosen}
-use Rattle.room_tables_rows.specs.declared.offers.TheConstants.{ALL_OFFERS, DROP_OFFER, OFFERS_OF, OFFER_AT, PUT_OFFER}
+use Rattle.room_tables_rows.specs.declared.offers.TheConstants.{ALL_OFFERS, DROP_OFFER, OFFER_AT, PUT_OFFER}
 use Rattle.room_tables_schema.specs.Schema.{offers_table, room_schema}
 use Rattle.room_tables_sql.proofs.ColumnValues.{cast-Int}
-use Rattle.room_tables_sql.proofs.Comparisons.{and_last, conflict_of_one, equal-numbers, is_true-Or, or_else, tie-texts}
+use Rattle.room_tables_sql.proofs.Comparisons.{and_last, conflict_of_one, tie-texts}
 use Rattle.room_tables_sql.proofs.StoredRows.{stores_row}
-use Rattle.room_tables_sql.specs.Statements.{Deletes, Selects, StandsAlone, Stores, Upserts, either, equals, row_update, row_values}
-use Rattle.room_tables_sql.specs.Typed.{number}
-use Rattle.room_types.specs.Keys.{callsign_cmp, offer_key, owns_offer}
+use Rattle.room_tables_sql.specs.Statements.{Deletes, Selects, StandsAlone, Stores, Upserts, equals, row_update, row_values}
+use Rattle.room_types.specs.Keys.{callsign_cmp, offer_key}
 use Rattle.room_types.specs.Texts.{Callsign}
 use Rattle.room_types.specs.declared.changes.Change.TheVariants.{DropOffer, PutOffer}
 use Rattle.room_types.specs.declared.tables.Offer.{Offer}
@@ -23,7 +22,7 @@ use Rattle.sqlite_tied.specs.Compute.{everything}
 use Rattle.sqlite_value.specs.Order.{column}
 use Rattle.sqlite_value.specs.declared.keys.Collation.TheVariants.{Binary}
 use Rattle.sqlite_value.specs.declared.value.Value.TheVariants.{Text}
-use Rattle.std.proofs.Common.{List, [], refl, ℕ, ◌||◌, ◌∷◌}
+use Rattle.std.proofs.Common.{List, [], refl, ◌∷◌}
 use Rattle.std.specs.Ordering.{is_eq}
 
 abbrev all_of : House → Room → List Offer
@@ -45,13 +44,6 @@ offer_at_means = record { names = _; command = refl; plain = (refl, refl); unlis
 
 pub offer_at_chooses : (k : Callsign) → SelectsChosen offers_table offer_row OFFER_AT.now (Text k ∷ []) (λ x. is_eq (callsign_cmp k (offer_key x)))
 offer_at_chooses k = record { terms = equals 1 0 ∷ []; selects = offer_at_means; chooses = record { test = λ r. equal Binary (column r 0) (Text k); tells = λ r. and_last refl; same = λ x. tie-texts x.callsign k } }
-
-pub offers_of_means : Selects room_schema OFFERS_OF.now 21 (1 ∷ 2 ∷ 3 ∷ 4 ∷ 5 ∷ []) (1 ∷ []) (either (equals 2 0) (equals 3 0) ∷ [])
-unfolding understood everything
-offers_of_means = record { names = _; command = refl; plain = (refl, refl); unlisted = refl }
-
-pub offers_of_chooses : (d : ℕ) → SelectsChosen offers_table offer_row OFFERS_OF.now (number d ∷ []) (owns_offer d)
-offers_of_chooses d = record { terms = either (equals 2 0) (equals 3 0) ∷ []; selects = offers_of_means; chooses = record { test = λ r. equal Binary (column r 1) (number d) || equal Binary (column r 2) (number d); tells = λ r. and_last (is_true-Or _ _); same = λ x. or_else (equal-numbers x.lender d) (equal-numbers x.borrower d) } }
 
 pub put_offer_means : Upserts room_schema PUT_OFFER.now 12 offers_table (1 ∷ []) 5 (row_values 5) (row_update 5)
 unfolding understood everything

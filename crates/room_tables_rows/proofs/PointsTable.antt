@@ -6,14 +6,14 @@ use Rattle.room_tables_rows.specs.Keys.{pair_cells}
 use Rattle.room_tables_rows.specs.Points.{point_row}
 use Rattle.room_tables_rows.specs.Stands.{House}
 use Rattle.room_tables_rows.specs.Tables.{IsHeld, IsTable, PutsRow, SelectsChosen}
-use Rattle.room_tables_rows.specs.declared.points.TheConstants.{ALL_POINTS, POINTS_OF, POINT_AT, PUT_POINT}
+use Rattle.room_tables_rows.specs.declared.points.TheConstants.{ALL_POINTS, POINT_AT, PUT_POINT}
 use Rattle.room_tables_schema.specs.Schema.{points_table, room_schema}
 use Rattle.room_tables_sql.proofs.ColumnValues.{cast-Int}
-use Rattle.room_tables_sql.proofs.Comparisons.{and_last, and_then, conflict_of_two, equal-numbers, is_eq-then, tie-numbers}
+use Rattle.room_tables_sql.proofs.Comparisons.{and_last, and_then, conflict_of_two, is_eq-then, tie-numbers}
 use Rattle.room_tables_sql.proofs.StoredRows.{stores_row}
 use Rattle.room_tables_sql.specs.Statements.{Selects, StandsAlone, Stores, Upserts, equals, row_update, row_values}
 use Rattle.room_tables_sql.specs.Typed.{number}
-use Rattle.room_types.specs.Keys.{owns_point, pair_cmp, point_key}
+use Rattle.room_types.specs.Keys.{pair_cmp, point_key}
 use Rattle.room_types.specs.declared.changes.Change.TheVariants.{PutPoint}
 use Rattle.room_types.specs.declared.tables.Point.{Point}
 use Rattle.sqlite.specs.Listing.{understood}
@@ -43,13 +43,6 @@ point_at_means = record { names = _; command = refl; plain = (refl, refl); unlis
 
 pub point_at_chooses : (j k : ℕ) → SelectsChosen points_table point_row POINT_AT.now (number j ∷ number k ∷ []) (λ x. is_eq (pair_cmp (j, k) (point_key x)))
 point_at_chooses j k = record { terms = equals 1 0 ∷ equals 2 1 ∷ []; selects = point_at_means; chooses = record { test = λ r. equal Binary (column r 0) (number j) && equal Binary (column r 1) (number k); tells = λ r. and_then refl (and_last refl); same = λ x. and_then (tie-numbers x.division j) (tie-numbers x.number k) ∙ sym (is_eq-then (nat_cmp j x.division) (nat_cmp k x.number)) } }
-
-pub points_of_means : Selects room_schema POINTS_OF.now 15 (1 ∷ 2 ∷ 3 ∷ 4 ∷ 5 ∷ []) (1 ∷ 2 ∷ []) (equals 1 0 ∷ [])
-unfolding understood everything
-points_of_means = record { names = _; command = refl; plain = (refl, refl); unlisted = refl }
-
-pub points_of_chooses : (d : ℕ) → SelectsChosen points_table point_row POINTS_OF.now (number d ∷ []) (owns_point d)
-points_of_chooses d = record { terms = equals 1 0 ∷ []; selects = points_of_means; chooses = record { test = λ r. equal Binary (column r 0) (number d); tells = λ r. and_last refl; same = λ x. equal-numbers x.division d } }
 
 pub put_point_means : Upserts room_schema PUT_POINT.now 9 points_table (1 ∷ 2 ∷ []) 5 (row_values 5) (row_update 5)
 unfolding understood everything

@@ -1,4 +1,4 @@
--- From an upsert, an update or a deletion to the house and the room that the tables stand for
+-- From an insertion, an upsert, an update or a deletion to the house and the room that the tables stand for
 -- afterwards.
 use Rattle.std.proofs.Common.{◌≡◌, ◌==◌, ℕ, List, Bool, true, false, if◌then◌else◌, Ok, ◌∙◌, Ordering, is_eq}
 use Rattle.sqlite_value.specs.Order.{Row}
@@ -9,14 +9,15 @@ use Rattle.room_types_keyed.specs.Keyed.{put_row, drop_row}
 use Rattle.room_types.specs.declared.changes.Change.{Change}
 use Rattle.room_tables_sql.specs.Outcomes.{Inside, Only}
 use Rattle.room_tables_sql.specs.Statements.{StandsAlone}
-use Rattle.room_tables_sql.proofs.TypedTables.{upsert_puts, overwrite_puts, deletion_drops}
+use Rattle.room_tables_sql.proofs.TypedTables.{insertion_puts, upsert_puts, overwrite_puts, deletion_drops}
 use Rattle.room_tables_sql.proofs.Overwrites.{overwritten}
+use Rattle.room_tables_sql.proofs.Insertions.{inserted_schema}
 use Rattle.room_tables_sql.proofs.Upserts.{upserted_schema}
 use Rattle.room_tables_sql.proofs.Deletions.{deleted}
 use Rattle.room_model.specs.Room.{Room, apply_one}
 use Rattle.room_tables_schema.specs.Schema.{room_schema}
 use Rattle.room_tables_rows.specs.Stands.{House, Stands, StandsFor, places}
-use Rattle.room_tables_rows.specs.Tables.{DeletesChosen, IsDropped, IsHeld, IsOverwritten, IsTable, PutsRow, Texts}
+use Rattle.room_tables_rows.specs.Tables.{DeletesChosen, InsertsRow, IsDropped, IsHeld, IsOverwritten, IsTable, PutsRow, Texts}
 use Rattle.room_tables_rows.specs.Writes.{Changes, Makes}
 
 module _ {X K : Type 0} {order : K → K → Ordering} {key : X → K} {row : X → Row} {table : Table}
@@ -27,20 +28,41 @@ module _ {X K : Type 0} {order : K → K → Ordering} {key : X → K} {row : X 
   Leads rows_after house_after room_after =
       (old new : Database) (house : House) (room : Room) → Stands old.trees house room → Only room_schema table.tree old new → StandsFor new.trees table row (rows_after house room) → Stands new.trees (house_after house) (room_after room)
 
-  -- the row is put
+  -- a statement that puts its row in this table changes the room so
+  changes_by : (x : X) (house_after : House → House) (room_after : Room → Room)
+      → Leads (λ house room. put_row order key (rows house room) x) house_after room_after
+      → (old new : State) → Inside old new → new.now.schema ≡ room_schema
+      → ((xs : List X) → StandsFor old.now.trees table row xs
+      → Only room_schema table.tree old.now new.now
+      × StandsFor new.now.trees table row (put_row order key xs x))
+      → Changes old new house_after room_after
+  changes_by x house_after room_after leads old new inside schema puts = record {
+    inside = inside;
+    schema = schema;
+    stands = λ house room h. let it = puts (rows house room) (is.held old.now.trees house room h) in leads old.now new.now house room h it.0 it.1;
+  }
+
+  -- an upsert does
   pub put_changes : PutsRow table row is.at text
       → (x : X) (house_after : House → House) (room_after : Room → Room)
       → Leads (λ house room. put_row order key (rows house room) x) house_after room_after
       → (old new : State) (count : ℕ) → old.now.schema ≡ room_schema → Inside old new
       → Executes text (row x) old new (Ok count) → Changes old new house_after room_after
-  put_changes puts x house_after room_after leads old new count has inside ran = record {
-    inside = inside;
-    schema = upserted_schema room_schema text is.at table is.alone (places table) table.primary puts.columns puts.values puts.update puts.upserts (row x) (puts.stores x) old new count has ran;
-    stands = λ house room h.
-        let it = upsert_puts order key row room_schema text old new is.at table (places table) table.primary puts.columns puts.values puts.update count x (rows house room) is.alone puts.upserts is.faithful (puts.stores x) has ran
-        (is.held old.now.trees house room h) in
-        leads old.now new.now house room h it.0 it.1;
-  }
+  put_changes puts x house_after room_after leads old new count has inside ran =
+      changes_by x house_after room_after leads old new inside
+      (upserted_schema room_schema text is.at table is.alone (places table) table.primary puts.columns puts.values puts.update puts.upserts (row x) (puts.stores x) old new count has ran)
+      (λ xs. upsert_puts order key row room_schema text old new is.at table (places table) table.primary puts.columns puts.values puts.update count x xs is.alone puts.upserts is.faithful (puts.stores x) has ran)
+
+  -- so does an insertion
+  pub insert_changes : InsertsRow table row is.at text
+      → (x : X) (house_after : House → House) (room_after : Room → Room)
+      → Leads (λ house room. put_row order key (rows house room) x) house_after room_after
+      → (old new : State) (count : ℕ) → old.now.schema ≡ room_schema → Inside old new
+      → Executes text (row x) old new (Ok count) → Changes old new house_after room_after
+  insert_changes inserts x house_after room_after leads old new count has inside ran =
+      changes_by x house_after room_after leads old new inside
+      (inserted_schema room_schema text is.at table is.alone (places table) table.primary inserts.columns inserts.values inserts.update inserts.inserts (row x) (inserts.stores x) old new count has ran)
+      (λ xs. insertion_puts order key row room_schema text old new is.at table (places table) table.primary inserts.columns inserts.values inserts.update count x xs is.alone inserts.inserts is.faithful (inserts.stores x) has ran)
 
   -- the row of the key is dropped
   pub drop_changes : (at : ℕ) → StandsAlone room_schema at table → (params : Row) (k : K)
@@ -66,7 +88,13 @@ module _ {X K : Type 0} {order : K → K → Ordering} {key : X → K} {row : X 
       → Inside old new → Executes texts.put (row x) old new (Ok count) → Makes old new (put x)
   put_makes x = put_changes is.is_held texts.put is.puts x (λ house. house) (λ room. apply_one room (put x)) (λ old new house room. is.leads old new house room x)
 
-  -- .. and so is a row that is written over, where one was there
+  -- .. and so is an insertion, ..
+  pub insert_makes : (text : List ℕ) → InsertsRow table row is.is_held.at text → (x : X)
+      (old new : State) (count : ℕ) → old.now.schema ≡ room_schema → Inside old new
+      → Executes text (row x) old new (Ok count) → Makes old new (put x)
+  insert_makes text inserts x = insert_changes is.is_held text inserts x (λ house. house) (λ room. apply_one room (put x)) (λ old new house room. is.leads old new house room x)
+
+  -- .. and a row that is written over, where one was there
   pub overwrite_makes : (text : List ℕ) → IsOverwritten table row rows text → (x : X)
       (old new : State) (count : ℕ) → old.now.schema ≡ room_schema → Inside old new
       → Executes text (row x) old new (Ok count)

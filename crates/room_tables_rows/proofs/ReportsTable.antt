@@ -8,13 +8,13 @@ use Rattle.room_tables_rows.specs.Columns.{outcome_code, truth}
 use Rattle.room_tables_rows.specs.Keys.{numbered_cells}
 use Rattle.room_tables_rows.specs.Reports.{report_row}
 use Rattle.room_tables_rows.specs.Stands.{House}
-use Rattle.room_tables_rows.specs.Tables.{IsHeld, IsTable, PutsRow, SelectsChosen}
-use Rattle.room_tables_rows.specs.declared.reports.TheConstants.{ALL_REPORTS, PUT_REPORT, REPORT_AT, UNCLEARED_REPORTS}
+use Rattle.room_tables_rows.specs.Tables.{InsertsRow, IsHeld, IsTable, PutsRow, SelectsChosen}
+use Rattle.room_tables_rows.specs.declared.reports.TheConstants.{ALL_REPORTS, INSERT_REPORT, PUT_REPORT, REPORT_AT, UNCLEARED_REPORTS}
 use Rattle.room_tables_schema.specs.Schema.{reports_table, room_schema}
 use Rattle.room_tables_sql.proofs.ColumnValues.{cast-Int}
 use Rattle.room_tables_sql.proofs.Comparisons.{and_last, and_then, conflict_of_two, equal-numbers, is_eq-then, tie-numbers, tie-texts}
 use Rattle.room_tables_sql.proofs.StoredRows.{stores_row}
-use Rattle.room_tables_sql.specs.Statements.{Selects, StandsAlone, Stores, Upserts, equals, row_update, row_values}
+use Rattle.room_tables_sql.specs.Statements.{Inserts, Selects, StandsAlone, Stores, Upserts, equals, row_update, row_values}
 use Rattle.room_tables_sql.specs.Typed.{number}
 use Rattle.room_types.specs.Codes.{outcome_number}
 use Rattle.room_types.specs.Keys.{callsign_cmp, numbered_cmp, report_key}
@@ -81,3 +81,11 @@ reports_are = record {
   puts = report_puts;
   leads = λ old new house room x h only is. with_reports old new house room h only _ is;
 }
+
+pub insert_report_means : Inserts room_schema INSERT_REPORT.now 11 11 (row_values 11)
+unfolding understood everything
+insert_report_means = record { command = refl; plain = (refl, refl) }
+
+pub report_inserts : InsertsRow reports_table report_row reports_are.is_held.at INSERT_REPORT.now
+unfolding reports_are
+report_inserts = record { columns = 11; values = row_values 11; update = row_update 11; inserts = insert_report_means; stores = report_stores }

@@ -5,14 +5,14 @@ use Rattle.room_tables_rows.proofs.Loads.{Shows, chosen_rows}
 use Rattle.room_tables_rows.proofs.RowLaws.{turn_faithful}
 use Rattle.room_tables_rows.specs.Keys.{numbered_cells}
 use Rattle.room_tables_rows.specs.Stands.{House}
-use Rattle.room_tables_rows.specs.Tables.{IsHeld, IsOverwritten, IsTable, PutsRow, SelectsChosen}
+use Rattle.room_tables_rows.specs.Tables.{InsertsRow, IsHeld, IsOverwritten, IsTable, PutsRow, SelectsChosen}
 use Rattle.room_tables_rows.specs.Turns.{turn_row}
-use Rattle.room_tables_rows.specs.declared.turns.TheConstants.{ALL_TURNS, OVERWRITE_TURN, PUT_TURN, TURNS_OF, TURN_AT}
+use Rattle.room_tables_rows.specs.declared.turns.TheConstants.{ALL_TURNS, INSERT_TURN, OVERWRITE_TURN, PUT_TURN, TURNS_OF, TURN_AT}
 use Rattle.room_tables_schema.specs.Schema.{room_schema, turns_table}
 use Rattle.room_tables_sql.proofs.ColumnValues.{AreKept, cast-Int, cast-number_or_null}
 use Rattle.room_tables_sql.proofs.Comparisons.{and_last, and_then, conflict_of_two, equal-numbers, is_eq-then, tie-numbers, tie-texts, tie_of_two}
 use Rattle.room_tables_sql.proofs.StoredRows.{covers_row, stores_row}
-use Rattle.room_tables_sql.specs.Statements.{Covers, Overwrites, Selects, StandsAlone, Stores, Upserts, equals, row_update, row_values}
+use Rattle.room_tables_sql.specs.Statements.{Covers, Inserts, Overwrites, Selects, StandsAlone, Stores, Upserts, equals, row_update, row_values}
 use Rattle.room_tables_sql.specs.Typed.{number}
 use Rattle.room_types.specs.Keys.{callsign_cmp, numbered_cmp, turn_key}
 use Rattle.room_types.specs.Texts.{Callsign}
@@ -80,6 +80,14 @@ turns_are = record {
   puts = turn_puts;
   leads = λ old new house room x h only is. with_turns old new house room h only _ is;
 }
+
+pub insert_turn_means : Inserts room_schema INSERT_TURN.now 7 12 (row_values 12)
+unfolding understood everything
+insert_turn_means = record { command = refl; plain = (refl, refl) }
+
+pub turn_inserts : InsertsRow turns_table turn_row turns_are.is_held.at INSERT_TURN.now
+unfolding turns_are
+turn_inserts = record { columns = 12; values = row_values 12; update = row_update 12; inserts = insert_turn_means; stores = turn_stores }
 
 pub overwrite_turn_means : Overwrites room_schema OVERWRITE_TURN.now 7 turns_table (1 ∷ 2 ∷ []) 12
 unfolding understood everything

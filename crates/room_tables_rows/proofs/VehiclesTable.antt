@@ -6,14 +6,13 @@ use Rattle.room_tables_rows.specs.Keys.{text_cells}
 use Rattle.room_tables_rows.specs.Stands.{House}
 use Rattle.room_tables_rows.specs.Tables.{IsHeld, IsOverwritten, IsTable, PutsRow, SelectsChosen}
 use Rattle.room_tables_rows.specs.Vehicles.{vehicle_row}
-use Rattle.room_tables_rows.specs.declared.vehicles.TheConstants.{ALL_VEHICLES, OVERWRITE_VEHICLE, PUT_VEHICLE, VEHICLES_HELD, VEHICLE_AT}
+use Rattle.room_tables_rows.specs.declared.vehicles.TheConstants.{ALL_VEHICLES, OVERWRITE_VEHICLE, PUT_VEHICLE, VEHICLE_AT}
 use Rattle.room_tables_schema.specs.Schema.{room_schema, vehicles_table}
 use Rattle.room_tables_sql.proofs.ColumnValues.{AreKept, cast-Int, cast-number_or_null}
-use Rattle.room_tables_sql.proofs.Comparisons.{and_last, conflict_of_one, equal-numbers, tie-texts, tie_of_one}
+use Rattle.room_tables_sql.proofs.Comparisons.{and_last, conflict_of_one, tie-texts, tie_of_one}
 use Rattle.room_tables_sql.proofs.StoredRows.{covers_row, stores_row}
 use Rattle.room_tables_sql.specs.Statements.{Covers, Overwrites, Selects, StandsAlone, Stores, Upserts, equals, row_update, row_values}
-use Rattle.room_tables_sql.specs.Typed.{number}
-use Rattle.room_types.specs.Keys.{callsign_cmp, owns_vehicle, vehicle_key}
+use Rattle.room_types.specs.Keys.{callsign_cmp, vehicle_key}
 use Rattle.room_types.specs.Texts.{Callsign}
 use Rattle.room_types.specs.declared.changes.Change.TheVariants.{PutVehicle}
 use Rattle.room_types.specs.declared.tables.Vehicle.{Vehicle}
@@ -23,7 +22,7 @@ use Rattle.sqlite_tied.specs.Compute.{everything}
 use Rattle.sqlite_value.specs.Order.{column}
 use Rattle.sqlite_value.specs.declared.keys.Collation.TheVariants.{Binary}
 use Rattle.sqlite_value.specs.declared.value.Value.TheVariants.{Text}
-use Rattle.std.proofs.Common.{List, [], refl, ℕ, ◌∷◌}
+use Rattle.std.proofs.Common.{List, [], refl, ◌∷◌}
 use Rattle.std.specs.Ordering.{is_eq}
 
 abbrev all_of : House → Room → List Vehicle
@@ -45,13 +44,6 @@ vehicle_at_means = record { names = _; command = refl; plain = (refl, refl); unl
 
 pub vehicle_at_chooses : (k : Callsign) → SelectsChosen vehicles_table vehicle_row VEHICLE_AT.now (Text k ∷ []) (λ x. is_eq (callsign_cmp k (vehicle_key x)))
 vehicle_at_chooses k = record { terms = equals 1 0 ∷ []; selects = vehicle_at_means; chooses = record { test = λ r. equal Binary (column r 0) (Text k); tells = λ r. and_last refl; same = λ x. tie-texts x.callsign k } }
-
-pub vehicles_held_means : Selects room_schema VEHICLES_HELD.now 9 (1 ∷ 2 ∷ 3 ∷ 4 ∷ 5 ∷ 6 ∷ 7 ∷ 8 ∷ 9 ∷ 10 ∷ 11 ∷ []) (1 ∷ []) (equals 3 0 ∷ [])
-unfolding understood everything
-vehicles_held_means = record { names = _; command = refl; plain = (refl, refl); unlisted = refl }
-
-pub vehicles_held_chooses : (d : ℕ) → SelectsChosen vehicles_table vehicle_row VEHICLES_HELD.now (number d ∷ []) (owns_vehicle d)
-vehicles_held_chooses d = record { terms = equals 3 0 ∷ []; selects = vehicles_held_means; chooses = record { test = λ r. equal Binary (column r 2) (number d); tells = λ r. and_last refl; same = λ x. equal-numbers x.holder d } }
 
 pub put_vehicle_means : Upserts room_schema PUT_VEHICLE.now 6 vehicles_table (1 ∷ []) 11 (row_values 11) (row_update 11)
 unfolding understood everything

@@ -8,7 +8,7 @@ use Rattle.sqlite_sql.specs.Term.{Term}
 use Rattle.sqlite_schema.specs.declared.schema.Table.{Table}
 use Rattle.sqlite.specs.Effect.{Database}
 use Rattle.room_tables_sql.specs.Outcomes.{Only}
-use Rattle.room_tables_sql.specs.Statements.{passes, Selects, StandsAlone, Deletes, Upserts, Stores, Overwrites, Covers}
+use Rattle.room_tables_sql.specs.Statements.{passes, Selects, StandsAlone, Deletes, Inserts, Upserts, Stores, Overwrites, Covers}
 use Rattle.room_tables_sql.specs.Tables.{cells}
 use Rattle.room_tables_sql.specs.Typed.{IsFaithful}
 use Rattle.room_types_keyed.specs.Keyed.{put_row, drop_row}
@@ -55,6 +55,15 @@ module _ {X : Type 0} (table : Table) (row : X → Row) where
     pub values : List Term
     pub update : List Term
     pub upserts : Upserts room_schema text at table table.primary columns values update
+    pub stores : (x : X) → Stores room_schema table
+        (places table) table.primary columns values update (row x)
+
+  -- the text inserts a row, whose key no other has
+  pub record InsertsRow (at : ℕ) (text : List ℕ) : Type 0 where
+    pub columns : ℕ
+    pub values : List Term
+    pub update : List Term
+    pub inserts : Inserts room_schema text at columns values
     pub stores : (x : X) → Stores room_schema table
         (places table) table.primary columns values update (row x)
 

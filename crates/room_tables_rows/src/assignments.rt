@@ -54,7 +54,7 @@ pub const ALL_ASSIGNMENTS: &str = "SELECT * FROM assignments ORDER BY callsign";
 
 pub const ASSIGNMENT_AT: &str = "SELECT * FROM assignments WHERE callsign = ?1 ORDER BY callsign";
 
-pub const ASSIGNMENTS_OF: &str = "SELECT * FROM assignments WHERE division = ?1 ORDER BY callsign";
+pub const INSERT_ASSIGNMENT: &str = "INSERT INTO assignments VALUES (?1, ?2, ?3, ?4, ?5, ?6, ?7)";
 
 pub const PUT_ASSIGNMENT: &str = "INSERT INTO assignments VALUES (?1, ?2, ?3, ?4, ?5, ?6, ?7) \
     ON CONFLICT (callsign) \

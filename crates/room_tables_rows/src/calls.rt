@@ -78,6 +78,9 @@ pub const CALL_AT: &str =
 pub const CALLS_OF: &str =
     "SELECT * FROM calls WHERE incident = ?1 AND division = ?2 ORDER BY position, serial";
 
+pub const INSERT_CALL: &str =
+    "INSERT INTO calls VALUES (?1, ?2, ?3, ?4, ?5, ?6, ?7, ?8, ?9, ?10, ?11, ?12, ?13, ?14)";
+
 pub const PUT_CALL: &str = "INSERT INTO calls VALUES (?1, ?2, ?3, ?4, ?5, ?6, ?7, ?8, ?9, ?10, \
     ?11, ?12, ?13, ?14) \
     ON CONFLICT (position, serial) \

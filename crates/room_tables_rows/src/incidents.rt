@@ -105,6 +105,9 @@ pub const INCIDENTS_OPENED: &str = "SELECT * FROM incidents \
 pub const INCIDENTS_SINCE: &str =
     "SELECT * FROM incidents WHERE opened >= ?1 ORDER BY division, number";
 
+pub const INSERT_INCIDENT: &str =
+    "INSERT INTO incidents VALUES (?1, ?2, ?3, ?4, ?5, ?6, ?7, ?8, ?9, ?10, ?11, ?12)";
+
 pub const PUT_INCIDENT: &str = "INSERT INTO incidents VALUES (?1, ?2, ?3, ?4, ?5, ?6, ?7, ?8, ?9, \
     ?10, ?11, ?12) \
     ON CONFLICT (division, number) \

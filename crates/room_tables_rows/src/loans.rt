@@ -51,9 +51,6 @@ pub const ALL_LOANS: &str = "SELECT * FROM loans ORDER BY callsign";
 
 pub const LOAN_AT: &str = "SELECT * FROM loans WHERE callsign = ?1 ORDER BY callsign";
 
-pub const LOANS_OF: &str =
-    "SELECT * FROM loans WHERE lender = ?1 OR borrower = ?1 ORDER BY callsign";
-
 pub const PUT_LOAN: &str = "INSERT INTO loans VALUES (?1, ?2, ?3, ?4, ?5, ?6) \
     ON CONFLICT (callsign) \
     DO UPDATE SET callsign = excluded.callsign, lender = excluded.lender, \

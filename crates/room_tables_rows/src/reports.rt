@@ -67,6 +67,9 @@ pub const REPORT_AT: &str =
 pub const UNCLEARED_REPORTS: &str = "SELECT * FROM reports \
     WHERE outcome = ?1 AND cleared = ?2 AND division = ?3 ORDER BY callsign, number";
 
+pub const INSERT_REPORT: &str =
+    "INSERT INTO reports VALUES (?1, ?2, ?3, ?4, ?5, ?6, ?7, ?8, ?9, ?10, ?11)";
+
 pub const PUT_REPORT: &str = "INSERT INTO reports VALUES (?1, ?2, ?3, ?4, ?5, ?6, ?7, ?8, ?9, ?10, \
     ?11) \
     ON CONFLICT (callsign, number) \

@@ -62,8 +62,6 @@ pub const ALL_VEHICLES: &str = "SELECT * FROM vehicles ORDER BY callsign";
 
 pub const VEHICLE_AT: &str = "SELECT * FROM vehicles WHERE callsign = ?1 ORDER BY callsign";
 
-pub const VEHICLES_HELD: &str = "SELECT * FROM vehicles WHERE holder = ?1 ORDER BY callsign";
-
 pub const PUT_VEHICLE: &str = "INSERT INTO vehicles VALUES (?1, ?2, ?3, ?4, ?5, ?6, ?7, ?8, ?9, \
     ?10, ?11) \
     ON CONFLICT (callsign) \

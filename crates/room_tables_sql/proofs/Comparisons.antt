@@ -1,7 +1,7 @@
 -- SQL's comparisons, and what a column makes of a value.
-use Rattle.std.proofs.Common.{◌≡◌, ◌==◌, ◌&&◌, ◌||◌, ℕ, pos, List, [], ◌∷◌, Bool, true, false, not, Some, None, Option, unwrap_or, refl, sym, ap, ◌∙◌, Ordering, Less, Equal, Greater, is_eq, is_lt, true≢false, arith, nat_le, nat_lt}
+use Rattle.std.proofs.Common.{◌≡◌, ◌==◌, ◌&&◌, ◌||◌, ℕ, pos, List, [], ◌∷◌, Bool, true, false, not, Some, refl, sym, ap, ◌∙◌, Ordering, Less, Equal, Greater, is_eq, true≢false, arith}
 use Rattle.std.specs.Cmp.Lexicographic.{slice_cmp}
-use Rattle.std.specs.Ordering.{nat_cmp, int_cmp, ordering_then, is_ge}
+use Rattle.std.specs.Ordering.{nat_cmp, int_cmp, ordering_then, is_ne}
 use Rattle.std.proofs.lemmas.Bool.Decides.{nat_tests}
 use Rattle.std.proofs.lemmas.Cmp.{nat_list_cmp_total}
 use Rattle.std.proofs.lemmas.Int.{ints}
@@ -12,11 +12,11 @@ use Rattle.sqlite_value.specs.Order.{Row, column, value_cmp}
 use Rattle.sqlite_value.proofs.OrderLemmas.{value_cmp-Int, value_cmp-Text, value_cmp-Null, then-Equal}
 use Rattle.sqlite_trees.specs.Tree.{rowid}
 use Rattle.sqlite_trees.specs.View.{is_int}
-use Rattle.sqlite_sql.specs.declared.ops.BinaryOp.TheVariants.{Compare, Or, Coalesce}
+use Rattle.sqlite_sql.specs.declared.ops.BinaryOp.TheVariants.{Compare, Coalesce}
 use Rattle.sqlite_sql.specs.declared.ops.CompareOp.{CompareOp}
-use Rattle.sqlite_sql.specs.declared.ops.CompareOp.TheVariants.{Eq, Lt, Ge}
-use Rattle.sqlite_sql.specs.Ops.{binary, is_null, is_true, from_truth, or3, truth, test}
-use Rattle.sqlite_schema.specs.Rules.{equal}
+use Rattle.sqlite_sql.specs.declared.ops.CompareOp.TheVariants.{Eq, Ne}
+use Rattle.sqlite_sql.specs.Ops.{binary, is_null, is_true, from_truth, test}
+use Rattle.sqlite_schema.specs.Rules.{equal, differ}
 use Rattle.room_tables_sql.proofs.Rising.{is_eq-reverse}
 use Rattle.room_tables_sql.specs.Statements.{passes, equals}
 
@@ -57,6 +57,16 @@ equal-value_cmp (Real x) b k = compare_by-value_cmp Eq (Real x) b refl k
 equal-value_cmp (Text t) b k = compare_by-value_cmp Eq (Text t) b refl k
 equal-value_cmp (Blob t) b k = compare_by-value_cmp Eq (Blob t) b refl k
 
+-- so is `<>` the lack of one
+pub differ-value_cmp : (a b : Value) → is_null a ≡ false → is_null b ≡ false
+    → is_eq (value_cmp a b) ≡ false → differ a b ≡ true
+differ-value_cmp a b h k apart = compare_by-value_cmp Ne a b h k ∙ untied (value_cmp a b) apart
+  where
+    untied : (o : Ordering) → is_eq o ≡ false → is_ne o ≡ true
+    untied Less e = refl
+    untied Equal e = absurd (true≢false e)
+    untied Greater e = refl
+
 -- a plus before a column keeps its value
 plus_keeps : (v : Value) → binary Coalesce v Null ≡ v
 unfolding binary
@@ -75,12 +85,6 @@ value_cmp-numbers m n = let same : nat_cmp m n ≡ int_cmp (pos m) (pos n) = gri
 
 pub equal-numbers : (m n : ℕ) → equal Binary (Int (pos m)) (Int (pos n)) ≡ (m == n)
 equal-numbers m n = let same : is_eq (nat_cmp m n) ≡ (m == n) = grind (arith, nat_tests) in compare_by-value_cmp Eq (Int (pos m)) (Int (pos n)) refl refl ∙ ap is_eq (value_cmp-numbers m n) ∙ same
-
-pub at_least-numbers : (m n : ℕ) → compare_by Ge (Int (pos m)) (Int (pos n)) ≡ nat_le n m
-at_least-numbers m n = let same : is_ge (nat_cmp m n) ≡ nat_le n m = grind (arith, nat_tests) in compare_by-value_cmp Ge (Int (pos m)) (Int (pos n)) refl refl ∙ ap is_ge (value_cmp-numbers m n) ∙ same
-
-pub below-numbers : (m n : ℕ) → compare_by Lt (Int (pos m)) (Int (pos n)) ≡ nat_lt m n
-below-numbers m n = let same : is_lt (nat_cmp m n) ≡ nat_lt m n = grind (arith, nat_tests) in compare_by-value_cmp Lt (Int (pos m)) (Int (pos n)) refl refl ∙ ap is_lt (value_cmp-numbers m n) ∙ same
 
 pub equal-texts : (s t : List ℕ) → equal Binary (Text s) (Text t) ≡ is_eq (slice_cmp nat_cmp s t)
 equal-texts s t = compare_by-value_cmp Eq (Text s) (Text t) refl refl ∙ ap is_eq (value_cmp-Text s t)
@@ -104,25 +108,6 @@ and_last {a} p = go a ∙ p
     go : (c : Bool) → (c && true) ≡ c
     go true = refl
     go false = refl
-
--- one of two conditions, of which either may be NULL
-pub is_true-Or : (a b : Value) → is_true (binary Or a b) ≡ (is_true a || is_true b)
-unfolding binary
-is_true-Or a b = go (truth a) (truth b)
-  where
-    go : (o p : Option Bool) → is_true (from_truth (or3 o p))
-        ≡ (unwrap_or o false || unwrap_or p false)
-    go None None = refl
-    go None (Some true) = refl
-    go None (Some false) = refl
-    go (Some true) None = refl
-    go (Some true) (Some q) = refl
-    go (Some false) None = refl
-    go (Some false) (Some true) = refl
-    go (Some false) (Some false) = refl
-
-pub or_else : {a b c d : Bool} → a ≡ b → c ≡ d → (a || c) ≡ (b || d)
-or_else p q i = p i || q i
 
 or_false : (b : Bool) → (b || false) ≡ b
 or_false true = refl
@@ -161,7 +146,7 @@ pub conflict_of_two : (a b c d : Value) → is_null c ≡ false → is_null d �
     ≡ is_eq (ordering_then (value_cmp a c) (ordering_then (value_cmp b d) Equal))
 conflict_of_two a b c d j k = or_false _ ∙ tie_of_two a b c d j k
 
-int_present : (v : Value) → is_int v ≡ true → is_null v ≡ false
+pub int_present : (v : Value) → is_int v ≡ true → is_null v ≡ false
 int_present Null h = absurd (true≢false (sym h))
 int_present (Int n) h = refl
 int_present (Real x) h = refl

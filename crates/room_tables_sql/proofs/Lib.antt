@@ -7,13 +7,14 @@ pub mod Standing
 -- values: SQL's comparisons, what a column keeps and a program reads
 pub mod Comparisons
 pub mod ColumnValues
--- statements: SELECT, then DELETE, UPDATE and the upsert by the steps of a write, then CREATE
+-- statements: SELECT, then DELETE, UPDATE, the upsert and INSERT by the steps of a write, then CREATE
 pub mod Selections
 pub mod Writes
 pub mod Deletions
 pub mod StoredRows
 pub mod Overwrites
 pub mod Upserts
+pub mod Insertions
 pub mod Definitions
 -- what a query leaves that fails, and what it leaves to a stop
 pub mod Refusals

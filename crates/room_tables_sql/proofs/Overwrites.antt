@@ -7,7 +7,7 @@ use Rattle.sqlite_value.specs.declared.value.Value.TheVariants.{Null}
 use Rattle.sqlite_value.specs.Order.{Row}
 use Rattle.sqlite_trees.specs.Tree.{Trees, rowid, put_row}
 use Rattle.sqlite_trees.specs.View.{is_int}
-use Rattle.sqlite_trees.proofs.ListLemmas.{filter_same}
+use Rattle.sqlite_trees.proofs.ListLemmas.{filter_all, filter_same}
 use Rattle.sqlite_sql.specs.Term.{Term, eval_all}
 use Rattle.sqlite_sql.specs.Program.{overlay}
 use Rattle.sqlite_sql.specs.Query.{key_cmp}
@@ -51,6 +51,26 @@ module _ (task : Task) (db : Trees) (one : Written) (in_the_way : Row → Bool) 
     pub free : is_taken others row ≡ false
     pub is : one.trees task.table.tree ≡ put_row row others
     pub shows : cells places row ≡ x
+
+  -- one row went in, and none was in its way
+  pub puts_alone : (row x : Row) (places : List ℕ)
+      → Applies task.schema task.keys db
+      (record { table = task.table; gone = []; news = row ∷ [] }) one.trees
+      → ((r : Row) → Has (db task.table.tree) r → in_the_way r ≡ false)
+      → cells places row ≡ x → PutsOne x places
+  puts_alone row x places applies none shows =
+      let tree : List Row = db task.table.tree in
+      let all : others ≡ tree = filter_all _ tree (all_from _ tree (λ r h. ap not (none r h))) in
+      record {
+        edit = record { table = task.table; gone = []; news = row ∷ [] };
+        table_is = refl;
+        applies = applies;
+        row = row;
+        int = (and_parts _ _ applies.keyed).0;
+        free = subst (λ l. is_taken l row ≡ false) (sym all) (false_from_not _ (and_parts _ _ applies.fresh).0);
+        is = applies.rows ∙ ap (put_row row) (sym all);
+        shows = shows;
+      }
 
   -- the tree stands for what it stood for, with the row in its key's place
   pub put_holds : (x : Row) (places key : List ℕ) (next rows : List Row)

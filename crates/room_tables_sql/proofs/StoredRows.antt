@@ -39,6 +39,7 @@ module _ (schema : Schema) (table : Table) (places key : List ℕ) (columns : �
         source_is = source_is;
         fresh = λ id. Int id ∷ row;
         fresh_is = λ tree. ap (with_rowid Chosen tree) (is_cast Null ∙ ap (λ v. v ∷ row) cast-Null);
+        fresh_stands = λ id. shows (Int id);
         fresh_shows = λ id. ap (cells places) (is_cast (Int id)) ∙ shows (cast Integer (Int id));
         conflicts_are = conflicts_are;
         over = λ r. rowid r ∷ row;
@@ -80,6 +81,7 @@ module _ (schema : Schema) (table : Table) (places key : List ℕ) (columns : �
         source_is = source_is;
         fresh = λ _. stored;
         fresh_is = λ tree. ap (with_rowid Chosen tree) is_cast;
+        fresh_stands = λ _. shows;
         fresh_shows = λ _. ap (cells places) is_cast ∙ shows;
         conflicts_are = λ _. conflicts_are;
         over = λ _. stored;

@@ -3,10 +3,11 @@ use Rattle.std.proofs.Common.{◌==◌, ℕ, List, map, ◌∙◌, Ordering}
 use Rattle.sqlite_value.specs.Order.{Row}
 use Rattle.sqlite_schema.specs.declared.schema.Schema.{Schema}
 use Rattle.sqlite.specs.State.{State}
-use Rattle.room_tables_sql.specs.Laws.{StandsForOne, SelectionIsChosen, UpsertPuts, OverwritePuts, DeletionDrops}
+use Rattle.room_tables_sql.specs.Laws.{StandsForOne, SelectionIsChosen, InsertionPuts, UpsertPuts, OverwritePuts, DeletionDrops}
 use Rattle.room_tables_sql.proofs.Selections.{selected}
 use Rattle.room_tables_sql.proofs.Deletions.{deleted}
 use Rattle.room_tables_sql.proofs.Overwrites.{overwritten}
+use Rattle.room_tables_sql.proofs.Insertions.{inserted}
 use Rattle.room_tables_sql.proofs.Upserts.{upserted}
 use Rattle.room_tables_sql.proofs.TypedRows.{holds_one_typed, holds-put, holds-put_if, holds-drop, keyed_held, read_chosen}
 
@@ -18,6 +19,11 @@ module _ {X K : Type 0} (order : K → K → Ordering) (key : X → K) (row : X 
     pub selection_is_chosen : SelectionIsChosen order key row schema text old new
     selection_is_chosen tree key_places more terms params test chosen shown found xs means faithful tells same has shows is h =
         read_chosen order key row key_places faithful test chosen same xs found (is ∙ selected schema text tree key_places more terms means old new params shown has shows (map row xs) test h tells)
+
+    pub insertion_puts : InsertionPuts order key row schema text old new
+    insertion_puts at table places key_places columns values update count x xs alone means faithful stores has ran h =
+        let it = inserted schema text at table alone places key_places columns values update means (row x) stores old new count has ran (map row xs) h in
+        (it.0, holds-put order key row places key_places faithful (new.now.trees table.tree) x xs it.1)
 
     pub upsert_puts : UpsertPuts order key row schema text old new
     upsert_puts at table places key_places columns values update count x xs alone means faithful stores has ran h =

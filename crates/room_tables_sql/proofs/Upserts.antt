@@ -1,9 +1,8 @@
 -- What an upsert of one row makes of what a table stands for.
-use Rattle.std.proofs.Common.{◌≡◌, inl, inr, ℕ, List, [], ◌∷◌, ◌++◌, filter, Bool, true, false, not, None, Some, Ok, refl, sym, ap, subst, ◌∙◌, is_eq}
-use Rattle.std.proofs.lemmas.Bool.{and_parts, false_from_ne_true}
+use Rattle.std.proofs.Common.{◌≡◌, inl, inr, ℕ, List, [], ◌∷◌, ◌++◌, Bool, true, false, None, Some, Ok, refl, sym, ap, subst, is_eq}
+use Rattle.std.proofs.lemmas.Bool.{false_from_ne_true}
 use Rattle.sqlite_value.specs.Order.{Row}
-use Rattle.sqlite_trees.specs.Tree.{Trees, rowid, put_row}
-use Rattle.sqlite_trees.proofs.ListLemmas.{filter_all}
+use Rattle.sqlite_trees.specs.Tree.{Trees, rowid}
 use Rattle.sqlite_sql.specs.Term.{Term, eval_all}
 use Rattle.sqlite_sql.specs.Query.{key_cmp}
 use Rattle.sqlite_schema.specs.declared.schema.Table.{Table}
@@ -14,9 +13,8 @@ use Rattle.sqlite_rules.specs.Lists.{Has}
 use Rattle.sqlite_rules.specs.declared.error.Rowids.TheVariants.{Given}
 use Rattle.sqlite_rules.specs.Cast.{cast_row}
 use Rattle.sqlite_rules.specs.Keys.{conflicts, AreConflicts}
-use Rattle.sqlite_rules.specs.Edit.{Edit, next_rowid, edit_of, taken_by, Applies, is_taken}
+use Rattle.sqlite_rules.specs.Edit.{Edit, next_rowid, edit_of, taken_by, Applies}
 use Rattle.sqlite_rules.specs.Action.{works}
-use Rattle.sqlite_rules.proofs.ListLemmas.{all_from}
 use Rattle.sqlite.specs.Effect.{Database}
 use Rattle.sqlite.specs.Listing.{understood}
 use Rattle.sqlite.specs.Rows.{Task, Written, Tries, Puts, Upserts as UpsertsRows, Meets, Clears, Updates, shown}
@@ -25,10 +23,10 @@ use Rattle.sqlite.proofs.Callers.{one_step, runs_as, statement_of}
 use Rattle.room_tables_sql.specs.Tables.{cells, keys, Holds, AreNumbered, put_in}
 use Rattle.room_tables_sql.specs.Outcomes.{Only}
 use Rattle.room_tables_sql.specs.Statements.{passes, equals, upsert, written_over, StandsAlone, Upserts, Stores}
-use Rattle.room_tables_sql.proofs.Comparisons.{false_from_not, passes-rowid}
+use Rattle.room_tables_sql.proofs.Comparisons.{passes-rowid}
 use Rattle.room_tables_sql.proofs.Numbered.{alike, is_int_in}
 use Rattle.room_tables_sql.proofs.Standing.{one_tied}
-use Rattle.room_tables_sql.proofs.Overwrites.{PutsOne, put_holds, update_of, one_edited, puts_over}
+use Rattle.room_tables_sql.proofs.Overwrites.{PutsOne, puts_alone, put_holds, update_of, one_edited, puts_over}
 use Rattle.room_tables_sql.proofs.Writes.{went_on, same_value, task, only_edited, upserts_row}
 
 module _ (task : Task) (unreferenced : (olds news : List Row)
@@ -72,17 +70,7 @@ module _ (task : Task) (unreferenced : (olds news : List Row)
       let edit : Edit = edit_of db task.table [] Given 0 (new ∷ []) in
       let applies = one_step task.schema task.keys db wrote.0 edit (unreferenced (taken_by db edit) edit.news) wrote.1 in
       let same : one.trees ≡ wrote.0 = ap (λ (v : Written). v.trees) (same_value wrote.2) in
-      let all : filter (λ r. not (in_the_way r)) tree ≡ tree = filter_all _ tree (all_from _ tree (λ r k. ap not (none r k))) in
-      record {
-        edit = edit;
-        table_is = refl;
-        applies = subst (λ n. Applies task.schema task.keys db edit n) (sym same) applies;
-        row = cast_row task.table new;
-        int = (and_parts _ _ applies.keyed).0;
-        free = subst (λ l. is_taken l (cast_row task.table new) ≡ false) (sym all) (false_from_not _ (and_parts _ _ applies.fresh).0);
-        is = ap (λ (d : Trees). d task.table.tree) same ∙ applies.rows ∙ ap (put_row (cast_row task.table new)) (sym all);
-        shows = shows;
-      }
+      puts_alone task db one in_the_way (cast_row task.table new) x places (subst (Applies task.schema task.keys db edit) (sym same) applies) none shows
 
   -- where one is in the way, and it alone, it is written over
   puts_there : (x : Row) (places : List ℕ) (over : Row → Row) (r : Row) → AreNumbered tree

@@ -1,9 +1,18 @@
 -- Writes in a transaction, one after another.
-use Rattle.std.proofs.Common.{Err, Ok, Result, arith, rules, ◌∙◌}
+use Rattle.std.proofs.Common.{◌≡◌, inl, inr, ℕ, List, false, IsTrue, Err, Ok, Result, refl, subst, arith, rules, ◌∙◌}
 use Rattle.std.specs.Prelude.{OnOk}
 use Rattle.sqlite.specs.Held.{Held, state}
-use Rattle.sqlite.specs.State.{HasCleanDisk, KeepsCommit, Survives}
+use Rattle.std.proofs.lemmas.Bool.{cases_Bool}
+use Rattle.sqlite_value.specs.Order.{Row}
 use Rattle.sqlite_trees.specs.declared.store.Store.{Ghosts}
+use Rattle.sqlite_trees.specs.declared.error.StoreError.{StoreError}
+use Rattle.sqlite_trees.specs.declared.error.StoreError.TheVariants.{OutOfMemory, Io, Corrupt, Full, Broken, Unstorable}
+use Rattle.sqlite_schema.specs.declared.schema.Constraint.{Constraint}
+use Rattle.sqlite_resolve.specs.declared.compiled.Compiled.{Compiled}
+use Rattle.sqlite.specs.declared.error.ErrorCode.TheVariants as code
+use Rattle.sqlite.specs.declared.error.Error.{Error}
+use Rattle.sqlite.specs.declared.error.Error.TheVariants.{SqliteFailure}
+use Rattle.sqlite.specs.State.{State, HasCleanDisk, KeepsCommit, Survives, IsUnchanged, Fails, store_error, IsNotRun, RunsCommand, shows_rows, Executes, ExecutesIn, ExecutesInside}
 use Rattle.room_tables_sql.proofs.ReadLaws.{any_err, still}
 use Rattle.room_tables_sql.proofs.Refusals.{keeps_commit, keeps_then}
 use Rattle.room_tables_sql.specs.Outcomes.{CommitsNothing, Inside, ReadsInside, WritesInside}
@@ -71,3 +80,63 @@ module _ {S : Type 0} {g : Ghosts S} {a b : Held S} {T E : Type 0} where
     err = λ clean. let early : HasCleanDisk (state g b) = omega (arith, h.survives.clean) in keeps_then _ _ _ (before.ok early) (h.err clean);
     survives = still before.survives h.survives;
   }
+
+-- ---- a write that broke a rule of its table
+
+no_store_error : (rule : Constraint) (cause : StoreError)
+    → SqliteFailure (code.ConstraintViolation rule) ≡ store_error cause → ⊥
+no_store_error rule OutOfMemory e = cc
+no_store_error rule Io e = cc
+no_store_error rule Corrupt e = cc
+no_store_error rule Full e = cc
+no_store_error rule Broken e = cc
+no_store_error rule Unstorable e = cc
+
+module _ (text : List ℕ) (params : Row) (old new : State) (rule : Constraint) where
+  abbrev broken : Error
+  broken = SqliteFailure (code.ConstraintViolation rule)
+
+  unstored : {TooBig : Type 0} → Fails old new TooBig broken → IsUnchanged old new
+  unstored h = absurd (no_store_error rule h.0 h.1)
+
+  unrun : IsNotRun old new text params broken → IsUnchanged old new
+  unfolding IsNotRun
+  unrun (inl none) = none.1
+  unrun (inr fails) = unstored fails
+
+  uncommanded : (c : Compiled) (full : Row) → RunsCommand old new text c full (Err broken)
+      → IsUnchanged old new
+  uncommanded c full (inl refuses) = refuses.1
+  uncommanded c full (inr fails) = unstored fails
+
+  -- it changed nothing
+  unexecuted : Executes text params old new (Err broken) → IsUnchanged old new
+  unfolding ExecutesIn
+  unexecuted (inl none) = unrun none
+  unexecuted (inr ran) = elim (cases_Bool (shows_rows false ran.0)) [
+    | inl shows ↦ (rw shows at ran.2).1
+    | inr runs ↦ uncommanded ran.0 _ (rw runs at ran.2)
+  ]
+
+  unchanged : ExecutesInside 0 text params old new (Err broken) → IsUnchanged old new
+  unchanged (inl ran) = unexecuted ran.0
+  unchanged (inr ends) = ends.2
+
+  -- and the transaction goes on
+  pub refused : (result : Result ℕ Error) → (HasCleanDisk old → IsTrue old.in_transaction)
+      → Survives old new (λ _. ⊥)
+      → (HasCleanDisk new → IsTrue old.in_transaction
+      → ExecutesInside 0 text params old new result)
+      → result ≡ Err broken → HasCleanDisk new → IsUnchanged old new × Inside old new
+  refused result begun survives runs is clean =
+      let early : HasCleanDisk old = omega (arith, survives.clean) in
+      let same = unchanged (subst (ExecutesInside 0 text params old new) is (runs clean (begun early))) in (
+        same,
+        record {
+          was_open = same.0.was_open;
+          is_open = same.0.is_open;
+          now_is = refl;
+          committed_is = same.0.committed_is;
+          mode = same.0.mode ∙ begun early;
+        },
+      )

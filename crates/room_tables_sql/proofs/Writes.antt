@@ -1,5 +1,5 @@
 -- A write on one table, taken apart into the steps that changed the tree.
-use Rattle.std.proofs.Common.{◌≡◌, ◌≢◌, ◌⊎◌, inl, inr, ℕ, ℤ, List, [], ◌∷◌, Bool, true, false, cond, None, Option, Some, Ok, Err, Result, sym, ap, subst, ◌∙◌, is_lt, length, slice_get, unwrap_or, ◌+◌, ◌/◌}
+use Rattle.std.proofs.Common.{◌≡◌, ◌≢◌, ◌⊎◌, inl, inr, ℕ, ℤ, List, [], ◌∷◌, Bool, true, false, cond, None, Option, Some, Ok, Err, Result, sym, ap, subst, subst₂, ◌∙◌, is_lt, length, slice_get, unwrap_or, ◌+◌, ◌/◌}
 use Rattle.std.specs.List.{AllByRecursion}
 use Rattle.std.specs.Bool.{MatchBool}
 use Rattle.std.specs.Ordering.{int_cmp}
@@ -18,13 +18,13 @@ use Rattle.sqlite_schema.specs.declared.command.Source.TheVariants.{Values}
 use Rattle.sqlite_schema.specs.declared.program.Program.{Program}
 use Rattle.sqlite_rules.specs.declared.error.Rowids.TheVariants.{Chosen, Above}
 use Rattle.sqlite_rules.specs.Cast.{cast_row}
-use Rattle.sqlite_rules.specs.Edit.{Edit, with_rowid, Applies}
+use Rattle.sqlite_rules.specs.Edit.{Edit, edit_of, with_rowid, Applies}
 use Rattle.sqlite.specs.Does.{Tally, Does, AtPlace, OnRows, WritesRows}
-use Rattle.sqlite.specs.Rows.{Task, Written, Tries, TriesEach, InsertsOr, Updates, Deletes as DeletesRows, Counts, count_of, nothing, joined, stamped, rowids_for}
+use Rattle.sqlite.specs.Rows.{Task, Written, Tries, TriesEach, InsertsOr, Updates, Inserts as InsertsRows, Deletes as DeletesRows, Edited, Counts, count_of, nothing, joined, stamped, rowids_for}
 use Rattle.sqlite.specs.Effect.{Database, IsSource, value_rows}
 use Rattle.sqlite.specs.State.{State, mode_of, Writes}
 use Rattle.room_tables_sql.specs.Outcomes.{Only}
-use Rattle.room_tables_sql.specs.Statements.{StandsAlone, upsert, written_over}
+use Rattle.room_tables_sql.specs.Statements.{StandsAlone, insertion, upsert, written_over}
 
 -- a part that gave a value did not stop on the way
 pub went_on : {B E R : Type 0} {b : B} {Stops : E → Type 0}
@@ -74,6 +74,28 @@ module _ (task : Task) (uncounted : task.table.is_counted ≡ false) (clauses : 
       let same : end.0 ≡ each.0.0.trees = counts_nothing each.0.0.trees end.0 counter.0 each.0.1 end.1 in
       let last : w ≡ record each.0.0 { trees = end.0 } = same_value end.2 in
       (one.0, one.1, ap (λ (v : Written). v.trees) last ∙ same ∙ one.2)
+
+  -- without clauses its edit puts that row in
+  inserts_alone : (from : Source) (source : Row) (db : Trees) (w : Written)
+      → InsertsRows task from db (Ok w)
+      → ((rows : List Row) → IsSource (record { schema = task.schema; trees = db })
+      (stamped task.table task.params) from rows → rows ≡ source ∷ [])
+      → Edited task.schema task.keys db (record {
+        table = task.table;
+        gone = [];
+        news = with_rowid Chosen (db task.table.tree) (cast_row task.table source) ∷ [];
+      }) (Ok w.trees)
+  inserts_alone from source db w h is =
+      let given = went_on h in
+      let counter = went_on given.2 in
+      let top = count_of counter.0 in
+      let wrote = went_on counter.2 in
+      let end = went_on wrote.2 in
+      let chosen : rowids_for task.table top ≡ Chosen = ap (λ c. cond c (Above top) Chosen) uncounted in
+      let same : w.trees ≡ wrote.0 = ap (λ (v : Written). v.trees) (same_value end.2) ∙ counts_nothing wrote.0 end.0 counter.0 _ end.1 in
+      let edit : edit_of db task.table [] (rowids_for task.table top) 0 given.0 ≡ edit_of db task.table [] Chosen 0 (source ∷ []) =
+      λ i. edit_of db task.table [] (chosen i) 0 (is given.0 given.1 i) in
+      subst₂ (λ (e : Edit) (d : Trees). Edited task.schema task.keys db e (Ok d)) edit (sym same) wrote.1
 
 module _ (schema : Schema) (at : ℕ) (table : Table) (alone : StandsAlone schema at table)
     (old new : State) (has : old.now.schema ≡ schema) (text : List ℕ) (params : Row)
@@ -133,3 +155,18 @@ module _ (schema : Schema) (at : ℕ) (table : Table) (alone : StandsAlone schem
       let done = wrote_rows command w.tally (subst (λ s. does command (record old.now { schema = s }) w.tally) has w.changed) in
       let one = inserts_one task alone.uncounted (written_over table key columns update ∷ []) (Values values (columns + 1)) source old.now.trees done.0 done.1 (λ rows h. h.1 ∙ is) in
       (one.0, one.1, done.2 ∙ (λ i. record { schema = schema; trees = one.2 i }))
+
+  -- so does an insertion, and no row may be in its way
+  pub inserts_row : (columns : ℕ) (values : List Term) (source : Row)
+      → Writes old new None (insertion at columns values) text params count
+      → value_rows (stamped table params) (columns + 1) (length values / (columns + 1)) values
+      ≡ source ∷ []
+      → (w : Written) × Edited schema Enforced old.now.trees (record {
+        table = table;
+        gone = [];
+        news = with_rowid Chosen (old.now.trees table.tree) (cast_row table source) ∷ [];
+      }) (Ok w.trees) × (new.now ≡ record { schema = schema; trees = w.trees })
+  inserts_row columns values source w is =
+      let command = insertion at columns values in
+      let done = wrote_rows command w.tally (subst (λ s. does command (record old.now { schema = s }) w.tally) has w.changed) in
+      (done.0, inserts_alone task alone.uncounted [] (Values values (columns + 1)) source old.now.trees done.0 done.1 (λ rows h. h.1 ∙ is), done.2)

@@ -14,7 +14,7 @@ use Rattle.sqlite.specs.State.{State, Shown, Executes}
 use Rattle.room_types_keyed.specs.Keyed.{IsKeyed, put_row, drop_row}
 use Rattle.room_tables_sql.specs.Tables.{cells, keys, AreNumbered, RowidsRise, Holds}
 use Rattle.room_tables_sql.specs.Outcomes.{Only, MakesTable, MakesIndex}
-use Rattle.room_tables_sql.specs.Statements.{passes, Selects, StandsAlone, Deletes, Upserts, Stores, Overwrites, Covers, Creates, Indexes}
+use Rattle.room_tables_sql.specs.Statements.{passes, Selects, StandsAlone, Deletes, Inserts, Upserts, Stores, Overwrites, Covers, Creates, Indexes}
 use Rattle.room_tables_sql.specs.Typed.{IsFaithful}
 
 -- ---- of any tree
@@ -109,6 +109,19 @@ module _ {X K : Type 0} (order : K → K → Ordering) (key : X → K) (row : X 
         (values update : List Term) (count : ℕ) (x : X) (xs : List X)
         → StandsAlone schema at table → Upserts schema text at table key_places columns values
         update → IsFaithful order key row key_places
+        → Stores schema table places key_places columns values update (row x)
+        → old.now.schema ≡ schema → Executes text (row x) old new (Ok count)
+        → Holds places key_places (old.now.trees table.tree) (map row xs)
+        → Only schema table.tree old.now new.now
+        × Holds places key_places (new.now.trees table.tree) (map row (put_row order key xs x))
+
+    -- An insertion that was made puts its row, whose key no other had, and changes no other table.
+    abbrev pub InsertionPuts : Type 0
+    InsertionPuts =
+        (at : ℕ) (table : Table) (places key_places : List ℕ) (columns : ℕ)
+        (values update : List Term) (count : ℕ) (x : X) (xs : List X)
+        → StandsAlone schema at table → Inserts schema text at columns values
+        → IsFaithful order key row key_places
         → Stores schema table places key_places columns values update (row x)
         → old.now.schema ≡ schema → Executes text (row x) old new (Ok count)
         → Holds places key_places (old.now.trees table.tree) (map row xs)

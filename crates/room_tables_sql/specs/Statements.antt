@@ -10,7 +10,7 @@ use Rattle.sqlite_value.specs.declared.keys.Collation.TheVariants.{Binary}
 use Rattle.sqlite_value.specs.Keys.{ascending}
 use Rattle.sqlite_value.specs.Order.{Row, column}
 use Rattle.sqlite_trees.specs.Tree.{rowid}
-use Rattle.sqlite_sql.specs.declared.ops.BinaryOp.TheVariants.{Compare, Or, Coalesce}
+use Rattle.sqlite_sql.specs.declared.ops.BinaryOp.TheVariants.{Compare, Coalesce}
 use Rattle.sqlite_sql.specs.declared.ops.CompareOp.{CompareOp}
 use Rattle.sqlite_sql.specs.declared.ops.CompareOp.TheVariants.{Eq, Lt, Ge}
 use Rattle.sqlite_sql.specs.Term.{Term, lit, col, op2, eval_all, holds}
@@ -20,7 +20,7 @@ use Rattle.sqlite_schema.specs.declared.schema.Index.{Index}
 use Rattle.sqlite_schema.specs.declared.schema.Schema.{Schema}
 use Rattle.sqlite_schema.specs.declared.schema.Keys.TheVariants.{Enforced}
 use Rattle.sqlite_schema.specs.declared.command.Command.{Command}
-use Rattle.sqlite_schema.specs.declared.command.Command.TheVariants.{Select, Delete, InsertOr, Update, CreateTable, CreateIndex}
+use Rattle.sqlite_schema.specs.declared.command.Command.TheVariants.{Select, Delete, Insert, InsertOr, Update, CreateTable, CreateIndex}
 use Rattle.sqlite_schema.specs.declared.command.Upsert.{Upsert}
 use Rattle.sqlite_schema.specs.declared.command.Conflict.TheVariants.{Abort}
 use Rattle.sqlite_schema.specs.declared.command.Source.TheVariants.{Values}
@@ -58,10 +58,6 @@ at_least = compares Ge
 
 abbrev pub below : ℕ → ℕ → Term
 below = compares Lt
-
--- one of two terms holds
-abbrev pub either : Term → Term → Term
-either = op2 Or
 
 -- whether a row passes each of the terms
 abbrev pub passes : List Term → Row → Row → Bool
@@ -162,7 +158,17 @@ pub record Upserts (schema : Schema) (text : List ℕ) (at : ℕ) (table : Table
   pub command : command_of (understood schema text) ≡ upsert at table key columns values update
   pub plain : IsPlain (understood schema text)
 
--- what the upsert of one row stores in the tree
+-- INSERT .. VALUES .. of one row of so many columns
+abbrev pub insertion : ℕ → ℕ → List Term → Command
+insertion at columns values = Insert at (Values values (columns + 1))
+
+-- the text is an insertion
+pub record Inserts (schema : Schema) (text : List ℕ) (at columns : ℕ)
+    (values : List Term) : Type 0 where
+  pub command : command_of (understood schema text) ≡ insertion at columns values
+  pub plain : IsPlain (understood schema text)
+
+-- what the insertion or the upsert of one row stores in the tree
 pub record Stores (schema : Schema) (table : Table) (places key : List ℕ) (columns : ℕ)
     (values update : List Term) (row : Row) : Type 0 where
   -- the row of VALUES
@@ -173,6 +179,8 @@ pub record Stores (schema : Schema) (table : Table) (places key : List ℕ) (col
   pub fresh : ℤ → Row
   pub fresh_is : (tree : List Row) → with_rowid Chosen tree (cast_row table source)
       ≡ fresh (next_rowid tree)
+  -- it shows the row, as it is and as its columns keep it
+  pub fresh_stands : (id : ℤ) → cells places (fresh id) ≡ row
   pub fresh_shows : (id : ℤ) → cells places (cast_row table (fresh id)) ≡ row
   -- a row of the tree is in the way just where it has the same key
   pub conflicts_are : (id : ℤ) (r : Row)

@@ -17,6 +17,7 @@ ghost use Rattle.room_tables_sql.specs.Laws.{
   StandsForRead,
   NumbersRead,
   SelectionIsChosen,
+  InsertionPuts,
   UpsertPuts,
   OverwritePuts,
   DeletionDrops,
@@ -56,6 +57,14 @@ pub fn a_selection_is_chosen<S: Alter, X, K>(before: &Connection<S>, after: &Con
     ensures { (order : K → K → Ordering) (key : X → K) (row : X
         → Row) (schema : Schema) (text : List ℕ)
         → SelectionIsChosen order key row schema text (state S.Store before.now)
+        (state S.Store after.now) }
+{}
+
+/// An insertion that was made puts its row among those of the list, none of which had its key.
+pub fn an_insertion_puts_its_row<S: Alter, X, K>(before: &Connection<S>, after: &Connection<S>)
+    ensures { (order : K → K → Ordering) (key : X → K) (row : X
+        → Row) (schema : Schema) (text : List ℕ)
+        → InsertionPuts order key row schema text (state S.Store before.now)
         (state S.Store after.now) }
 {}
 

@@ -34,13 +34,13 @@ returns-in-Ok-clause-left g c clean kept terminals room is =
     looked_left g.S.Store c.args.store.now (record c.args.store.now { conn = c.digest_in.new.conn }) refl clean kept terminals room is c.digest_in.ensures.reads.survives
 
 pub returns-in-Err-clause-ready : goal.returns-in-Err-clause-ready
-returns-in-Err-clause-ready g c = ready_tested g.S.Store c.test_file.new.self (rw c.test_file.ensures.conn (c.digest_in.ensures.reads.mode c.requires.ready.outside)) c.test_file.ensures.sound c.test_file.ensures.fleet
+returns-in-Err-clause-ready g c = ready_tested g.S.Store c.test_file.new.self (rw c.test_file.ensures.conn (c.digest_in.ensures.reads.mode c.requires.ready.outside)) c.test_file.ensures.sound c.test_file.ensures.nothing.fleet
 
 pub returns-in-Err-clause-same : goal.returns-in-Err-clause-same
 returns-in-Err-clause-same g c clean terminals room is =
     let left : Leaves (state g.S.Store c.args.store.now.conn) (state g.S.Store c.test_file.new.self.conn) =
     rw c.test_file.ensures.conn (left_failed _ _ (outside c.is_autocommit.result _ c.requires.ready.outside c.is_autocommit.ensures.value c.is_autocommit.ensures.settled) (c.in-Err.ensures.reads.err (rw c.test_file.ensures.conn at clean))) in
-    room_left g.S.Store c.args.store.now c.test_file.new.self terminals room left c.test_file.ensures.plan (rw c.test_file.ensures.known is.known) (knows_nothing c.test_file.new.self.cache room c.test_file.ensures.fleet c.test_file.ensures.boards c.test_file.ensures.dossiers c.test_file.ensures.recents) is
+    room_left g.S.Store c.args.store.now c.test_file.new.self terminals room left c.test_file.ensures.plan (rw c.test_file.ensures.known is.known) (knows_nothing c.test_file.new.self.cache room c.test_file.ensures.nothing) is
 
 pub returns-in-Err-clause-left : goal.returns-in-Err-clause-left
 returns-in-Err-clause-left g c clean kept terminals room is =

@@ -2,7 +2,7 @@
 use Rattle.std.proofs.Common.{subst, sym}
 use Rattle.std.proofs.lemmas.Result.{IfOk-weaker}
 use Rattle.room_tables_sql.proofs.WriteLaws.{write_commits}
-use Rattle.room_tables.specs.Running.{AreStatements, IsStatement}
+use Rattle.room_tables.specs.Running.{AreInsertions, AreStatements, IsStatement}
 use Rattle.room_tables.proofs.Made.{makes}
 use Rattle.room_tables.proofs.changing.apply.Goals as goal
 
@@ -10,6 +10,11 @@ pub returns-in-Statement-clause-ok : goal.returns-in-Statement-clause-ok
 returns-in-Statement-clause-ok g c clean =
     let is = subst (λ params. IsStatement c.in-Statement.text.now params c.args.change.now) (sym c.as_slice.ensures) (rw c.in-Statement.is at c.way_of.ensures) in
     IfOk-weaker c.run.result _ _ (λ _ it. makes it c.args.change.now is) (c.run.ensures.ran clean)
+
+pub returns-in-Inserting-clause-ok : goal.returns-in-Inserting-clause-ok
+returns-in-Inserting-clause-ok g c clean =
+    let is = subst (λ params. AreInsertions c.in-Inserting.insertion.now c.in-Inserting.put.now params c.args.change.now) (sym c.as_slice-in-Inserting.ensures) (rw c.in-Inserting.is at c.way_of.ensures) in
+    IfOk-weaker c.insert_or_put.result _ _ (λ _ made. made c.args.change.now is) (c.insert_or_put.ensures.ok clean)
 
 pub returns-in-Overwriting-clause-ok : goal.returns-in-Overwriting-clause-ok
 returns-in-Overwriting-clause-ok g c clean =

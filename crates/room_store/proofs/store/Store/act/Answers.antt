@@ -42,10 +42,10 @@ returns-in-Ok-clause-alone g c clean =
     (settled_kept g.S.Store (record c.args.self.now { conn = c.act_on.new.conn; cache = c.act_on.new.cache }) (g.met.S.Store.settled c.act_on.new.conn.store) (c.in-Ok.ensures.ok clean).settled).alone
 
 pub returns-in-Err-clause-ready : goal.returns-in-Err-clause-ready
-returns-in-Err-clause-ready g c = ready_tested g.S.Store c.test_file.new.self (rw c.test_file.ensures.conn c.act_on.ensures.ended) c.test_file.ensures.sound c.test_file.ensures.fleet
+returns-in-Err-clause-ready g c = ready_tested g.S.Store c.test_file.new.self (rw c.test_file.ensures.conn c.act_on.ensures.ended) c.test_file.ensures.sound c.test_file.ensures.nothing.fleet
 
 pub returns-in-Err-clause-cache : goal.returns-in-Err-clause-cache
-returns-in-Err-clause-cache g c room _ = knows_nothing c.test_file.new.self.cache room c.test_file.ensures.fleet c.test_file.ensures.boards c.test_file.ensures.dossiers c.test_file.ensures.recents
+returns-in-Err-clause-cache g c room _ = knows_nothing c.test_file.new.self.cache room c.test_file.ensures.nothing
 
 pub returns-then-not-self-clause-cache : goal.returns-then-not-self-clause-cache
 returns-then-not-self-clause-cache g c room is = is

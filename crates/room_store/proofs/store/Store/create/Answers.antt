@@ -20,7 +20,7 @@ returns-in-Ok-create_in-clause-room g c clean =
       fits = new_terminals_fit plan c.args.terminals.now c.in-Ok.ensures.begun.terminals;
       plan = sym c.in-Ok.ensures.plan.0;
       known = knows_none terminals _ c.new.ensures.items;
-      cache = knows_nothing c.new-in-Ok-create_in.result (new_room plan) c.new-in-Ok-create_in.ensures.fleet c.new-in-Ok-create_in.ensures.boards c.new-in-Ok-create_in.ensures.dossiers c.new-in-Ok-create_in.ensures.recents;
+      cache = knows_nothing c.new-in-Ok-create_in.result (new_room plan) c.new-in-Ok-create_in.ensures;
       tables = λ is_open. subst (λ (zone : List ℕ). Stands trees (record { zone = zone; terminals = terminals }) (new_room plan)) (sym c.in-Ok.ensures.plan.1) begun.stands;
     }
 

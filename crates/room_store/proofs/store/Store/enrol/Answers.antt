@@ -15,13 +15,13 @@ returns-in-Ok-clause-fate g c clean terminals room is =
 
 pub returns-in-Ok-clause-ok : goal.returns-in-Ok-clause-ok
 returns-in-Ok-clause-ok g c clean terminals room is =
-    room_after_row g.S.Store c.args.self.now (record c.args.self.now { conn = c.add_fate.new.conn; cache = c.forget.new.self }) c.args.row.now terminals room is refl refl c.forget.ensures.fleet c.forget.ensures.boards c.forget.ensures.dossiers c.forget.ensures.recents (c.in-Ok.ensures.ok clean)
+    room_after_row g.S.Store c.args.self.now (record c.args.self.now { conn = c.add_fate.new.conn; cache = c.forget.new.self }) c.args.row.now terminals room is refl refl c.forget.ensures (c.in-Ok.ensures.ok clean)
 
 pub returns-in-Ok-clause-cache : goal.returns-in-Ok-clause-cache
-returns-in-Ok-clause-cache g c room _ = knows_nothing c.forget.new.self room c.forget.ensures.fleet c.forget.ensures.boards c.forget.ensures.dossiers c.forget.ensures.recents
+returns-in-Ok-clause-cache g c room _ = knows_nothing c.forget.new.self room c.forget.ensures
 
 pub returns-in-Err-clause-cache : goal.returns-in-Err-clause-cache
-returns-in-Err-clause-cache g c room _ = knows_nothing c.test_file.new.self.cache room c.test_file.ensures.fleet c.test_file.ensures.boards c.test_file.ensures.dossiers c.test_file.ensures.recents
+returns-in-Err-clause-cache g c room _ = knows_nothing c.test_file.new.self.cache room c.test_file.ensures.nothing
 
 pub returns-in-Ok-clause-survives : goal.returns-in-Ok-clause-survives
 returns-in-Ok-clause-survives g c = store_survives g.S.Store c.args.self.now (state g.S.Store c.add_fate.new.conn) c.args.row.now c.add_fate.ensures.survives
@@ -47,7 +47,7 @@ returns-in-Ok-clause-alone g c clean =
     (settled_kept g.S.Store (record c.args.self.now { conn = c.add_fate.new.conn; cache = c.forget.new.self }) (g.met.S.Store.settled c.add_fate.new.conn.store) (c.in-Ok.ensures.ok clean).settled).alone
 
 pub returns-in-Err-clause-ready : goal.returns-in-Err-clause-ready
-returns-in-Err-clause-ready g c = ready_tested g.S.Store c.test_file.new.self (rw c.test_file.ensures.conn c.add_fate.ensures.ended) c.test_file.ensures.sound c.test_file.ensures.fleet
+returns-in-Err-clause-ready g c = ready_tested g.S.Store c.test_file.new.self (rw c.test_file.ensures.conn c.add_fate.ensures.ended) c.test_file.ensures.sound c.test_file.ensures.nothing.fleet
 
 pub returns-in-Err-clause-err : goal.returns-in-Err-clause-err
 returns-in-Err-clause-err g c clean = rw c.test_file.ensures.conn (c.in-Err.ensures.err (rw c.test_file.ensures.conn at clean))

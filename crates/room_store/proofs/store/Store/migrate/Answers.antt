@@ -8,7 +8,7 @@ pub returns-in-Ok-clause-room : goal.returns-in-Ok-clause-room
 returns-in-Ok-clause-room g c clean =
     let it = c.in-Ok.ensures.room clean in
     let first = ((c.in-Ok.ensures.moves clean).moved.moved.stands (house_of c.in-Ok.plan it.0) it.1).1 it.5 in
-    (it.0, it.1, record { formed = it.2; fits = it.3; plan = it.4; known = knows_none it.0 _ c.new.ensures.items; cache = knows_nothing c.new-in-Ok.result it.1 c.new-in-Ok.ensures.fleet c.new-in-Ok.ensures.boards c.new-in-Ok.ensures.dossiers c.new-in-Ok.ensures.recents; tables = λ _. it.5 }, first)
+    (it.0, it.1, record { formed = it.2; fits = it.3; plan = it.4; known = knows_none it.0 _ c.new.ensures.items; cache = knows_nothing c.new-in-Ok.result it.1 c.new-in-Ok.ensures; tables = λ _. it.5 }, first)
 
 pub returns-in-Ok-clause-schema : goal.returns-in-Ok-clause-schema
 returns-in-Ok-clause-schema g c clean = (c.in-Ok.ensures.moves clean).schema

@@ -12,7 +12,7 @@ returns-in-Ok-clause-ready g c = ready_sound g.S.Store (record { conn = c.open_i
 pub returns-in-Ok-clause-room : goal.returns-in-Ok-clause-room
 returns-in-Ok-clause-room g c clean =
     let it = c.in-Ok.ensures.room clean in
-    (it.0, it.1, record { formed = it.2; fits = it.3; plan = it.4; known = knows_none it.0 _ c.new.ensures.items; cache = knows_nothing c.new-in-Ok.result it.1 c.new-in-Ok.ensures.fleet c.new-in-Ok.ensures.boards c.new-in-Ok.ensures.dossiers c.new-in-Ok.ensures.recents; tables = λ _. it.5 })
+    (it.0, it.1, record { formed = it.2; fits = it.3; plan = it.4; known = knows_none it.0 _ c.new.ensures.items; cache = knows_nothing c.new-in-Ok.result it.1 c.new-in-Ok.ensures; tables = λ _. it.5 })
 
 pub returns-in-Ok-clause-survives : goal.returns-in-Ok-clause-survives
 returns-in-Ok-clause-survives g c = c.open_in.ensures.survives

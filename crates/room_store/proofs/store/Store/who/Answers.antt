@@ -50,14 +50,14 @@ pub returns-in-Ok-terminal_at-clause-survives : goal.returns-in-Ok-terminal_at-c
 returns-in-Ok-terminal_at-clause-survives g c = c.terminal_at.ensures.reads.survives
 
 pub returns-in-Err-terminal_at-clause-ready : goal.returns-in-Err-terminal_at-clause-ready
-returns-in-Err-terminal_at-clause-ready g c = ready_tested g.S.Store c.test_file.new.self (rw c.test_file.ensures.conn (c.terminal_at.ensures.reads.mode c.requires.ready.outside)) c.test_file.ensures.sound c.test_file.ensures.fleet
+returns-in-Err-terminal_at-clause-ready g c = ready_tested g.S.Store c.test_file.new.self (rw c.test_file.ensures.conn (c.terminal_at.ensures.reads.mode c.requires.ready.outside)) c.test_file.ensures.sound c.test_file.ensures.nothing.fleet
 
 pub returns-in-Err-terminal_at-clause-leaves : goal.returns-in-Err-terminal_at-clause-leaves
 returns-in-Err-terminal_at-clause-leaves g c clean = rw c.test_file.ensures.conn (left_failed _ _ (outside c.is_autocommit.result _ c.requires.ready.outside c.is_autocommit.ensures.value c.is_autocommit.ensures.settled) (c.in-Err-terminal_at.ensures.reads.err (rw c.test_file.ensures.conn at clean)))
 
 pub returns-in-Err-terminal_at-clause-same : goal.returns-in-Err-terminal_at-clause-same
 returns-in-Err-terminal_at-clause-same g c clean terminals room is =
-    room_left g.S.Store c.args.self.now c.test_file.new.self terminals room (returns-in-Err-terminal_at-clause-leaves g c clean) c.test_file.ensures.plan (rw c.test_file.ensures.known is.known) (knows_nothing c.test_file.new.self.cache room c.test_file.ensures.fleet c.test_file.ensures.boards c.test_file.ensures.dossiers c.test_file.ensures.recents) is
+    room_left g.S.Store c.args.self.now c.test_file.new.self terminals room (returns-in-Err-terminal_at-clause-leaves g c clean) c.test_file.ensures.plan (rw c.test_file.ensures.known is.known) (knows_nothing c.test_file.new.self.cache room c.test_file.ensures.nothing) is
 
 pub returns-in-Err-terminal_at-clause-survives : goal.returns-in-Err-terminal_at-clause-survives
 returns-in-Err-terminal_at-clause-survives g c = rw c.test_file.ensures.conn c.terminal_at.ensures.reads.survives
