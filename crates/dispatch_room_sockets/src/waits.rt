@@ -1,5 +1,5 @@
 //! How long a connection is waited for.
-ghost use Rattle.std.specs.Prelude.{◌≡◌, ◌+◌, ◌*◌, ◌<◌, ◌≤◌, IfSome, min};
+ghost use Rattle.std.specs.Prelude.{◌≡◌, ◌+◌, ◌*◌, ◌/◌, ◌<◌, ◌≤◌, IfSome, min};
 ghost use Rattle.std.specs.Duration.{as_nanos, max_nanos};
 
 use std::time::{Clock, Duration};
@@ -57,8 +57,9 @@ pub(crate) fn time_until<C: Clock>(clock: &C, moment: Duration) -> Option<Durati
 // The whole milliseconds of a wait, where it has some: so waits that are told one after the other
 // are mostly equal, and the system is told the first alone.
 fn in_millis(wait: Duration) -> Duration
-    ensures within { as_nanos result ≤ as_nanos wait }
-    ensures waits { 0 < as_nanos wait → 0 < as_nanos result }
+    ensures whole { 1_000_000 ≤ as_nanos wait
+        → as_nanos result ≡ as_nanos wait / 1_000_000 * 1_000_000 }
+    ensures short { as_nanos wait < 1_000_000 → result ≡ wait }
 {
     let rest = Duration::from_nanos(u64::from(wait.subsec_nanos() % NANOS));
     let whole = wait.saturating_sub(rest);

@@ -1,10 +1,10 @@
 //! What waits in a division: its active incidents and its uncleared exceptions.
-ghost use Rattle.std.specs.Prelude.{◌≡◌, [], IfErr, IfSome, OnOk};
-ghost use Rattle.room_tables_schema.specs.declared.faults.Fault.TheVariants.{Memory};
+ghost use Rattle.std.specs.Prelude.{◌≡◌, [], IfSome};
 ghost use Rattle.room_model.specs.Room.{IsInOrder, Room, apply_one};
 ghost use Rattle.room_store_cache.specs.Boards.{AreBoardsOf, IsBoardOf, is_exception, is_waiting};
 
 use crate::rows::keep_if;
+use crate::views::{View, follow_each};
 use room_place::plans::DivisionNumber;
 use room_tables_schema::faults::Fault;
 use room_types::changes::Change;
@@ -70,23 +70,14 @@ impl Boards {
         ensures { (room : Room) → IsInOrder room → AreBoardsOf self.old.kept.items room
             → AreBoardsOf self.new.kept.items (apply_one room change.now) }
     {
-        for at in 0..self.kept.len() {
-            if self.kept[at].follow(change).is_err() {
-                self.forget();
-                return;
-            }
-        }
+        follow_each(&mut self.kept, change);
     }
 }
 
-impl Board {
-    /// Makes a change of the room, where it is of an incident or of a report. The one fault is
-    /// `Memory`.
-    fn follow(&mut self, change: &Change) -> Result<(), Fault>
-        ensures board { OnOk result ((room : Room) → IsInOrder room → IsBoardOf self.old room
-            → IsBoardOf self.new (apply_one room change.now)) }
-        ensures memory { IfErr result (λ e. e ≡ Memory) }
-    {
+impl View for Board {
+    ghost is_so = { IsBoardOf };
+
+    fn follow(&mut self, change: &Change) -> Result<(), Fault> {
         match change {
             Change::PutIncident(incident) => {
                 let is_shown = is_waiting(self.division, incident);

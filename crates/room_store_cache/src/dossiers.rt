@@ -1,10 +1,10 @@
 //! Active incidents that desks named last, each with all its turns.
-ghost use Rattle.std.specs.Prelude.{◌≡◌, ◌==◌, ◌&&◌, [], IfErr, IfSome, OnOk};
-ghost use Rattle.room_tables_schema.specs.declared.faults.Fault.TheVariants.{Memory};
+ghost use Rattle.std.specs.Prelude.{◌≡◌, ◌==◌, ◌&&◌, [], IfSome};
 ghost use Rattle.room_model.specs.Room.{IsInOrder, Room, apply_one};
 ghost use Rattle.room_store_cache.specs.Dossiers.{AreDossiersOf, IsDossierOf};
 
 use crate::rows::keep_if;
+use crate::views::{View, follow_each};
 use room_place::plans::DivisionNumber;
 use room_tables_schema::faults::Fault;
 use room_types::changes::Change;
@@ -85,20 +85,7 @@ impl Dossiers {
         {
             self.let_go(incident.division, incident.number);
         }
-        self.follow_each(change);
-    }
-
-    // The dossiers after a change of the room: none, where memory is refused.
-    fn follow_each(&mut self, change: &Change)
-        ensures { (room : Room) → IsInOrder room → AreDossiersOf self.old.kept.items room
-            → AreDossiersOf self.new.kept.items (apply_one room change.now) }
-    {
-        for at in 0..self.kept.len() {
-            if self.kept[at].follow(change).is_err() {
-                self.forget();
-                return;
-            }
-        }
+        follow_each(&mut self.kept, change);
     }
 
     // Lets the dossier of a division's number go.
@@ -115,14 +102,10 @@ impl Dossiers {
     }
 }
 
-impl Dossier {
-    /// Makes a change of the room, where it is of this incident or of its turns. The one fault is
-    /// `Memory`.
-    fn follow(&mut self, change: &Change) -> Result<(), Fault>
-        ensures dossier { OnOk result ((room : Room) → IsInOrder room → IsDossierOf self.old room
-            → IsDossierOf self.new (apply_one room change.now)) }
-        ensures memory { IfErr result (λ e. e ≡ Memory) }
-    {
+impl View for Dossier {
+    ghost is_so = { IsDossierOf };
+
+    fn follow(&mut self, change: &Change) -> Result<(), Fault> {
         match change {
             Change::PutIncident(incident) => {
                 if self.is_of(incident.division, incident.number) {
@@ -137,7 +120,9 @@ impl Dossier {
             _ => Ok(()),
         }
     }
+}
 
+impl Dossier {
     // Whether it is what a division has under a number.
     fn is_of(&self, division: DivisionNumber, number: Number) -> bool
         ensures { result ≡ self.now.division == division && self.now.number == number }

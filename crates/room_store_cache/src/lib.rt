@@ -9,3 +9,4 @@ pub mod dossiers;
 pub mod fleets;
 pub mod recents;
 pub mod rows;
+pub mod views;

@@ -51,6 +51,9 @@ pub fn insert<S: Alter>(
     ensures ok { HasCleanDisk (state S.Store tx.new.conn.now)
         → OnOk result (Inside (state S.Store tx.old.conn.now) (state S.Store tx.new.conn.now)) }
     ensures writes { WritesInside S.Store tx.old.conn.now tx.new.conn.now result }
+    ensures why { HasCleanDisk (state S.Store tx.new.conn.now)
+        → IfErr result (λ e. ExecutesInside 0 text.now (bound params.now)
+        (state S.Store tx.old.conn.now) (state S.Store tx.new.conn.now) (Err e)) }
     ensures same_reference { tx.new.conn.ghost_name ≡ tx.old.conn.ghost_name }
 {
     match tx.execute(text, params) {

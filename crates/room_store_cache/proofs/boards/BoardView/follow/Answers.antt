@@ -4,18 +4,18 @@ use Rattle.room_types.specs.Keys.{incident_key, numbered_cmp, pair_cmp, report_k
 use Rattle.room_types.specs.Orders.{numbered_total, pairs_total}
 use Rattle.room_store_cache.specs.Boards.{is_exception, is_waiting}
 use Rattle.room_store_cache.proofs.KeptLaws.{pass_put}
-use Rattle.room_store_cache.proofs.boards.Board.follow.Goals as goal
+use Rattle.room_store_cache.proofs.boards.BoardView.follow.Goals as goal
 
-pub returns-in-PutIncident-clause-board : goal.returns-in-PutIncident-clause-board
-returns-in-PutIncident-clause-board c =
+pub returns-in-PutIncident-clause-so : goal.returns-in-PutIncident-clause-so
+returns-in-PutIncident-clause-so c =
     let x = c.args.self.now in
     on_ok_weaker c.keep_if.result (λ kept room in_order known. rw c.in-PutIncident.is (record {
       incidents = kept ∙ pass_put pair_cmp incident_key pairs_total (is_waiting x.division) x.incidents room.incidents c.in-PutIncident.incident _ c.is_waiting-is_shown.ensures in_order.incidents known.incidents;
       exceptions = known.exceptions;
     })) c.keep_if.ensures.kept
 
-pub returns-in-PutReport-clause-board : goal.returns-in-PutReport-clause-board
-returns-in-PutReport-clause-board c =
+pub returns-in-PutReport-clause-so : goal.returns-in-PutReport-clause-so
+returns-in-PutReport-clause-so c =
     let x = c.args.self.now in
     on_ok_weaker c.keep_if-in-PutReport.result (λ kept room in_order known. rw c.in-PutReport.is (record {
       incidents = known.incidents;
