@@ -1,11 +1,12 @@
-"""A disk that fails, from outside: each call in turn that changes a file fails, alone or with all
-calls after it. A request gets its answer or 42. After 42 either the room is served on and nothing
-has changed, or it ends as `storage`, and its file holds the room before the request or after it. The
-request, sent again to the room opened again, gets its answer. A room that is told to be created
-stands."""
+"""A disk that fails, from outside: each call in turn that reads or changes a file fails, alone or
+with all calls after it. A request gets its answer or 42. After 42 either the room is served on and
+nothing has changed, or it ends as `storage` within that connection, and its file holds the room
+before the request or after it. The request, sent again to the room opened again, gets its answer. A
+room that is told to be created stands."""
 # needs: python3 gcc libc6-dev sqlite3
 # builds: dispatch_room
 import contextlib
+import errno
 import re
 import subprocess
 
@@ -14,13 +15,27 @@ from room import PATIENT, PLAN, ask, call, dump, free_port, made, run
 
 # What is preloaded into the program.
 FAILING = COUNTING + r"""
-// Lets the calls that change a file fail from number FIRST to number LAST, counted from 1.
+// Lets the calls that read or change a file fail with ERROR from number FIRST to number LAST,
+// counted from 1; where SERVING is set, from the one after the program has said that it serves.
+#include <string.h>
+
+static int serves;
+
+ssize_t write(int file, const void *bytes, size_t size) {
+  serves |= file == STDOUT_FILENO && size == 8 && memcmp(bytes, "serving\n", 8) == 0;
+  return NEXT(write)(file, bytes, size);
+}
 
 static int fails(void) {
+  if (getenv("SERVING") != NULL && !serves) return 0;
   counted++;
   if (counted < atol(getenv("FIRST")) || counted > atol(getenv("LAST"))) return 0;
-  errno = EIO;
+  errno = atoi(getenv("ERROR"));
   return 1;
+}
+
+ssize_t pread(int file, void *bytes, size_t size, off_t at) {
+  return fails() ? -1 : NEXT(pread)(file, bytes, size, at);
 }
 
 ssize_t pwrite(int file, const void *bytes, size_t size, off_t at) {
@@ -36,11 +51,15 @@ int fdatasync(int file) { return fails() ? -1 : NEXT(fdatasync)(file); }
 
 MANY = 40  # so many calls fail in turn; with --all each of them
 LAST = 10 ** 9  # no program makes so many calls
+FEW, MOST = 3, 6  # so many connections come to a service that is without end
 
 
-def failing(first, last):
-    """What the library is told: the first and the last call that fails."""
-    return {'FIRST': first, 'LAST': last}
+def failing(first, last, error=errno.EIO):
+    """What the library is told: the first and the last call that fails, and how."""
+    return {'FIRST': first, 'LAST': last, 'ERROR': error}
+
+
+SERVING = {'SERVING': 1}  # calls are counted from then on
 
 
 NEVER = failing(0, 0)
@@ -113,3 +132,55 @@ class Faults(PreloadedTestCase):
                            ([ANSWERED], 0, b''))
                 self.check(f'a call, {name}, then the call: the room', rows_of(file), after)
         self.check('a fault has ended the room', ended > 0, True)
+
+    def served_on(self, told, room):
+        """Serves a room to whoever comes, without end: to connections that send one and the same
+        call, until it answers no more, or has answered a few of them and last none with 42. The
+        answers, the status (none where it is served on), and what was told."""
+        port, answers = free_port(), []
+        with self.program.start(told, 'serve', room, f'127.0.0.1:{port}', *PATIENT) as process:
+            is_served = process.stdout.readline() == b'serving\n'
+            while is_served and len(answers) < (MOST if answers[-1:] == [FAILED] else FEW):
+                answer = None
+                with contextlib.suppress(OSError):
+                    answer = ask(port, call(1))
+                is_served = bool(answer)
+                answers += [answer] if is_served else []
+            with contextlib.suppress(subprocess.TimeoutExpired):
+                process.wait(0 if is_served else 5)
+            status = process.poll()
+            process.kill()
+            return answers, status, process.stderr.read()
+
+    def test_service(self):
+        """Each call of the disk in turn fails while a room is served to whoever comes. The request that
+        meets it gets its answer or 42; the next one gets its answer, or the program has ended as
+        `storage`, so that whoever started it starts it again."""
+        room = made(self.folder / 'served.db')
+        file, before = self.fresh(room), rows_of(room)
+        served = self.served(NEVER | SERVING, file)
+        self.check('a service', served, ([ANSWERED, ANSWERED], 0, b''))
+        after, total = rows_of(file), self.program.total()
+        ended = 0
+        for first in range(1, total + 1):
+            for error in (errno.EIO, errno.ENOSPC):
+                name = f'a service, where {first} fails with {errno.errorcode[error]}'
+                file = self.fresh(room)
+                told = failing(first, first, error) | SERVING
+                answers, status, err = self.served_on(told, file)
+                ended += status == 3 and FAILED in answers
+                with self.subTest(f'{name}: how it goes on'):
+                    self.assertIn((status, err), [(None, b''), (3, b'storage\n')])
+                with self.subTest(f'{name}: the answers'):
+                    wanted = [ANSWERED] * len(answers)
+                    if FAILED in answers:
+                        wanted[answers.index(FAILED)] = FAILED
+                    self.assertEqual(answers, wanted)
+                    last = [ANSWERED] if status is None else [FAILED]
+                    self.assertEqual(answers[-1:], last if answers else [])
+                now = rows_of(file)
+                with self.subTest(f'{name}: the room'):
+                    self.assertIn(now, [after] if ANSWERED in answers else [before, after])
+                self.check(f'{name}, then the call', self.served(NEVER, file, 1), ([ANSWERED], 0, b''))
+                self.check(f'{name}, then the call: the room', rows_of(file), after)
+        self.check('a fault has ended the service', ended > 0, True)

@@ -12,7 +12,7 @@ import subprocess
 import sys
 import time
 
-from preloaded import PreloadedTestCase
+from preloaded import COUNTING, PreloadedTestCase
 from room import (FLEET, PATIENT, PLAN, PROGRAM, TOP, TestCase, call, dump, free_port, made,
                   message, read_dated, run, serving, sql, talk)
 from test_stops import EVERY, MANY, NEVER, STOPPING, stop
@@ -266,6 +266,22 @@ class Replayed(JournalTestCase):
             self.check(f'opened at {at}', replay(self.fresh(), text)[:2], (0, b'replayed 7\n'))
             self.check(f'opened at {at}: the room', dump(self.again), dump(self.room))
 
+    def test_open_before_a_head(self):
+        """A message without a status is done before a head to whose room it leads. Before another
+        head nothing is done, and that is told."""
+        head, sent = entries(self.text)[:2]
+        wanted = self.after(1)
+        for said, text in [
+            ('its room', written([head, sent, (*head[:2], digest.of_file(wanted))])),
+            ('another', written([head, sent, (*head[:2], digest.of_file(self.room))])),
+            ('none', written([head, sent, (*head[:2], '0' * 64)])),
+        ]:
+            led = said == 'its room'
+            status, out, err = replay(self.fresh(), text)
+            self.check(said, (status, out), (0, b'replayed 1\n') if led else (1, b''))
+            self.check(f'{said}: it is told', 'another room at record 1' in err, not led)
+            self.check(f'{said}: the room', dump(self.again), dump(wanted if led else self.before))
+
     def test_until(self):
         found = entries(self.text)
         moment = int(found[1][1])
@@ -387,3 +403,92 @@ class Stopped(PreloadedTestCase):
             talk(port, call(1), DUTY)
             process.wait(timeout=60)
         self.stopped('an order', before, MOBILISE)
+
+
+# What is preloaded where the list can't be made to last.
+SYNCING = COUNTING + r"""
+// Counts the syncs of the file or folder whose path is SYNCED, and lets that of number FAILS fail,
+// counted from 1.
+#include <string.h>
+
+static int fails(int file) {
+  char link[64], path[4096];
+  snprintf(link, sizeof link, "/proc/self/fd/%d", file);
+  ssize_t size = readlink(link, path, sizeof path - 1);
+  if (size < 0) abort();
+  path[size] = 0;
+  if (strcmp(path, getenv("SYNCED")) != 0) return 0;
+  if (++counted != atol(getenv("FAILS"))) return 0;
+  errno = EIO;
+  return 1;
+}
+
+int fsync(int file) { return fails(file) ? -1 : NEXT(fsync)(file); }
+
+int fdatasync(int file) { return fails(file) ? -1 : NEXT(fdatasync)(file); }
+"""
+
+
+class Unsynced(PreloadedTestCase):
+    """What a start and a message make last. Where a list could not be made to last, what was
+    answered is kept in it and in the room, the program ends, and the next start serves."""
+
+    LIBRARY = SYNCING
+
+    def setUp(self):
+        super().setUp()
+        self.before = made(self.folder / 'before.db', CREW)
+        self.lists = self.folder.resolve() / 'lists'
+        self.list = self.lists / 'room.list'
+
+    def served(self, sent, *words, fails=0, synced=None):
+        """Serves the room to one connection; the answers, the status, and what was told."""
+        told = {'SYNCED': synced or self.list, 'FAILS': fails}
+        return self.program.serve(told, self.file, sent, '--journal', self.list, *words)
+
+    def anew(self):
+        """A room and no list yet."""
+        self.file = self.fresh(self.before)
+        shutil.rmtree(self.lists, ignore_errors=True)
+        self.lists.mkdir()
+
+    def test_start(self):
+        """A start makes what stands in the list last, also where messages need not."""
+        self.anew()
+        self.check('it is served', self.served(QUEUE)[1:], (0, b''))
+        self.check('a new list', self.program.total(), 1)
+        self.check('it is served again', self.served(QUEUE)[1:], (0, b''))
+        self.check('a list that stands', self.program.total(), 1)
+        with self.list.open('ab') as it:
+            it.write(b'message 1')
+        self.check('it is served once more', self.served(QUEUE)[1], 0)
+        self.check('a list that is cut', self.program.total(), 2)
+
+    def test_folder(self):
+        self.anew()
+        self.check('it is served', self.served(QUEUE, synced=self.lists)[1:], (0, b''))
+        self.check('the folder of a new list', self.program.total(), 1)
+        self.anew()
+        told = self.served(QUEUE, synced=self.lists, fails=1)
+        self.check('where it fails', told, ([], 6, b'journal\n'))
+
+    def test_failing(self):
+        sent, words = b''.join([call(1), DUTY, MOBILISE]), ('--journal-sync', 'always')
+        self.anew()
+        answers, *end = self.served(sent, *words)
+        self.check('where none fails', ([it[0] for it in answers], end), ([200] * 3, [0, b'']))
+        total = self.program.total()
+        self.check('the start, its head and each message', total, 5)
+        for at in range(1, total + 1):
+            self.anew()
+            answers, *end = self.served(sent, *words, fails=at)
+            self.check(f'where {at} fails', end, [6, b'journal\n'])
+            kept = [int(it[1]) for it in entries(self.list.read_bytes()) if it[0] == 'answer']
+            self.check(f'where {at} fails: the answers', [it[0] for it in answers],
+                       kept[:len(answers)])
+            self.check(f'where {at} fails: each message before', len(kept), max(at - 3, 0))
+            self.check(f'after {at}', self.served(QUEUE, *words)[1:], (0, b''))
+            copy = shutil.copy(self.before, self.folder / 'copy.db')
+            status, _, err = replay(copy, self.list.read_bytes())
+            self.check(f'after {at}: the list', (status, err), (0, ''))
+            self.check(f'after {at}: the room', dump(copy), dump(self.file))

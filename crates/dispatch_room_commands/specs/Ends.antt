@@ -7,7 +7,7 @@ use Rattle.dispatch_room_board.specs.Boards.{IsBoard}
 use Rattle.dispatch_room_board.specs.declared.boards.Board.{Board}
 use Rattle.dispatch_room_board.specs.declared.boards.Reached.{Reached}
 use Rattle.dispatch_room_board.specs.declared.boards.Reached.TheVariants as reached
-use Rattle.dispatch_room_endings.specs.Endings.{refused, status_after}
+use Rattle.dispatch_room_endings.specs.Endings.{refused}
 use Rattle.dispatch_room_endings.specs.declared.endings.Done.{Done}
 use Rattle.dispatch_room_endings.specs.declared.endings.Done.TheVariants.{InPart, Whole}
 use Rattle.dispatch_room_endings.specs.declared.endings.Failure.{Failure}
@@ -48,12 +48,6 @@ abbrev pub IsPrinted : List ℕ → Bool → Bool → Option (List ℕ) → Opti
 IsPrinted heard proposes colour old new done =
     (board : Board) × IsBoard heard proposes colour board × Appends old new board.page.text.items
     × (end_of_board board.reached ≡ Ok done)
-
--- the exit status of a command line: by what was done, or by what its words are in place of a
--- command
-abbrev pub IsExit : ℕ → Type 0
-IsExit status = ((done : Result Done Failure) × (status ≡ status_after done))
-    ⊎ ((words : ErrorKind) × IsWordsStatus words status)
 
 -- why a replay stopped at a record, as the program tells it
 abbrev pub failure_at : ReplayFault → ℕ → Failure

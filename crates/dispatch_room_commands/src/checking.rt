@@ -1,6 +1,7 @@
 //! `check`: how much a room has, or what is wrong with its file.
-ghost use Rattle.std.specs.Prelude.{OnOk};
-ghost use Rattle.dispatch_room_work.specs.Checked.{IsTold};
+ghost use Rattle.std.specs.Prelude.{IfOk};
+ghost use Rattle.dispatch_room_commands.specs.Tasks.{IsCheck};
+ghost use Rattle.dispatch_room_commands.specs.Works.{Examines};
 
 use dispatch_room_disk::room_files::{RoomFile, Work, in_file};
 use dispatch_room_endings::endings::{Done, Failure};
@@ -17,7 +18,7 @@ pub fn check<O: Write>(
     file: &str,
     out: &mut O,
 ) -> Result<Done, Failure>
-    ensures { OnOk result (IsTold (O.contents out.old) (O.contents out.new)) }
+    ensures { IfOk result (IsCheck (O.contents out.old) (O.contents out.new)) }
 {
     in_file(rt, alloc, RoomFile::Kept(file), Examination, out)
 }
@@ -29,7 +30,9 @@ struct Examination;
 impl Work for Examination {
     type Done = Done;
 
-    ghost says = { λ _ old new _. IsTold old new };
+    ghost says = { λ _. Examines };
+
+    ghost refuses = { λ _ _ _ _ _. ⊥ };
 
     fn run<S: Alter + Drop, O: Write>(
         self,

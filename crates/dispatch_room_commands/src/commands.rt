@@ -1,7 +1,10 @@
 //! The commands over a room's file: what they write, and the exit status.
-ghost use Rattle.std.specs.Prelude.{◌≡◌};
+ghost use Rattle.std.specs.Prelude.{◌≡◌, IfOk, Result};
 ghost use Rattle.clap.specs.Words.{kind_of};
-ghost use Rattle.dispatch_room_commands.specs.Ends.{IsExit, IsHelpDone, IsWordsStatus, is_mistake};
+ghost use Rattle.clap.specs.declared.error.Error.{Error as Mistake};
+ghost use Rattle.dispatch_room_commands.specs.Ends.{IsHelpDone, IsWordsStatus, is_mistake};
+ghost use Rattle.dispatch_room_commands.specs.Tasks.{IsExit, IsTask};
+ghost use Rattle.dispatch_room_words.specs.declared.tasks.Task.{Task as Asked};
 
 use crate::boarding::board;
 use crate::checking::check;
@@ -34,9 +37,23 @@ pub fn command<O: Write, E: Write>(
     out: &mut O,
     err: &mut E,
 ) -> u8
-    ensures { IsExit result }
+    ensures { (asked : Result Asked Mistake)
+        × IsExit asked (O.contents out.old) (O.contents out.new) result }
 {
-    match words::read(alloc, words) {
+    exit(rt, alloc, words::read(alloc, words), out, err)
+}
+
+// Does a task, or tells what the words are in its place, and gives the exit status.
+fn exit<O: Write, E: Write>(
+    rt: &HostRuntime,
+    alloc: Global,
+    asked: Result<Task<'_>, Error>,
+    out: &mut O,
+    err: &mut E,
+) -> u8
+    ensures { IsExit asked.entry (O.contents out.old) (O.contents out.new) result }
+{
+    match asked {
         Ok(task) => {
             if let Some(file) = task.file() {
                 warn(rt, file, err);
@@ -65,7 +82,9 @@ fn perform<O: Write, E: Write>(
     task: &Task<'_>,
     out: &mut O,
     err: &mut E,
-) -> Result<Done, Failure> {
+) -> Result<Done, Failure>
+    ensures { IfOk result (λ done. IsTask (O.contents out.old) (O.contents out.new) done task.now) }
+{
     match *task {
         Task::Init { file, plan } => init(rt, alloc, file, plan, out),
         Task::Import { file, fleet } => import(rt, alloc, file, fleet, out),

@@ -1,9 +1,9 @@
 //! `init`: a room is created in a file, by a plan.
-ghost use Rattle.std.specs.Prelude.{◌≡◌, IfOk, Ok, OnOk};
-ghost use Rattle.std.specs.Io.KnownBytes.{Appends};
-ghost use Rattle.dispatch_room_endings.specs.declared.endings.Done.TheVariants.{Whole};
-ghost use Rattle.dispatch_room_files.specs.declared.plans.PlanFile.{PlanFile as File};
-ghost use Rattle.dispatch_room_work.specs.Created.{IsTold, created_text};
+ghost use Rattle.std.specs.Prelude.{IfOk};
+ghost use Rattle.sqlite.specs.Held.{state};
+ghost use Rattle.dispatch_room_commands.specs.Tasks.{IsInit};
+ghost use Rattle.dispatch_room_commands.specs.Works.{Creates};
+ghost use Rattle.dispatch_room_work.specs.Created.{ExplainsNone};
 
 use crate::files::read_text;
 use dispatch_room_disk::room_files::{RoomFile, Work, in_file};
@@ -24,9 +24,7 @@ pub fn init<O: Write>(
     plan: &str,
     out: &mut O,
 ) -> Result<Done, Failure>
-    ensures whole { IfOk result (λ done. done ≡ Whole) }
-    ensures text { OnOk result ((plan : File) × Appends (O.contents out.old) (O.contents out.new)
-        (created_text plan)) }
+    ensures { IfOk result (IsInit (O.contents out.old) (O.contents out.new)) }
 {
     let text = read_text(rt, plan)?;
     let plan = read_plan(alloc, text.as_slice())?;
@@ -43,7 +41,9 @@ struct Creation<'a> {
 impl<'a> Work for Creation<'a> {
     type Done = Done;
 
-    ghost says = { λ work old new done. IsTold work.plan.now old new (Ok done) };
+    ghost says = { λ work. Creates work.plan.now };
+
+    ghost refuses = { λ work S g conn. ExplainsNone (state g conn).now.schema work.plan.now };
 
     fn run<S: Alter + Drop, O: Write>(
         self,

@@ -1,7 +1,9 @@
 //! `import`: the rows of a fleet are enrolled in a room.
-ghost use Rattle.std.specs.Prelude.{List, Ok, IfOk};
-ghost use Rattle.dispatch_room_files.specs.declared.fleets.FleetLine.{FleetLine as Line};
-ghost use Rattle.dispatch_room_work.specs.Imported.{IsTold};
+ghost use Rattle.std.specs.Prelude.{◌≡◌, ◌⊎◌, IfOk};
+ghost use Rattle.dispatch_room_endings.specs.declared.endings.Failure.TheVariants.{Memory};
+ghost use Rattle.dispatch_room_commands.specs.Tasks.{IsImport};
+ghost use Rattle.dispatch_room_commands.specs.Works.{Enrols};
+ghost use Rattle.dispatch_room_opening.specs.Opened.{IsUnopened};
 
 use crate::files::read_text;
 use dispatch_room_disk::room_files::{RoomFile, Work, in_file};
@@ -22,8 +24,7 @@ pub fn import<O: Write>(
     fleet: &str,
     out: &mut O,
 ) -> Result<Done, Failure>
-    ensures { IfOk result (λ done. (lines : List Line)
-        × IsTold lines (O.contents out.old) (O.contents out.new) done) }
+    ensures { IfOk result (IsImport (O.contents out.old) (O.contents out.new)) }
 {
     let text = read_text(rt, fleet)?;
     let lines = read_fleet(alloc, text.as_slice())?;
@@ -42,7 +43,9 @@ struct Enrolment<'a> {
 impl<'a> Work for Enrolment<'a> {
     type Done = Done;
 
-    ghost says = { λ work old new done. IsTold work.lines.now old new done };
+    ghost says = { λ work. Enrols work.lines.now };
+
+    ghost refuses = { λ _ S g conn fault. (fault ≡ Memory) ⊎ IsUnopened g conn fault };
 
     fn run<S: Alter + Drop, O: Write>(
         self,

@@ -1,7 +1,8 @@
 //! `migrate`: a room of the first version is moved to this one.
-ghost use Rattle.std.specs.Prelude.{◌≡◌, codes, IfOk, OnOk};
-ghost use Rattle.std.specs.Io.KnownBytes.{Appends};
-ghost use Rattle.dispatch_room_endings.specs.declared.endings.Done.TheVariants.{Whole};
+ghost use Rattle.std.specs.Prelude.{IfOk};
+ghost use Rattle.dispatch_room_commands.specs.Tasks.{IsMigrate};
+ghost use Rattle.dispatch_room_commands.specs.Works.{Moves};
+ghost use Rattle.dispatch_room_work.specs.Migrated.{IsUnmoved};
 
 use dispatch_room_disk::room_files::{RoomFile, Work, in_file};
 use dispatch_room_endings::endings::{Done, Failure};
@@ -18,9 +19,7 @@ pub fn migrate<O: Write>(
     file: &str,
     out: &mut O,
 ) -> Result<Done, Failure>
-    ensures whole { IfOk result (λ done. done ≡ Whole) }
-    ensures text { OnOk result (Appends (O.contents out.old) (O.contents out.new)
-        (codes "migrated\n")) }
+    ensures { IfOk result (IsMigrate (O.contents out.old) (O.contents out.new)) }
 {
     in_file(rt, alloc, RoomFile::Kept(file), Move, out)?;
     match writeln!(out, "migrated") {
@@ -36,7 +35,9 @@ struct Move;
 impl Work for Move {
     type Done = ();
 
-    ghost says = { λ _ old new _. new ≡ old };
+    ghost says = { λ _. Moves };
+
+    ghost refuses = { λ _ S g conn. IsUnmoved g conn };
 
     fn run<S: Alter + Drop, O: Write>(
         self,

@@ -1,6 +1,10 @@
 //! `replay`: what a list says is done to the room of a file.
-ghost use Rattle.std.specs.Prelude.{◌≡◌, ⊤, false};
+ghost use Rattle.std.specs.Prelude.{◌≡◌, ℕ, List, Option, Ok, true, false, IfOk};
 ghost use Rattle.dispatch_room_commands.specs.Ends.{failure_of};
+ghost use Rattle.dispatch_room_commands.specs.Tasks.{IsReplay};
+ghost use Rattle.dispatch_room_commands.specs.Works.{AreAnswered, IsReplayed, IsTold, Replays};
+ghost use Rattle.dispatch_room_opening.specs.Opened.{IsUnopened};
+ghost use Rattle.dispatch_room_replaying.specs.Replays.{digits_of};
 
 use dispatch_room_disk::room_files::{RoomFile, Work, in_file};
 use dispatch_room_endings::endings::{Done, Failure, refused};
@@ -9,6 +13,7 @@ use dispatch_room_replaying::each::answer_each;
 use dispatch_room_replaying::faults::{ReplayFault, Stopped};
 use dispatch_room_replaying::replaying::{self, Replayed};
 use dispatch_room_words::tasks::Replay;
+use room_http_messages::sinks::Sink;
 use room_http_messages::sources::Source;
 use room_http_messages::wires::Wire;
 use room_http_time::zones::Zone;
@@ -26,7 +31,10 @@ pub fn replay<O: Write, E: Write>(
     replay: &Replay,
     out: &mut O,
     err: &mut E,
-) -> Result<Done, Failure> {
+) -> Result<Done, Failure>
+    ensures { IfOk result (λ done. IsReplay (O.contents out.old) (O.contents out.new) done
+        replay.now) }
+{
     let replaying = Replaying { rt, replay, err };
     in_file(rt, alloc, RoomFile::Kept(file), replaying, out)
 }
@@ -42,7 +50,9 @@ struct Replaying<'a, E> {
 impl<'a, E: Write> Work for Replaying<'a, E> {
     type Done = Done;
 
-    ghost says = { λ _ _ _ _. ⊤ };
+    ghost says = { λ work. Replays work.replay.now };
+
+    ghost refuses = { λ _ S g conn. IsUnopened g conn };
 
     fn run<S: Alter + Drop, O: Write>(
         self,
@@ -70,10 +80,19 @@ fn replay_in<R: Source, M: Digested, O: Write, E: Write>(
 ) -> Result<Done, Failure>
     requires list { R.has_failed list.old ≡ false }
     requires ready { M.is_ready room.old }
-    ensures { M.is_ready room.new }
+    ensures ready { M.is_ready room.new }
+    ensures trusted { M.is_trusted room.new → M.is_trusted room.old }
+    ensures replayed { replay.now.answers ≡ false → IsReplayed M.step zone.now
+        (digits_of M.digest_of) (M.is_trusted room.new) (M.stands room.old) (M.stands room.new)
+        (R.left list.old) (O.contents out.old) (O.contents out.new) (R.has_failed list.new) result
+        replay.now.until }
+    ensures answered { replay.now.answers ≡ true → (holds : Option (List ℕ))
+        × AreAnswered M.step zone.now (digits_of M.digest_of) (M.is_trusted room.new)
+        (M.stands room.old) (M.stands room.new) (R.left list.old) (O.contents out.old) holds
+        (R.has_failed list.new) result }
 {
     if replay.answers {
-        return answer(alloc, list, room, zone, out);
+        return answer(alloc, list, room, zone, &mut Wire::new(out));
     }
     match replaying::replay(alloc, list, room, zone, &replay.until) {
         Ok(replayed) => tell(&replayed, out, err),
@@ -82,29 +101,32 @@ fn replay_in<R: Source, M: Digested, O: Write, E: Write>(
 }
 
 // Writes the answer to each record of a list.
-fn answer<R: Source, M: Digested, O: Write>(
+fn answer<R: Source, M: Digested, W: Sink>(
     alloc: Global,
     list: &mut R,
     room: &mut M,
     zone: &Zone,
-    out: &mut O,
+    writer: &mut W,
 ) -> Result<Done, Failure>
     requires list { R.has_failed list.old ≡ false }
+    requires writer { W.has_failed writer.old ≡ false }
     requires ready { M.is_ready room.old }
-    ensures { M.is_ready room.new }
+    ensures ready { M.is_ready room.new }
+    ensures trusted { M.is_trusted room.new → M.is_trusted room.old }
+    ensures answered { AreAnswered M.step zone.now (digits_of M.digest_of)
+        (M.is_trusted room.new) (M.stands room.old) (M.stands room.new) (R.left list.old)
+        (W.held writer.old) (W.held writer.new) (R.has_failed list.new) result }
 {
-    match answer_each(alloc, list, &mut Wire::new(out), room, zone) {
+    match answer_each(alloc, list, writer, room, zone) {
         Ok(_) => Ok(Done::Whole),
         Err(stopped) => Err(failure_of(&stopped)),
     }
 }
 
 // Tells how much was replayed.
-fn tell<O: Write, E: Write>(
-    replayed: &Replayed,
-    out: &mut O,
-    err: &mut E,
-) -> Result<Done, Failure> {
+fn tell<O: Write, E: Write>(replayed: &Replayed, out: &mut O, err: &mut E) -> Result<Done, Failure>
+    ensures { IsTold (Ok replayed.now) (O.contents out.old) (O.contents out.new) result }
+{
     if replayed.is_open {
         let _ = writeln!(err, "the last record has no status, and was left out");
     }

@@ -1,6 +1,12 @@
 //! `serve`: a room is served over TCP, one connection after another.
-ghost use Rattle.std.specs.Prelude.{◌≡◌, ⊤, None, false};
+ghost use Rattle.std.specs.Prelude.{◌≡◌, ℕ, List, Bool, Option, None, false, is_some, IfErr, IfOk, IsSome, OnOk};
 ghost use Rattle.dispatch_room_endings.specs.declared.endings.Failure.TheVariants.{Network};
+ghost use Rattle.dispatch_room_journal.specs.Records.{answer_text, message_text, room_text};
+ghost use Rattle.dispatch_room_opening.specs.Opened.{IsUnopened};
+ghost use Rattle.dispatch_room_serving.specs.Journals.{failed_by};
+ghost use Rattle.dispatch_room_serving.specs.Rooms.{ServesRoom};
+ghost use Rattle.dispatch_room_commands.specs.Tasks.{IsServe};
+ghost use Rattle.dispatch_room_commands.specs.Works.{Serves};
 
 use dispatch_room_disk::room_files::{RoomFile, Work, in_file};
 use dispatch_room_endings::endings::{Done, Failure};
@@ -16,8 +22,8 @@ use dispatch_room_sockets::readers::SocketReader;
 use dispatch_room_sockets::sides::sides;
 use dispatch_room_sockets::waits::Waits;
 use dispatch_room_sockets::writers::SocketWriter;
-use dispatch_room_words::tasks::Service;
-use room_http_time::clocks::MachineClock;
+use dispatch_room_words::tasks::{self, Service};
+use room_http_time::clocks::{Clock, MachineClock};
 use sqlite::{Alter, Connection};
 use std::alloc::Global;
 use std::fs::File;
@@ -36,11 +42,11 @@ pub fn serve_file<O: Write, E: Write>(
     service: Service<'_>,
     out: &mut O,
     err: &mut E,
-) -> Result<Done, Failure> {
-    let journal = match &service.journal {
-        Some(journal) => Some(open_journal(rt, alloc, journal.list, err)?),
-        None => None,
-    };
+) -> Result<Done, Failure>
+    ensures { IfOk result (λ done. IsServe (O.contents out.old) (O.contents out.new) done
+        service.entry) }
+{
+    let journal = journal_file(rt, alloc, &service.journal, err)?;
     let serving = Serving {
         rt,
         service,
@@ -48,6 +54,21 @@ pub fn serve_file<O: Write, E: Write>(
         err,
     };
     in_file(rt, alloc, RoomFile::Kept(file), serving, out)
+}
+
+// The file of a journal, where one is wanted.
+fn journal_file<E: Write>(
+    rt: &HostRuntime,
+    alloc: Global,
+    journal: &Option<tasks::Journal<'_>>,
+    err: &mut E,
+) -> Result<Option<File>, Failure>
+    ensures { IfOk result (λ file. is_some file ≡ is_some journal.now) }
+{
+    match journal {
+        Some(journal) => Ok(Some(open_journal(rt, alloc, journal.list, err)?)),
+        None => Ok(None),
+    }
 }
 
 // The room is served to those who call at an address.
@@ -62,7 +83,9 @@ struct Serving<'a, E> {
 impl<'a, E: Write> Work for Serving<'a, E> {
     type Done = Done;
 
-    ghost says = { λ _ _ _ _. ⊤ };
+    ghost says = { λ work. Serves (is_some work.journal) work.service.connections };
+
+    ghost refuses = { λ _ S g conn. IsUnopened g conn };
 
     fn run<S: Alter + Drop, O: Write>(
         self,
@@ -76,53 +99,84 @@ impl<'a, E: Write> Work for Serving<'a, E> {
             journal,
             err,
         } = self;
-        serve_room(rt, alloc, conn, &service, journal.as_ref(), out, err)
+        let mut callers = TcpCallers {
+            rt,
+            address: service.address,
+            waits: waits_of(&service),
+            out,
+            listener: None,
+        };
+        let mut clock = MachineClock::new(rt);
+        serve_room(
+            rt,
+            alloc,
+            conn,
+            &service,
+            &journal,
+            &mut callers,
+            &mut clock,
+            err,
+        )
     }
 }
 
-// Serves the room of a database to those who call at an address.
-fn serve_room<S: Alter + Drop, O: Write, E: Write>(
+// Serves the room of a database to those who call, so many as the service says, and keeps a journal
+// where there is a file for it.
+fn serve_room<S: Alter + Drop, P: Callers, C: Clock, E: Write>(
     rt: &HostRuntime,
     alloc: Global,
     conn: Connection<S>,
     service: &Service<'_>,
-    journal: Option<&File>,
-    out: &mut O,
+    journal: &Option<File>,
+    callers: &mut P,
+    clock: &mut C,
     err: &mut E,
 ) -> Worked<Done, S>
     requires { conn.in_transaction ≡ false }
+    ensures served { IfOk result (λ worked. (kept : Option (List ℕ)) × (keeps : Option (List ℕ))
+        × (fails : Bool) × ServesRoom S.Store (is_some journal.now) room_text message_text answer_text conn
+        (λ store. record {
+          heard = P.heard callers.old;
+          told = P.told callers.old;
+          stage = record {
+            given = C.given clock.old;
+            kept = kept;
+            has_failed = false;
+            store = store;
+          };
+        })
+        (λ store. record {
+          heard = P.heard callers.new;
+          told = P.told callers.new;
+          stage = record {
+            given = C.given clock.new;
+            kept = keeps;
+            has_failed = fails;
+            store = store;
+          };
+        })
+        service.now.connections worked) }
+    ensures fault { IfErr result (IsUnopened S.Store conn) }
 {
-    let mut clock = MachineClock::new(rt);
     let log = Log::new(alloc, rt, err, service.log);
     let mut watch = Watch::new(log, journal_of(service, journal));
-    let mut callers = TcpCallers {
-        rt,
-        address: service.address,
-        waits: waits_of(service),
-        out,
-        listener: None,
-    };
-    serve_in(
-        alloc,
-        conn,
-        &mut callers,
-        &mut clock,
-        &mut watch,
-        service.connections,
-    )
+    serve_in(alloc, conn, callers, clock, &mut watch, service.connections)
 }
 
 // The journal of a service, in its file.
 fn journal_of<'a>(
     service: &Service<'_>,
-    file: Option<&'a File>,
-) -> Option<Journal<JournalFile<'a>>> {
+    file: &'a Option<File>,
+) -> Option<Journal<JournalFile<&'a File>>>
+    ensures kept { is_some result ≡ is_some file.now }
+    ensures fresh { failed_by result ≡ false }
+{
     let is_synced = match service.journal {
         Some(journal) => journal.is_synced,
         None => false,
     };
     match file {
-        Some(file) => Some(Journal::new(JournalFile::new(file, is_synced))),
+        Some(file) => Some(Journal::new(JournalFile::new(file), is_synced)),
         None => None,
     }
 }
@@ -145,6 +199,23 @@ type Reader<'a> = SocketReader<'a, TcpStream, HostRuntime>;
 
 type Writer<'a> = SocketWriter<'a, TcpStream, HostRuntime>;
 
+impl<'a, O: Write> TcpCallers<'a, O> {
+    // Listens at the address, and says so.
+    fn listen(&mut self) -> Result<(), Failure>
+        ensures listens { OnOk result (IsSome self.new.listener) }
+        ensures fault { IfErr result (λ fault. fault ≡ Network) }
+    {
+        let Ok(listener) = TcpListener::bind(self.rt, self.address) else {
+            return Err(Failure::Network);
+        };
+        if writeln!(self.out, "serving").is_err() || self.out.flush().is_err() {
+            return Err(Failure::Network);
+        }
+        self.listener = Some(listener);
+        Ok(())
+    }
+}
+
 impl<'a, O: Write> Callers for TcpCallers<'a, O> {
     type Reader = Reader<'a>;
 
@@ -154,16 +225,8 @@ impl<'a, O: Write> Callers for TcpCallers<'a, O> {
 
     ghost told = { λ _. None };
 
-    // Listens at the address, and says so.
     fn begin(&mut self) -> Result<(), Failure> {
-        let Ok(listener) = TcpListener::bind(self.rt, self.address) else {
-            return Err(Failure::Network);
-        };
-        if writeln!(self.out, "serving").is_err() || self.out.flush().is_err() {
-            return Err(Failure::Network);
-        }
-        self.listener = Some(listener);
-        Ok(())
+        self.listen()
     }
 
     fn next(&mut self) -> Option<(Reader<'a>, Writer<'a>)> {

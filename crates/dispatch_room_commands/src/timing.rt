@@ -1,6 +1,8 @@
 //! `times`: the report of a division's day.
-ghost use Rattle.std.specs.Prelude.{◌≡◌, ⊤, IfOk};
-ghost use Rattle.dispatch_room_endings.specs.declared.endings.Done.TheVariants.{Whole};
+ghost use Rattle.std.specs.Prelude.{IfOk};
+ghost use Rattle.dispatch_room_commands.specs.Tasks.{IsTimes};
+ghost use Rattle.dispatch_room_commands.specs.Works.{Reports};
+ghost use Rattle.dispatch_room_opening.specs.Opened.{IsUnopened};
 
 use dispatch_room_disk::room_files::{RoomFile, Work, in_file};
 use dispatch_room_endings::endings::{Done, Failure};
@@ -20,7 +22,8 @@ pub fn times<O: Write>(
     day: &str,
     out: &mut O,
 ) -> Result<Done, Failure>
-    ensures { IfOk result (λ done. done ≡ Whole) }
+    ensures { IfOk result (λ done. IsTimes (O.contents out.old) (O.contents out.new) done division
+        day.now) }
 {
     let report = in_file(
         rt,
@@ -45,7 +48,9 @@ struct Report<'a> {
 impl<'a> Work for Report<'a> {
     type Done = Vec<u8>;
 
-    ghost says = { λ _ _ _ _. ⊤ };
+    ghost says = { λ work. Reports work.division work.day.now };
+
+    ghost refuses = { λ _ S g conn. IsUnopened g conn };
 
     fn run<S: Alter + Drop, O: Write>(
         self,

@@ -1,9 +1,9 @@
 //! The file of a new room: its owner's alone, and with small pages.
-ghost use Rattle.std.specs.Prelude.{◌≡◌, IfErr, IfOk, IsTrue, OnOk};
+ghost use Rattle.std.specs.Prelude.{◌≡◌, true, IfErr, IsTrue, OnOk};
 ghost use Rattle.sqlite_pages.specs.declared.error.Error.TheVariants.{Corrupt};
 ghost use Rattle.sqlite_wal.specs.Reads.{AreClean};
 ghost use Rattle.dispatch_room_disk.specs.Faults.{IsFileFault};
-ghost use Rattle.dispatch_room_disk.specs.NewFiles.{IsBegun};
+ghost use Rattle.dispatch_room_disk.specs.NewFiles.{IsBegun, IsSpared};
 
 use crate::opening::open_files;
 use dispatch_room_endings::endings::Failure;
@@ -28,8 +28,8 @@ pub fn make_file(rt: &HostRuntime, path: &str) -> Result<(), Failure>
 {
     make_private(rt, path)?;
     let (files, options) = open_files(rt, path, Unknown)?;
-    begin(rt.alloc(), files, options)?;
-    Ok(())
+    let (begun, _files) = begin(rt.alloc(), files, options);
+    begun
 }
 
 // Makes a file that its owner alone reads and writes, where none is there; its log gets the same
@@ -37,39 +37,49 @@ pub fn make_file(rt: &HostRuntime, path: &str) -> Result<(), Failure>
 fn make_private(rt: &HostRuntime, path: &str) -> Result<(), Failure>
     ensures { IfErr result IsFileFault }
 {
-    match OpenOptions::new()
-        .write(true)
-        .create_new(true)
-        .mode(0o600)
-        .open(rt, path)
-    {
+    match private_options().open(rt, path) {
         Err(error) if error.kind() == ErrorKind::OutOfMemory => Err(Failure::Memory),
         _ => Ok(()),
     }
 }
 
-// Begins an empty database in files that hold none. A stop on the way leaves no database, which can
-// be begun again, or an empty one.
+// How that file is opened: one that is there is not, and so stays as it is.
+fn private_options() -> OpenOptions
+    ensures { result.create_new ≡ true }
+{
+    let mut options = OpenOptions::new();
+    options.mode(0o600);
+    options.write(true);
+    options.create_new(true);
+    options
+}
+
+// Begins an empty database in files that hold none, and gives them back. A stop on the way leaves
+// no database, which can be begun again, or an empty one. Files that hold one are left as they are,
+// also where it fails.
 fn begin<D: Disk + Drop>(
     alloc: Global,
     files: Files<D>,
     options: Options,
-) -> Result<Files<D>, Failure>
+) -> (Result<(), Failure>, Files<D>)
     requires log { IsTrue (D.Disk.is_usable files.log) }
     requires db { IsTrue (D.Disk.is_usable files.db) }
-    ensures begun { IfOk result (λ left. AreClean D.Disk left.log left.db
-        → IsBegun D.Disk files left) }
-    ensures fault { IfErr result IsFileFault }
+    ensures begun { AreClean D.Disk result.1.log result.1.db
+        → OnOk result.0 (IsBegun D.Disk files result.1) }
+    ensures spared { AreClean D.Disk result.1.log result.1.db → IsSpared D.Disk files result.1 }
+    ensures fault { IfErr result.0 IsFileFault }
 {
     let size = PageSize::new(PAGE).unwrap();
-    let Ok(pager) = Pager::new(alloc, files, size, options) else {
-        return Err(Failure::Memory);
+    let pager = match Pager::new(alloc, files, size, options) {
+        Ok(pager) => pager,
+        Err(failed) => return (Err(Failure::Memory), failed.value),
     };
-    let Ok(mut pool) = Pool::new(alloc, pager, false) else {
-        return Err(Failure::Memory);
+    let mut pool = match Pool::new(alloc, pager, false) {
+        Ok(pool) => pool,
+        Err(failed) => return (Err(Failure::Memory), failed.value.close()),
     };
-    begun(pool.create())?;
-    Ok(pool.close())
+    let made = begun(pool.create());
+    (made, pool.close())
 }
 
 // What beginning a database came to: files that hold one already are refused as `Corrupt`.

@@ -1,5 +1,5 @@
 //! The files of a room, opened.
-ghost use Rattle.std.specs.Prelude.{IfErr, IfOk, IsTrue};
+ghost use Rattle.std.specs.Prelude.{◌≡◌, IfErr, IfOk, IsTrue};
 ghost use Rattle.sqlite_std_file.specs.File.{file_is_usable};
 ghost use Rattle.dispatch_room_disk.specs.Faults.{IsFileFault};
 
@@ -26,6 +26,8 @@ pub fn open_files<S: Start>(
 ) -> Result<(Files<FileFrom<S>>, Options), Failure>
     ensures log { IfOk result (λ opened. IsTrue (file_is_usable S.Start opened.0.log)) }
     ensures db { IfOk result (λ opened. IsTrue (file_is_usable S.Start opened.0.db)) }
+    ensures kept { IfOk result (λ opened. opened.1.cache_pages ≡ 4096) }
+    ensures copied { IfOk result (λ opened. opened.1.checkpoint_frames ≡ 8192) }
     ensures fault { IfErr result IsFileFault }
 {
     let files = match sqlite_std_file::open(rt, path, start) {

@@ -1,13 +1,19 @@
 //! The file of a room: found or made, opened, worked in, and closed.
-ghost use Rattle.std.specs.Prelude.{◌≡◌, ◌⊎◌, ℕ, List, Option, Err, Ok, false, IfErr, IfOk, IsOk, OnOk};
+ghost use Rattle.std.specs.Prelude.{◌≡◌, ◌⊎◌, Err, Ok, true, false, IfErr, IfOk, IsOk, IsTrue, OnOk};
+ghost use Rattle.sqlite.specs.Files.{file_state};
+ghost use Rattle.sqlite.specs.Held.{Held};
+ghost use Rattle.sqlite.specs.State.{HasCleanDisk};
+ghost use Rattle.sqlite_trees.specs.declared.store.Store.{Ghosts};
+ghost use Rattle.dispatch_room_endings.specs.declared.endings.Failure.{Failure as Fault};
 ghost use Rattle.dispatch_room_endings.specs.declared.endings.Failure.TheVariants as failure;
 ghost use Rattle.dispatch_room_disk.specs.Faults.{IsFileFault, fault_of};
+ghost use Rattle.dispatch_room_disk.specs.RoomFiles.{IsConnected, IsCopiedOut, IsDone, IsDoneInFile, IsFound, IsUnharmed, Saying};
 
 use crate::new_files::make_file;
 use crate::opening::open_files;
 use dispatch_room_endings::endings::Failure;
 use dispatch_room_opening::rooms::Worked;
-use sqlite::{Alter, Connection, Error, ErrorCode, File, FileStore, Unknown};
+use sqlite::{Alter, Connection, Error, ErrorCode, File, FileStore, Files, Options, Unknown};
 use sqlite_disk::Disk;
 use std::alloc::Global;
 use std::fs;
@@ -37,8 +43,12 @@ pub trait Work: Drop {
     /// What comes of it.
     type Done: Drop;
 
-    // What holds of what the output held before and after, and of what came of it.
-    ghost says: { Self → Option (List ℕ) → Option (List ℕ) → Self.Done → Type 0 };
+    // What holds of the database before and after, over any storage, of what the output held before
+    // and after, and of what came of it.
+    ghost says: { Self → Saying Self.Done };
+
+    // What holds of a database in which there is nothing to be done, and of why.
+    ghost refuses: { Self → (S : Type 0) → Ghosts S → Held S → Fault → Type 0 };
 
     /// Does it in a database, and writes to the output what it tells.
     fn run<S: Alter + Drop, O: Write>(
@@ -47,9 +57,10 @@ pub trait Work: Drop {
         conn: Connection<S>,
         out: &mut O,
     ) -> Worked<Self::Done, S>
-        requires { conn.in_transaction ≡ false }
-        ensures { IfOk result (λ worked.
-            IfOk worked.0 (says self (O.contents out.old) (O.contents out.new))) };
+        requires outside { conn.in_transaction ≡ false }
+        ensures done { IfOk result (λ worked. says self S S.Store conn worked.1
+            (O.contents out.old) (O.contents out.new) worked.0) }
+        ensures refused { IfErr result (refuses self S S.Store conn) };
 }
 
 /// Does what is to be done in a room's file, and closes the file with all that was committed in it.
@@ -60,7 +71,7 @@ pub fn in_file<W: Work, O: Write>(
     work: W,
     out: &mut O,
 ) -> Result<W::Done, Failure>
-    ensures { IfOk result (W.says work (O.contents out.old) (O.contents out.new)) }
+    ensures { IfOk result (IsDoneInFile (W.says work) (O.contents out.old) (O.contents out.new)) }
 {
     match connect(rt, file) {
         Ok(conn) => on_disk(alloc, conn, work, out),
@@ -76,7 +87,7 @@ fn on_disk<D: Disk + Drop, W: Work, O: Write>(
     out: &mut O,
 ) -> Result<W::Done, Failure>
     requires { conn.in_transaction ≡ false }
-    ensures { IfOk result (W.says work (O.contents out.old) (O.contents out.new)) }
+    ensures { IfOk result (IsDone (W.says work) conn (O.contents out.old) (O.contents out.new)) }
 {
     closed(work.run(alloc, conn, out))
 }
@@ -85,40 +96,77 @@ fn on_disk<D: Disk + Drop, W: Work, O: Write>(
 fn closed<D: Disk + Drop, T: Drop>(worked: Worked<T, FileStore<D>>) -> Result<T, Failure>
     ensures room { OnOk result (IsOk worked) }
     ensures done { IfOk worked (λ worked. IfOk result (λ done. worked.0 ≡ Ok done)) }
+    ensures copied { IfOk worked (λ worked. OnOk result (IsCopiedOut worked.1)) }
     ensures fault { IfOk worked (λ worked. IfErr result (λ fault. (worked.0 ≡ Err fault)
         ⊎ IsFileFault fault)) }
     ensures none { IfErr worked (λ fault. result ≡ Err fault) }
 {
     match worked {
-        Ok((done, conn)) => match conn.close() {
+        Ok((done, conn)) => match copied_out(conn) {
             Ok(()) => done,
-            Err(error) => Err(fault_of(error)),
+            Err(fault) => Err(fault),
         },
         Err(fault) => Err(fault),
+    }
+}
+
+// Closes a file, with all in it that was committed.
+fn copied_out<D: Disk + Drop>(conn: Connection<FileStore<D>>) -> Result<(), Failure>
+    ensures copied { OnOk result (IsCopiedOut conn) }
+    ensures fault { IfErr result IsFileFault }
+{
+    match conn.close_files() {
+        Ok(files) => {
+            drop(files);
+            Ok(())
+        }
+        Err((error, store)) => {
+            drop(store.close());
+            Err(fault_of(error))
+        }
     }
 }
 
 // A connection to the file of a room.
 fn connect(rt: &HostRuntime, file: RoomFile<'_>) -> Result<Connection<FileStore<File>>, Failure>
     ensures outside { IfOk result (λ conn. conn.in_transaction ≡ false) }
+    ensures connected { IfOk result IsConnected }
     ensures fault { IfErr result (λ fault. (fault ≡ failure.File) ⊎ IsFileFault fault) }
 {
     match file {
-        RoomFile::Kept(path) => find(rt, path)?,
+        RoomFile::Kept(path) => found(is_begun(rt, path))?,
         RoomFile::New(path) => make_file(rt, path)?,
     }
     let (files, options) = open_files(rt, file.path(), Unknown)?;
-    match Connection::open_files(rt.alloc(), files, options) {
+    connection(rt.alloc(), files, options)
+}
+
+// A connection to the database that files hold.
+fn connection<D: Disk + Drop>(
+    alloc: Global,
+    files: Files<D>,
+    options: Options,
+) -> Result<Connection<FileStore<D>>, Failure>
+    requires log { IsTrue (D.Disk.is_usable files.log) }
+    requires db { IsTrue (D.Disk.is_usable files.db) }
+    ensures outside { IfOk result (λ conn. conn.in_transaction ≡ false) }
+    ensures found { IfOk result (λ conn. HasCleanDisk (file_state conn) → IsFound files conn) }
+    ensures unharmed { IfErr result (IsUnharmed D.Disk files) }
+    ensures fault { IfErr result IsFileFault }
+{
+    match Connection::open_files(alloc, files, options) {
         Ok(conn) => Ok(conn),
         Err((error, _)) => Err(fault_of(error)),
     }
 }
 
-// Finds a file that holds a database, whole or damaged.
-fn find(rt: &HostRuntime, path: &str) -> Result<(), Failure>
-    ensures { IfErr result (λ fault. (fault ≡ failure.File) ⊎ IsFileFault fault) }
+// What is told of a file by whether a database was begun in it, whole or damaged.
+fn found(begun: io::Result<bool>) -> Result<(), Failure>
+    ensures begun { OnOk result (begun ≡ Ok true) }
+    ensures none { begun ≡ Ok false → result ≡ Err failure.File }
+    ensures fault { IfErr result (λ fault. (fault ≡ failure.File) ⊎ IsFileFault fault) }
 {
-    match is_begun(rt, path) {
+    match begun {
         Ok(true) => Ok(()),
         Ok(false) => Err(Failure::File),
         Err(error) => Err(match error.kind() {

@@ -2,6 +2,7 @@
 use Rattle.std.proofs.Common.{◌≡◌, ℕ, List, [], inl, inr}
 use Rattle.std.specs.Prelude.{⊤}
 use Rattle.room_types.specs.declared.fleet.Terminal.{Terminal}
+use Rattle.room_types.specs.declared.refusals.Refusal.{Refusal}
 use Rattle.room_model.specs.Room.{Room}
 use Rattle.room_http_answers.specs.Replies.{fixed_bytes}
 use Rattle.room_http_time.specs.declared.zones.Zone.{Zone}
@@ -11,11 +12,12 @@ use Rattle.room_http.specs.declared.serving.ServeEnd.TheVariants.{Closed, Cut, R
 use Rattle.room_http.specs.Arrivals.{Arrival, is_head_only}
 use Rattle.room_http.specs.Serving.{Sides, Finish, Answered, HasActed, Unserved, Unwritten, Broken, Untimed, ServeIs}
 use Rattle.dispatch_room_example.specs.Example.{untold}
-use Rattle.room_http.specs.Talk.{Timed, IsFront, BreaksOff, Talks}
+use Rattle.room_http.specs.Course.{Course}
+use Rattle.room_http.specs.Talk.{Timed, IsCaused, IsFront, BreaksOff, Talks}
 
 module _ (step : Step) (zone : Zone) (old : Sides) (new : Finish) (trusted : Type 0)
     (trust : trusted) (stood stands : List Terminal → Room → Type 0)
-    (wants : Timed → List Terminal → Room → Type 0) (asked : List Terminal → Room → Type 0)
+    (wants : Timed → List Terminal → Room → Type 0) (failed : Type 0) (asked : List Terminal → Room → Type 0)
     (is : (terminals : List Terminal) (room : Room) → asked terminals room → stood terminals room) where
   -- what is written is the talk of each room that the one at the beginning was asked to be
   talks : (outs : List Timed) (says less : List Terminal → Room → List ℕ → Type 0)
@@ -37,15 +39,19 @@ module _ (step : Step) (zone : Zone) (old : Sides) (new : Finish) (trusted : Typ
         (λ terminals after tail said. (tt, said.1)) a.talk;
   }
 
+  some : (r : Refusal) → IsCaused failed r → IsCaused ⊤ r
+  some r (inl memory) = inl memory
+  some r (inr storage) = inr (storage.0, tt)
+
   wanted : (outs : List Timed) (x : Timed) (so_much : List ℕ → List ℕ → Type 0)
-      → Unserved step zone old new trusted stood stands wants outs x so_much
-      → Unserved step zone old new ⊤ asked untold (λ y. untold) outs x so_much
+      → Unserved step zone old new trusted stood stands wants failed outs x so_much
+      → Unserved step zone old new ⊤ asked untold (λ y. untold) ⊤ outs x so_much
   wanted outs x so_much w = record {
     begins = w.begins;
     timed = w.timed;
     next = w.next;
     refusal = w.refusal;
-    want = w.want;
+    want = some w.refusal w.want;
     talk = talks outs (λ terminals after tail. wants x terminals after × so_much tail (fixed_bytes w.refusal (is_head_only x.0)))
         (λ terminals after tail. untold terminals after × so_much tail (fixed_bytes w.refusal (is_head_only x.0)))
         (λ terminals after tail said. (tt, said.1)) w.talk;
@@ -84,35 +90,38 @@ module _ (step : Step) (zone : Zone) (old : Sides) (new : Finish) (trusted : Typ
   }
 
   -- however it ended
-  pub serves : (budget : ℕ) (end : ServeEnd)
-      → ServeIs step zone old new trusted stood stands wants budget end
-      → ServeIs step zone old new ⊤ asked untold (λ x. untold) budget end
-  serves budget Closed (inl ended) = inl (ended.0, answered ended.0 (λ rest. rest ≡ []) ended.1, ended.2)
-  serves budget Closed (inr (inl closed)) = inr (inl (closed.0, answered closed.0 (λ rest. ⊤) closed.1, closed.2))
-  serves budget Closed (inr (inr want)) = inr (inr (want.0, want.1, wanted want.0 want.1 (λ tail fixed. tail ≡ fixed) want.2))
-  serves budget Cut cut = (cut.0, answered cut.0 _ cut.1, cut.2)
-  serves budget ReadFault failed = (failed.0, answered failed.0 (λ rest. ⊤) failed.1, failed.2)
-  serves budget WriteFault failed = (
+  pub serves : (course : Course) (budget : ℕ) (end : ServeEnd)
+      → ServeIs step zone old new trusted stood stands wants failed course budget end
+      → ServeIs step zone old new ⊤ asked untold (λ x. untold) ⊤ course budget end
+  serves course budget Closed (inl ended) = inl ((ended.0.0, answered course.outs (λ rest. rest ≡ []) ended.0.1), ended.1)
+  serves course budget Closed (inr (inl closed)) = inr (inl ((closed.0.0, answered course.outs (λ rest. ⊤) closed.0.1), closed.1))
+  serves course budget Closed (inr (inr want)) = inr (inr (want.0, want.1, wanted course.outs want.0 (λ tail fixed. tail ≡ fixed) want.2))
+  serves course budget Cut cut = ((cut.0.0, answered course.outs _ cut.0.1), cut.1)
+  serves course budget ReadFault fault = ((fault.0.0, answered course.outs (λ rest. ⊤) fault.0.1), fault.1)
+  serves course budget WriteFault fault = (
     (
-      failed.0.0,
-      failed.0.1,
-      elim failed.0.2 [
-        | inl b ↦ inl (broken failed.0.0 failed.0.1 b)
-        | inr w ↦ inr (wanted failed.0.0 failed.0.1 IsFront w)
+      fault.0.0,
+      fault.0.1,
+      elim fault.0.2 [
+        | inl b ↦ inl (broken course.outs fault.0.0 b)
+        | inr w ↦ inr (wanted course.outs fault.0.0 IsFront w)
       ],
     ),
-    failed.1,
+    fault.1,
   )
-  serves budget Unkept failed = (
-    failed.0,
-    failed.1,
-    elim failed.2 [
-      | inl u ↦ inl (unwritten failed.0 failed.1 stands untold (λ terminals room is_so. tt) u)
-      | inr u ↦
-          inr (unwritten failed.0 failed.1 (HasActed step zone old new trusted stood stands failed.1) (HasActed step zone old new ⊤ asked untold failed.1)
-          (λ terminals room acted. (acted.0, acted.1, acted.2, tt, acted.4)) u)
-    ],
+  serves course budget Unkept cut = (
+    (
+      cut.0.0,
+      cut.0.1,
+      elim cut.0.2 [
+        | inl u ↦ inl (unwritten course.outs cut.0.0 stands untold (λ terminals room is_so. tt) u)
+        | inr u ↦
+            inr (unwritten course.outs cut.0.0 (HasActed step zone old new trusted stood stands cut.0.0) (HasActed step zone old new ⊤ asked untold cut.0.0)
+            (λ terminals room acted. (acted.0, acted.1, acted.2, tt, acted.4)) u)
+      ],
+    ),
+    cut.1,
   )
-  serves budget ClockFault none = (none.0, none.1, untimed none.0 none.1 none.2)
-  serves budget ReadsSpent used = (used.0, answered used.0 (λ rest. ⊤) used.1, used.2)
-  serves budget Memory refused = (answered [] (λ rest. ⊤) refused.0, refused.1)
+  serves course budget ClockFault none = (none.0, (none.1.0, untimed course.outs none.1.0 none.1.1))
+  serves course budget ReadsSpent used = ((used.0.0, answered course.outs (λ rest. ⊤) used.0.1), used.1)
+  serves course budget Memory refused = (refused.0, (refused.1.0, answered course.outs (λ rest. ⊤) refused.1.1), refused.2)

@@ -2,7 +2,8 @@
 use Rattle.std.specs.Prelude.{◌≡◌, ℕ, Result, Ok, Err}
 use Rattle.room_http.specs.declared.serving.ServeEnd.{ServeEnd}
 use Rattle.room_http.specs.declared.serving.ServeEnd.TheVariants as end
-use Rattle.dispatch_room_endings.specs.Endings.{status_after}
+use Rattle.room_types.specs.declared.refusals.Refusal.{Refusal}
+use Rattle.dispatch_room_endings.specs.Endings.{refused, status_after}
 use Rattle.dispatch_room_endings.specs.declared.endings.Done.{Done}
 use Rattle.dispatch_room_endings.specs.declared.endings.Done.TheVariants.{Whole}
 use Rattle.dispatch_room_endings.specs.declared.endings.Failure.{Failure}
@@ -18,6 +19,11 @@ ended end.ClockFault = Err Connection
 ended end.ReadsSpent = Err Connection
 ended end.Memory = Err Memory
 ended end.Unkept = Err Journal
+
+-- the same where no room could be made to serve
+abbrev pub end_of : Result ServeEnd Refusal → Result Done Failure
+end_of (Ok end) = ended end
+end_of (Err want) = Err (refused want)
 
 -- a number is the exit status of a dry run
 abbrev pub IsStatus : ℕ → Type 0

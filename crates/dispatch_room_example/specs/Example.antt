@@ -1,6 +1,6 @@
 -- The example room: its plan, its terminals, its fleet, where it begins, and what a connection to
 -- it is served.
-use Rattle.std.specs.Prelude.{◌≡◌, ℕ, List, [], ◌∷◌, codes, refl, ⊤}
+use Rattle.std.specs.Prelude.{◌≡◌, ℕ, Bool, List, [], ◌∷◌, codes, refl, ⊤}
 use Rattle.jiff.specs.Placed.{IsPosixZone}
 use Rattle.room_place.specs.Plans.{Layout}
 use Rattle.room_types.specs.declared.asks.Who.TheVariants.{Desk, Position}
@@ -13,8 +13,10 @@ use Rattle.room_http_time.specs.declared.zones.Zone.{Zone}
 use Rattle.room_service.specs.Rooms.{machine}
 use Rattle.room_store_writes.specs.Filling.{in_order, new_room}
 use Rattle.room_store.specs.Enrolling.{room_after_rows, terminals_after_rows}
+use Rattle.room_http.specs.Course.{Course}
 use Rattle.room_http.specs.Serving.{Finish, ServeIs, Sides}
 use Rattle.room_http.specs.declared.serving.ServeEnd.{ServeEnd}
+use Rattle.dispatch_room_example.specs.DryRun.{most_reads}
 
 -- divisions 1 and 2, side by side, and the rule of the United Kingdom's time
 abbrev pub example_plan : Layout
@@ -122,5 +124,11 @@ untold terminals room = ⊤
 -- what is written is the talk of the example room with the messages that are read, in so many reads
 -- at most
 abbrev pub IsExampleTalk : Sides → Finish → ℕ → ServeEnd → Type 0
-IsExampleTalk old new budget end = (zone : Zone) × IsExampleZone zone
-    × ServeIs machine zone old new ⊤ IsExample untold (λ x. untold) budget end
+IsExampleTalk old new budget end = (zone : Zone) × IsExampleZone zone × ((course : Course)
+    × ServeIs machine zone old new ⊤ IsExample untold (λ x. untold) ⊤ course budget end)
+
+-- the example room was served so, in as many reads as the dry run makes at most; how its clock was
+-- left is told by how often it was asked
+abbrev pub IsDryRun : Sides → (ℕ → Bool → Finish) → ServeEnd → Type 0
+IsDryRun old new end =
+    (count : ℕ) × (was_none : Bool) × IsExampleTalk old (new count was_none) most_reads end

@@ -47,6 +47,7 @@ pub fn dry_run<R: Source, W: Sink>(
           read_ended = R.has_ended reader.new;
           write_failed = W.has_failed writer.new;
           was_none = was_none;
+          witness_failed = false;
         })
         most_reads end) }
     ensures wants { IfErr result IsWant }

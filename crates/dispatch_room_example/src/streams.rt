@@ -1,24 +1,56 @@
 //! The dry run over the standard input and output of a program.
-ghost use Rattle.std.specs.Prelude.{◌≡◌};
-ghost use Rattle.dispatch_room_example.specs.Ends.{IsStatus, ended};
+ghost use Rattle.std.specs.Prelude.{◌≡◌, [], false, replicate, IfOk, Result, Some};
+ghost use Rattle.room_http.specs.declared.serving.ServeEnd.{ServeEnd as End};
+ghost use Rattle.room_types.specs.declared.refusals.Refusal.{Refusal as Want};
+ghost use Rattle.dispatch_room_example.specs.DryRun.{example_moment};
+ghost use Rattle.dispatch_room_example.specs.Ends.{IsStatus, end_of, ended};
+ghost use Rattle.dispatch_room_example.specs.Example.{IsDryRun};
 
 use crate::dry_run::dry_run;
 use dispatch_room_endings::endings::{Done, Failure, end, refused};
 use room_http::serving::ServeEnd;
+use room_http_messages::sinks::Sink;
+use room_http_messages::sources::Source;
 use room_http_messages::wires::Wire;
+use std::alloc::Global;
 
 /// Runs it, tells on standard error why it fails, and gives its exit status.
 pub fn run(rt: &HostRuntime) -> u8
     ensures { IsStatus result }
 {
-    end(over_streams(rt), &mut rt.stderr())
-}
-
-// The dry run, and why it fails.
-fn over_streams(rt: &HostRuntime) -> Result<Done, Failure> {
     let mut reader = Wire::new(rt.stdin());
     let mut writer = Wire::new(rt.stdout());
-    match dry_run(rt.alloc(), &mut reader, &mut writer) {
+    let done = over_streams(rt.alloc(), &mut reader, &mut writer);
+    end(done, &mut rt.stderr())
+}
+
+// The dry run over any streams, and why it fails.
+fn over_streams<R: Source, W: Sink>(
+    alloc: Global,
+    reader: &mut R,
+    writer: &mut W,
+) -> Result<Done, Failure>
+    requires reader { R.has_failed reader.old ≡ false }
+    requires writer { W.has_failed writer.old ≡ false }
+    ensures { (served : Result End Want) × (result ≡ end_of served) × IfOk served (IsDryRun
+        (record {
+          left = R.left reader.old;
+          reads = R.reads reader.old;
+          held = W.held writer.old;
+          given = Some [];
+        })
+        (λ count was_none. record {
+          reads = R.reads reader.new;
+          held = W.held writer.new;
+          given = Some (replicate count example_moment);
+          read_failed = R.has_failed reader.new;
+          read_ended = R.has_ended reader.new;
+          write_failed = W.has_failed writer.new;
+          was_none = was_none;
+          witness_failed = false;
+        })) }
+{
+    match dry_run(alloc, reader, writer) {
         Ok(end) => ended(end),
         Err(want) => Err(refused(want)),
     }

@@ -43,6 +43,7 @@ pub fn serve_example<R: Source, W: Sink, C: Clock>(
           read_ended = R.has_ended reader.new;
           write_failed = W.has_failed writer.new;
           was_none = C.was_none clock.new;
+          witness_failed = false;
         })
         budget) }
     ensures wants { IfErr result IsWant }

@@ -9,6 +9,10 @@ use Rattle.room_http_messages.specs.declared.unread.Unread.TheVariants as unread
 use Rattle.room_http_messages.specs.Layouts.{IsWhole, LookIs}
 use Rattle.room_http_messages.specs.Messages.{IsRefused, IsPart as IsPartOfMessage}
 use Rattle.room_http_messages.proofs.LawLemmas.{one_message_law, no_end_law}
+use Rattle.room_http.specs.Talk.{IsCaused}
+use Rattle.room_service.specs.Rooms.{IsWant}
+use Rattle.room_service.specs.declared.digests.Miss.{Miss}
+use Rattle.room_service.specs.declared.digests.Miss.TheVariants as miss
 use Rattle.dispatch_room_journal.specs.declared.reading.Fault.{Fault}
 use Rattle.dispatch_room_journal.specs.declared.reading.Fault.TheVariants.{Cut, Foreign, Read}
 use Rattle.dispatch_room_journal.specs.Entries.{Entry, message, IsEntry, text_of, texts_of, Begins}
@@ -16,9 +20,9 @@ use Rattle.dispatch_room_journal.specs.Readings.{SaysOf, FirstIs}
 use Rattle.dispatch_room_replaying.specs.declared.faults.ReplayFault.{ReplayFault}
 use Rattle.dispatch_room_replaying.specs.declared.faults.ReplayFault.TheVariants.{Bad, Differs, Another, ReadFailed, WriteFailed, Want}
 use Rattle.dispatch_room_replaying.specs.declared.faults.Stopped.{Stopped}
-use Rattle.dispatch_room_replaying.specs.Turns.{Turn, BeginsWith}
+use Rattle.dispatch_room_replaying.specs.Turns.{Open, Turn, BeginsWith}
 use Rattle.dispatch_room_replaying.specs.Replays.{Unless}
-use Rattle.dispatch_room_replaying.specs.Faults.{read_fault, IsBroken, IsNoMessage, IsWanting, IsBad, broken, unasked, headless, no_message, broken_after, too_many, Explains, IsDueTo, Refuses}
+use Rattle.dispatch_room_replaying.specs.Faults.{read_fault, miss_fault, IsBroken, IsNoMessage, IsWanting, IsBad, broken, unasked, headless, no_message, broken_after, too_many, Explains, IsDueTo, Refuses}
 
 pub not_both : (b : Bool) → b ≡ false → b ≡ true → ⊥
 not_both b f t = cc
@@ -74,28 +78,28 @@ bad_more waits none full other whole last rest n f (no_message at sent more few 
 bad_more waits none full other whole last rest n f (broken_after at sent more wait few x y) = broken_after at sent more wait few x y
 bad_more waits none full other whole last rest n f (too_many x) = too_many (f x)
 
-explains_more : (waits : Bool) (none full other whole : Type 0) (E F : List ℕ → Type 0)
+explains_more : (waits : Bool) (none full other whole : Type 0) (E F : Option Open → List ℕ → Type 0)
     (last : List Turn) (fault : ReplayFault) (rest : List ℕ) → (none → other) → (full → whole)
-    → ((digest : List ℕ) → E digest → F digest) → Explains waits none full E last fault rest
+    → ((open_ : Option Open) (digest : List ℕ) → E open_ digest → F open_ digest) → Explains waits none full E last fault rest
     → Explains waits other whole F last fault rest
 explains_more waits none full other whole E F last Bad rest n f e x = bad_more waits none full other whole last rest n f x
 explains_more waits none full other whole E F last Differs rest n f e x = x
-explains_more waits none full other whole E F last Another rest n f e x = (x.0, x.1, x.2, e x.0 x.3)
+explains_more waits none full other whole E F last Another rest n f e x = (x.0, x.1, x.2, x.3, e x.1 x.2 x.4)
 explains_more waits none full other whole E F last ReadFailed rest n f e x = tt
 explains_more waits none full other whole E F last WriteFailed rest n f e x = tt
 explains_more waits none full other whole E F last (Want r) rest n f e x = tt
 
 pub begins_explain : (left : Option (List ℕ)) (entries : List Entry) (waits : Bool)
-    (none full other whole : Type 0) (E F : List ℕ → Type 0) (last : List Turn)
+    (none full other whole : Type 0) (E F : Option Open → List ℕ → Type 0) (last : List Turn)
     (fault : ReplayFault)
-    → (none → other) → (full → whole) → ((digest : List ℕ) → E digest → F digest)
+    → (none → other) → (full → whole) → ((open_ : Option Open) (digest : List ℕ) → E open_ digest → F open_ digest)
     → BeginsWith left entries (Explains waits none full E last fault)
     → BeginsWith left entries (Explains waits other whole F last fault)
 begins_explain left entries waits none full other whole E F last fault n f e begins text is =
     let x = begins text is in (x.0, x.1, explains_more waits none full other whole E F last fault x.0 n f e x.2)
 
 -- the fault of a read
-pub read_explains : (waits : Bool) (none full : Type 0) (E : List ℕ → Type 0) (last : List Turn)
+pub read_explains : (waits : Bool) (none full : Type 0) (E : Option Open → List ℕ → Type 0) (last : List Turn)
     (fault : Fault) (text rest : List ℕ) → FirstIs rest (Err fault)
     → (IsBroken rest → IsBad waits none full last text)
     → Explains waits none full E last (read_fault fault) text
@@ -110,7 +114,7 @@ read_due kept failed ended left Foreign x = (x.1, refl)
 read_due kept failed ended left Read x = (x, refl)
 
 -- memory or storage is wanting
-pub wanting_explains : (waits : Bool) (none full : Type 0) (E : List ℕ → Type 0) (last : List Turn)
+pub wanting_explains : (waits : Bool) (none full : Type 0) (E : Option Open → List ℕ → Type 0) (last : List Turn)
     (fault : ReplayFault) (rest : List ℕ) → IsWanting fault
     → Explains waits none full E last fault rest
 wanting_explains waits none full E last fault rest x = subst (λ (f : ReplayFault). Explains waits none full E last f rest) (sym x.1) tt
@@ -120,7 +124,7 @@ pub wanting_due : (read_failed write_failed : Bool) (fault : ReplayFault) → re
 wanting_due read_failed write_failed fault read write x = subst (λ (f : ReplayFault). IsDueTo read_failed write_failed f) (sym x.1) (read, write, x.2)
 
 -- a message that was not played
-pub refuses_explains : (waits : Bool) (none full : Type 0) (E : List ℕ → Type 0) (at : ℕ)
+pub refuses_explains : (waits : Bool) (none full : Type 0) (E : Option Open → List ℕ → Type 0) (at : ℕ)
     (sent : List ℕ) (fault : ReplayFault) (text rest : List ℕ) → Begins text (message at sent) rest
     → Refuses sent fault → Explains waits none full E [] fault text
 refuses_explains waits none full E at sent fault text rest begins (inl x) = subst (λ (f : ReplayFault). Explains waits none full E [] f text) (sym x.0) (no_message at sent rest refl begins x.1)
@@ -160,3 +164,14 @@ unless_known (Want r) P x = tt
 pub stopped_kept : (s : Stopped) (fault : ReplayFault) (number : ℕ) (P : Type 0)
     → s ≡ record { fault = fault; number = number } → Unless fault P → Unless s.fault P
 stopped_kept s fault number P is x = subst (λ (t : Stopped). Unless t.fault P) (sym is) x
+
+-- what holds where the room would have come to another digest
+pub unless_missed : (m : Miss) (fault : ReplayFault) (P : Type 0) → fault ≡ miss_fault m
+    → (m ≡ miss.Another → P) → Unless fault P
+unless_missed miss.Another fault P is x = subst (λ (f : ReplayFault). Unless f P) (sym is) (x refl)
+unless_missed (miss.Want r) fault P is x = subst (λ (f : ReplayFault). Unless f P) (sym is) tt
+
+-- what is wanting, whatever caused it
+pub caused_want : {failed : Type 0} (r : Refusal) → IsCaused failed r → IsWant r
+caused_want r (inl memory) = inl memory
+caused_want r (inr storage) = inr storage.0

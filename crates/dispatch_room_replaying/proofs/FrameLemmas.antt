@@ -105,13 +105,13 @@ pub each_follows : (step : Step) (zone : Zone) (digest_of : DigestOf) (trusted :
     (sent slice : List ℕ)
     (p : Play) (fault : ReplayFault) → p.told ≡ slice → Consumes before mid (texts_of (message at sent ∷ []))
     → ((p : Play) → p.told ≡ slice → BeginsWith mid []
-    (Explains false ⊥ ⊥ (λ digest. ⊥) (tried p ∷ []) fault))
+    (Explains false ⊥ ⊥ (λ open_ digest. ⊥) (tried p ∷ []) fault))
     → BeginsWith before (message at sent ∷ [])
     (Shows false step zone digest_of trusted stood stands fault (tried p ∷ []))
 each_follows step zone digest_of trusted stood stands before mid at sent slice p fault same took follows =
     consumes_begins before mid (message at sent ∷ []) [] (Shows false step zone digest_of trusted stood stands fault (tried p ∷ [])) took
-    (begins_explain mid [] false ⊥ ⊥ (true ≡ false) ⊥ (λ digest. ⊥) (LeadsElsewhere step zone digest_of trusted stood stands (tried p ∷ [])) (tried p ∷ []) fault
-    (λ never. absurd never) (λ never. never) (λ digest never. absurd never) (follows p same))
+    (begins_explain mid [] false ⊥ ⊥ (true ≡ false) ⊥ (λ open_ digest. ⊥) (LeadsElsewhere step zone digest_of trusted stood stands (tried p ∷ [])) (tried p ∷ []) fault
+    (λ never. absurd never) (λ never. never) (λ open_ digest never. absurd never) (follows p same))
 
 -- a message is next: it was played, and its answer was written
 module _ (step : Step) (zone : Zone) (digest_of : DigestOf) (early late : Type 0)

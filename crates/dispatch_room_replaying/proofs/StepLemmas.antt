@@ -5,7 +5,10 @@ use Rattle.std.proofs.KnownBytes.{Consumes-kept, Keeps-refl}
 use Rattle.room_types.specs.declared.fleet.Terminal.{Terminal}
 use Rattle.room_model.specs.Room.{Room}
 use Rattle.room_http_time.specs.declared.zones.Zone.{Zone}
+use Rattle.room_service.specs.Digests.{IsMiss}
 use Rattle.room_service.specs.Rooms.{Step}
+use Rattle.room_service.specs.declared.digests.Miss.{Miss}
+use Rattle.room_service.specs.declared.digests.Miss.TheVariants as miss
 use Rattle.room_http.specs.Talk.{IsReplyTo}
 use Rattle.dispatch_room_journal.specs.declared.lines.Line.{Line}
 use Rattle.dispatch_room_journal.specs.declared.looks.Layout.{Layout}
@@ -14,14 +17,14 @@ use Rattle.dispatch_room_journal.specs.Entries.{Entry, room, message, answer, Is
 use Rattle.dispatch_room_journal.specs.Looks.{IsLayout}
 use Rattle.dispatch_room_journal.specs.Readings.{FirstIs, ReadsEntry}
 use Rattle.dispatch_room_replaying.specs.declared.faults.ReplayFault.{ReplayFault}
-use Rattle.dispatch_room_replaying.specs.declared.faults.ReplayFault.TheVariants.{Differs, Another}
+use Rattle.dispatch_room_replaying.specs.declared.faults.ReplayFault.TheVariants.{Differs, Want}
 use Rattle.dispatch_room_replaying.specs.declared.messages.Turned.TheVariants.{Played, LeftOut}
 use Rattle.dispatch_room_journal.specs.Records.{status_in}
 use Rattle.dispatch_room_replaying.specs.Turns.{Play, Turn, answered, caught_up, tried, left_out, timed, IsPlay, AreBy, BeginsWith}
-use Rattle.dispatch_room_replaying.specs.Faults.{read_fault, IsWanting, broken_after, Explains, IsDueTo, Refuses}
+use Rattle.dispatch_room_replaying.specs.Faults.{read_fault, miss_fault, broken_after, Explains, IsDueTo, Refuses}
 use Rattle.dispatch_room_replaying.specs.Replays.{DigestOf, Leads, LeadsElsewhere}
-use Rattle.dispatch_room_replaying.specs.Steps.{Stays, TurnOf, Deviates, StopsAt, StopsIn, ComesTo, Settles, MessageIs}
-use Rattle.dispatch_room_replaying.proofs.FaultLemmas.{not_both, known_after, begins_one, read_explains, wanting_explains, wanting_due, refuses_explains, refuses_due}
+use Rattle.dispatch_room_replaying.specs.Steps.{Stays, TurnOf, Deviates, IsAstray, StopsAt, StopsIn, ComesTo, Misses, PlaysTowards, Settles, MessageIs}
+use Rattle.dispatch_room_replaying.proofs.FaultLemmas.{not_both, known_after, begins_one, read_explains, refuses_explains, refuses_due}
 use Rattle.dispatch_room_replaying.proofs.EntryLemmas.{layout_of_mark, taken, taken_two, no_status_front}
 use Rattle.dispatch_room_replaying.proofs.TurnLemmas.{one_by}
 
@@ -63,13 +66,17 @@ module _ (step : Step) (zone : Zone) (digest_of : DigestOf) (trusted : Type 0)
       → WasPlayed step zone trusted stood stands at sent told → ¬ (status_in told ≡ decimal status)
       → StopsAt step zone digest_of trusted stood stands at sent (line_of (answer status)) Differs
   differs_stops told status x other =
-      inr (x.0, x.1, x.2, x.4, leads_tried told x, inl (refl, status, refl, λ same. other (ap status_in (sym x.3) ∙ same)))
+      inr (x.0, x.1, x.2, x.4, leads_tried told x, (refl, status, refl, λ same. other (ap status_in (sym x.3) ∙ same)))
 
-  -- memory or storage is wanting after it was played
-  pub wanting_stops : (told : List ℕ) (line : Line) (fault : ReplayFault)
-      → WasPlayed step zone trusted stood stands at sent told → IsWanting fault
-      → StopsAt step zone digest_of trusted stood stands at sent line fault
-  wanting_stops told line fault x want = inr (x.0, x.1, x.2, x.4, leads_tried told x, inr (inr want))
+  -- the room did not come to a digest
+  pub missed : (digest : List ℕ) (m : Miss) (fault : ReplayFault)
+      → fault ≡ miss_fault m → IsMiss m → Stays trusted stood stands
+      → (m ≡ miss.Another → Misses step zone digest_of trusted stood stands at sent digest)
+      → PlaysTowards step zone digest_of trusted stood stands {A = Unit {0}} at sent digest (Err fault)
+  missed digest miss.Another fault is why stays misses = (stays, inr (is, misses refl))
+  missed digest (miss.Want r) fault is (inl never) stays misses = absurd (cc)
+  missed digest (miss.Want r) fault is (inr want) stays misses =
+      let same : r ≡ want.0 = cc in (stays, inl (inr (want.0, is ∙ ap Want same, want.2)))
 
   -- a line is that of its entry
   pub settles_line : (line other : Line) (result : Result Bool ReplayFault) → line ≡ other
@@ -89,30 +96,10 @@ module _ (step : Step) (zone : Zone) (digest_of : DigestOf) (trusted : Type 0)
     leads = λ trust terminals room stood_for. (room, (room, refl, refl), stays trust terminals room stood_for);
   }
 
--- what holds at a time, and then what a look at the digest leaves
+-- what holds at a time, and after a look at the digest
 module _ (step : Step) (zone : Zone) (digest_of : DigestOf) (early late : Type 0)
     (earlier : late → early) (stood mid stands : List Terminal → Room → Type 0) (at : ℕ)
     (sent : List ℕ) where
-  pub played_later : (told : List ℕ) → Stays late mid stands
-      → WasPlayed step zone early stood mid at sent told
-      → WasPlayed step zone late stood stands at sent told
-  played_later told stays x =
-      (x.0, x.1, x.2, x.3, x.4, λ trust terminals room stood_for. let y = x.5 (earlier trust) terminals room stood_for in (y.0, y.1, stays trust terminals y.0 y.2))
-
-  pub comes_to : (told digest : List ℕ) (is : Bool) → Stays late mid stands
-      → Tells digest_of late mid digest is → is ≡ true
-      → WasPlayed step zone early stood mid at sent told
-      → ComesTo step zone digest_of late stood stands at sent digest
-  comes_to told digest is stays tells said x = (
-    x.0,
-    x.1,
-    x.2,
-    x.4,
-    λ trust terminals room stood_for.
-        let y = x.5 (earlier trust) terminals room stood_for in
-        (y.0, y.1, (tells trust terminals y.0 y.2).0 said, stays trust terminals y.0 y.2),
-  )
-
   pub caught_turn : (digest : List ℕ) (is : Bool) → Stays early stood mid
       → Tells digest_of early stood digest is → is ≡ false
       → ComesTo step zone digest_of late mid stands at sent digest
@@ -130,42 +117,26 @@ module _ (step : Step) (zone : Zone) (digest_of : DigestOf) (early late : Type 0
         (y.0, (y.0, (differs, y.1, y.2), refl), y.3);
   }
 
-  -- the room has come to another digest
-  pub elsewhere_stops : (told digest : List ℕ) (is : Bool) → Stays late mid stands
-      → Tells digest_of late mid digest is → is ≡ false
-      → WasPlayed step zone early stood mid at sent told
-      → StopsAt step zone digest_of late stood stands at sent (line_of (room digest)) Another
-  elsewhere_stops told digest is stays tells said x =
-      inr (
-        x.0,
-        x.1,
-        x.2,
-        x.4,
-        λ trust terminals held stood_for. let y = x.5 (earlier trust) terminals held stood_for in (y.0, (y.0, y.1, refl), stays trust terminals y.0 y.2),
-        inr (inl (
-          refl,
+  -- the message was not done, and what the room has then is as it was
+  pub stops_open : (digest : List ℕ) (is : Bool) (fault : ReplayFault)
+      → Stays early stood mid → Tells digest_of early stood digest is → is ≡ false
+      → PlaysTowards step zone digest_of late mid stands {A = Unit {0}} at sent digest (Err fault)
+      → StopsAt step zone digest_of late stood stands at sent (line_of (room digest)) fault
+  stops_open digest is fault stays tells said (still, inl refuses) =
+      inl (λ trust terminals held stood_for. still trust terminals held (stays (earlier trust) terminals held stood_for), inl refuses)
+  stops_open digest is fault stays tells said (still, inr astray) =
+      inl (
+        λ trust terminals held stood_for. still trust terminals held (stays (earlier trust) terminals held stood_for),
+        inr (
+          astray.0,
           digest,
           refl,
           λ trust terminals held stood_for.
-              let y = x.5 (earlier trust) terminals held stood_for in
-              (y.0, (y.0, y.1, refl), λ same. not_both is said ((tells trust terminals y.0 y.2).1 same), stays trust terminals y.0 y.2),
-        )),
+              let now = stays (earlier trust) terminals held stood_for in
+              let differs : ¬ (digest_of terminals held ≡ digest) = λ same. not_both is said ((tells (earlier trust) terminals held stood_for).1 same) in
+              (held, refl, differs, astray.1 trust terminals held now differs, still trust terminals held now),
+        ),
       )
-
-  deviates_later : (p : Play) (line : Line) (fault : ReplayFault) → Stays early stood mid
-      → Deviates step zone digest_of late mid stands p line fault
-      → Deviates step zone digest_of late stood stands p line fault
-  deviates_later p line fault stays (inl x) = inl x
-  deviates_later p line fault stays (inr (inl x)) =
-      inr (inl (x.0, x.1, x.2, λ trust terminals room stood_for. x.3 trust terminals room (stays (earlier trust) terminals room stood_for)))
-  deviates_later p line fault stays (inr (inr x)) = inr (inr x)
-
-  pub stops_later : (line : Line) (fault : ReplayFault) → Stays early stood mid
-      → StopsAt step zone digest_of late mid stands at sent line fault
-      → StopsAt step zone digest_of late stood stands at sent line fault
-  stops_later line fault stays (inl x) = inl (λ trust terminals room stood_for. x.0 trust terminals room (stays (earlier trust) terminals room stood_for), x.1)
-  stops_later line fault stays (inr x) =
-      inr (x.0, x.1, x.2, x.3, λ trust terminals room stood_for. x.4 trust terminals room (stays (earlier trust) terminals room stood_for), deviates_later x.0 line fault stays x.5)
 
 -- what follows a message explains why it stopped the replay
 abbrev pub Shows : Bool → Step → Zone → DigestOf → Type 0 → (List Terminal → Room → Type 0)
@@ -232,41 +203,53 @@ module _ (waits : Bool) (step : Step) (zone : Zone) (digest_of : DigestOf) (trus
         ))
         due
 
+    -- it was not done, since the head that follows it is of another room than it would lead to
+    astray_stops : (layout : Layout) (fault : ReplayFault) → waits ≡ true
+        → ((text : List ℕ) → mid ≡ Some text → FirstIs text (Ok (Some layout)))
+        → read_failed ≡ false → write_failed ≡ false → Stays trusted stood stands
+        → IsAstray step zone digest_of trusted stood stands at sent layout.line fault
+        → Stops fault []
+    astray_stops layout fault wait first read write stays x =
+        unplayed_stops fault stays
+        (λ text known.
+        let y = known_after before mid (texts_of (message at sent ∷ [])) text took known in
+        let found = first y.0 y.1 in (
+          text,
+          refl,
+          subst (λ (f : ReplayFault). Shows waits step zone digest_of trusted stood stands f [] text) (sym x.0) (
+            refl,
+            Some (at, sent),
+            x.1,
+            (wait, y.0, drop layout.end y.0, begins_one (message at sent) text y.0 is y.2, (layout_of_mark y.0 layout found.0 (room x.1) found.1 tt x.2).begins),
+            x.3,
+          ),
+        ))
+        (subst (λ (f : ReplayFault). IsDueTo read_failed write_failed f) (sym x.0) (read, write))
+
     -- it was played, and is not as the line after it says
     deviates_explains : (p : Play) (layout : Layout) (e : Entry) (fault : ReplayFault)
         (text : List ℕ) → IsLayout text layout e
         → Deviates step zone digest_of trusted stood stands p layout.line fault
         → Shows waits step zone digest_of trusted stood stands fault (tried p ∷ []) text
-    deviates_explains p layout e fault text l (inl x) =
+    deviates_explains p layout e fault text l x =
         subst (λ (f : ReplayFault). Shows waits step zone digest_of trusted stood stands f (tried p ∷ []) text) (sym x.0)
         (p, x.1, drop layout.end text, refl, (layout_of_mark text layout e (answer x.1) l tt x.2).begins, x.3)
-    deviates_explains p layout e fault text l (inr (inl x)) =
-        subst (λ (f : ReplayFault). Shows waits step zone digest_of trusted stood stands f (tried p ∷ []) text) (sym x.0)
-        (x.1, drop layout.end text, (layout_of_mark text layout e (room x.1) l tt x.2).begins, x.3)
-    deviates_explains p layout e fault text l (inr (inr x)) =
-        wanting_explains waits (true ≡ false) ⊥ (LeadsElsewhere step zone digest_of trusted stood stands (tried p ∷ [])) (tried p ∷ []) fault text x
 
-    deviates_due : (p : Play) (line : Line) (fault : ReplayFault) → read_failed ≡ false
-        → write_failed ≡ false → Deviates step zone digest_of trusted stood stands p line fault
-        → IsDueTo read_failed write_failed fault
-    deviates_due p line fault read write (inl x) = subst (λ (f : ReplayFault). IsDueTo read_failed write_failed f) (sym x.0) (read, write)
-    deviates_due p line fault read write (inr (inl x)) = subst (λ (f : ReplayFault). IsDueTo read_failed write_failed f) (sym x.0) (read, write)
-    deviates_due p line fault read write (inr (inr x)) = wanting_due read_failed write_failed fault read write x
-
-    settled_stops : (layout : Layout) (fault : ReplayFault)
+    settled_stops : (layout : Layout) (fault : ReplayFault) → waits ≡ true
         → ((text : List ℕ) → mid ≡ Some text → FirstIs text (Ok (Some layout)))
         → read_failed ≡ false → write_failed ≡ false
         → StopsAt step zone digest_of trusted stood stands at sent layout.line fault
         → (last : List Turn) × Stops fault last
-    settled_stops layout fault first read write (inl x) = ([], refused_stops fault read write x.0 x.1)
-    settled_stops layout fault first read write (inr x) = (
+    settled_stops layout fault wait first read write (inl (stays, inl x)) = ([], refused_stops fault read write stays x)
+    settled_stops layout fault wait first read write (inl (stays, inr x)) = ([], astray_stops layout fault wait first read write stays x)
+    settled_stops layout fault wait first read write (inr x) = (
       tried x.0 ∷ [],
       played_stops x.0 fault x.1 x.2 x.3 x.4
           (λ text known.
           let y = known_after before mid (texts_of (message at sent ∷ [])) text took known in
           let found = first y.0 y.1 in
           (y.0, y.2, deviates_explains x.0 layout found.0 fault y.0 found.1 x.5))
-          (deviates_due x.0 layout.line fault read write x.5),
+          (subst (λ (f : ReplayFault). IsDueTo read_failed write_failed f) (sym x.5.0) (read, write)),
     )
 
 -- a message was copied
@@ -317,5 +300,5 @@ module _ {R : Type 0} (left : R → Option (List ℕ)) (has_failed has_ended : R
       → MessageIs step zone digest_of trusted stood stands (prepend_known kept (left old))
       (prepend_known ahead (left new)) (has_failed new) at (Err fault)
   settled_fault fault x =
-      settled_stops true step zone digest_of trusted stood stands (prepend_known kept (left old)) at copy front.begins.0 (has_failed new) false (prepend_known mid (left old)) took next fault read.first
+      settled_stops true step zone digest_of trusted stood stands (prepend_known kept (left old)) at copy front.begins.0 (has_failed new) false (prepend_known mid (left old)) took next fault refl read.first
       read.says.1 refl x

@@ -23,10 +23,10 @@ use Rattle.dispatch_room_replaying.specs.declared.faults.Stopped.{Stopped}
 use Rattle.dispatch_room_replaying.specs.declared.messages.Turned.{Turned}
 use Rattle.dispatch_room_replaying.specs.declared.messages.Turned.TheVariants.{Played, LeftOut, Last}
 use Rattle.dispatch_room_replaying.specs.declared.progress.Progress.{Progress}
-use Rattle.dispatch_room_replaying.specs.Turns.{Play, Turn, head, answered, caught_up, tried, left_out, entries_in, entries_of, arrivals_of, bytes_of, has_message, is_left_out, is_unanswered}
+use Rattle.dispatch_room_replaying.specs.Turns.{Open, Play, Turn, head, answered, caught_up, tried, left_out, entries_in, entries_of, arrivals_of, bytes_of, has_message, is_left_out, is_unanswered}
 use Rattle.dispatch_room_replaying.specs.Turns.{ends_open, ends_unanswered, IsPlay, IsTurn, IsReplayed, IsBy, AreBy, IsBegun, StartsBy, HasNoStatus, BeginsWith, EndsAt, AreTurns}
 use Rattle.dispatch_room_replaying.specs.Faults.{too_many, Explains, IsDueTo}
-use Rattle.dispatch_room_replaying.specs.Replays.{DigestOf, IsReplay, Leads, LeadsElsewhere, LeadsTalking, StopsAfter}
+use Rattle.dispatch_room_replaying.specs.Replays.{DigestOf, IsReplay, Leads, LeadsElsewhere, LeadsTalking, StopsAfter, WouldMiss}
 use Rattle.dispatch_room_replaying.specs.Steps.{Stays, IsMark, TurnOf, MessageIs, IsElsewhere, NextIs, IsProgress, Progresses, Passes, StopsIn, TakesTurn}
 use Rattle.dispatch_room_replaying.proofs.FaultLemmas.{begins_explain}
 
@@ -262,7 +262,7 @@ module _ (waits : Bool) (step : Step) (zone : Zone) (digest_of : DigestOf) (trus
   next_stops is_begun fault read_failed write_failed stays begins due = record {
     few = inl refl;
     begins = begins_explain before [] waits (is_begun ≡ false) ⊥ (is_begun ≡ false) ⊥ (IsElsewhere digest_of trusted stood stands) (LeadsElsewhere step zone digest_of trusted stood stands []) [] fault
-        (λ none. none) (λ never. never) (λ digest x trust terminals held stood_for. let y = x trust terminals held stood_for in (held, refl, y.0, y.1)) begins;
+        (λ none. none) (λ never. never) (λ open_ digest x trust terminals held stood_for. let y = x.1 trust terminals held stood_for in (held, refl, y.0, subst (λ (o : Option Open). WouldMiss step zone digest_of terminals held o digest) (sym x.0) tt, y.1)) begins;
     leads = λ trust terminals held stood_for. (held, refl, stays trust terminals held stood_for);
     due = due;
   }
@@ -292,7 +292,7 @@ module _ (waits : Bool) (step : Step) (zone : Zone) (digest_of : DigestOf) (earl
     begins = keeps_begins a b (entries_of last) (Explains waits (is_begun ≡ false) ⊥ (LeadsElsewhere step zone digest_of late stood stands last) last fault) same
         (begins_explain b (entries_of last) waits (true ≡ false) ⊥ (is_begun ≡ false) ⊥ (LeadsElsewhere step zone digest_of late mid stands last)
         (LeadsElsewhere step zone digest_of late stood stands last) last fault
-        (λ never. absurd (cc)) (λ never. never) (λ digest y trust terminals held stood_for. y trust terminals held (stays (earlier trust) terminals held stood_for)) x.begins);
+        (λ never. absurd (cc)) (λ never. never) (λ open_ digest y trust terminals held stood_for. y trust terminals held (stays (earlier trust) terminals held stood_for)) x.begins);
     leads = Leads-after step zone digest_of early late stood mid stands last earlier stays x.leads;
     due = x.due;
   }
@@ -415,13 +415,14 @@ module _ (step : Step) (zone : Zone) (digest_of : DigestOf) (early late : Type 0
       let y = second trust terminals x.0 x.2 in
       (y.0, IsReplay-append step zone digest_of terminals held x.0 y.0 us ts x.1 y.1, y.2)
 
-  Elsewhere-append : (digest : List ℕ) → Leads step zone digest_of early stood mid us
-      → LeadsElsewhere step zone digest_of late mid stands ts digest
-      → LeadsElsewhere step zone digest_of late stood stands (us ++ ts) digest
-  Elsewhere-append digest first second trust terminals held stood_for =
+  Elsewhere-append : (open_ : Option Open) (digest : List ℕ)
+      → Leads step zone digest_of early stood mid us
+      → LeadsElsewhere step zone digest_of late mid stands ts open_ digest
+      → LeadsElsewhere step zone digest_of late stood stands (us ++ ts) open_ digest
+  Elsewhere-append open_ digest first second trust terminals held stood_for =
       let x = first (earlier trust) terminals held stood_for in
       let y = second trust terminals x.0 x.2 in
-      (y.0, IsReplay-append step zone digest_of terminals held x.0 y.0 us ts x.1 y.1, y.2, y.3)
+      (y.0, IsReplay-append step zone digest_of terminals held x.0 y.0 us ts x.1 y.1, y.2, y.3, y.4)
 
   pub Talks-append : Leads step zone digest_of early stood mid us
       → Leads step zone digest_of late mid stands ts
@@ -512,7 +513,7 @@ module _ (step : Step) (zone : Zone) (digest_of : DigestOf) (early late : Type 0
               (LeadsElsewhere step zone digest_of late stood stands (us ++ ts)) ts fault)
           begins = begins_explain b (entries_of ts) waits (old.is_begun ≡ false) ⊥ (us ≡ []) (length us ≡ 2 ^ 64 - 1) (LeadsElsewhere step zone digest_of late mid stands ts)
               (LeadsElsewhere step zone digest_of late stood stands (us ++ ts)) ts fault
-              (λ none. unbegun old.is_begun us none progress.begun) (λ never. absurd never) (λ digest y. Elsewhere-append digest first.leads y) x.begins
+              (λ none. unbegun old.is_begun us none progress.begun) (λ never. absurd never) (λ open_ digest y. Elsewhere-append open_ digest first.leads y) x.begins
 
           go : (ts ≡ []) ⊎ ((p : Play) × IsPlay p × AreBy until (message p.at p.sent ∷ [])
               × (old.is_begun ≡ true) × (ts ≡ tried p ∷ []))

@@ -1,15 +1,17 @@
 -- Why a replay stops: what follows the turns that were done with, and what has failed.
-use Rattle.std.specs.Prelude.{◌≡◌, ◌⊎◌, ⊤, ℕ, ◌<◌, List, [], ◌∷◌, length, decimal, Bool, true, false}
+use Rattle.std.specs.Prelude.{◌≡◌, ◌⊎◌, ⊤, ℕ, ◌<◌, List, [], ◌∷◌, length, decimal, Bool, true, false, Option, Some, None}
 use Rattle.room_types.specs.declared.refusals.Refusal.{Refusal}
 use Rattle.room_http_messages.specs.Messages.{WholeMessage, HasMessage}
 use Rattle.room_service.specs.Rooms.{IsWant}
+use Rattle.room_service.specs.declared.digests.Miss.{Miss}
+use Rattle.room_service.specs.declared.digests.Miss.TheVariants as miss
 use Rattle.dispatch_room_journal.specs.declared.reading.Fault.{Fault}
 use Rattle.dispatch_room_journal.specs.declared.reading.Fault.TheVariants.{Cut, Foreign, Read}
 use Rattle.dispatch_room_journal.specs.Entries.{room, message, answer, Begins, IsPart, IsForeign}
 use Rattle.dispatch_room_replaying.specs.declared.faults.ReplayFault.{ReplayFault}
 use Rattle.dispatch_room_replaying.specs.declared.faults.ReplayFault.TheVariants.{Bad, Differs, Another, ReadFailed, WriteFailed, Want}
 use Rattle.dispatch_room_journal.specs.Records.{status_in}
-use Rattle.dispatch_room_replaying.specs.Turns.{Play, Turn, tried}
+use Rattle.dispatch_room_replaying.specs.Turns.{Open, Play, Turn, tried}
 
 -- the fault of a read of the journal
 abbrev pub read_fault : Fault → ReplayFault
@@ -45,16 +47,27 @@ pub data IsBad (waits : Bool) (none full : Type 0) (last : List Turn) (rest : Li
       → IsNoMessage sent → IsBad waits none full last rest
   too_many : full → IsBad waits none full last rest
 
+-- A head stands next; or an open message, which waits for what stands after it, and then a head.
+abbrev pub IsHead : Bool → List ℕ → Option Open → List ℕ → Type 0
+IsHead waits rest None digest = (more : List ℕ) × Begins rest (room digest) more
+IsHead waits rest (Some open_) digest =
+    (waits ≡ true) × (mid : List ℕ) × (more : List ℕ)
+    × Begins rest (message open_.0 open_.1) mid × Begins mid (room digest) more
+
 -- What stands after the turns, by the fault that is told: a status that is not that of the message
--- that was played last, or a head of another room than the turns lead to (`Elsewhere`).
-module _ (waits : Bool) (none full : Type 0) (Elsewhere : List ℕ → Type 0) (last : List Turn) where
+-- that was played last; or a head of another room than the turns lead to, or than they would lead
+-- to by an open message before it (`Elsewhere`). Then no message was played that was not compared,
+-- and the open one neither.
+module _ (waits : Bool) (none full : Type 0) (Elsewhere : Option Open → List ℕ → Type 0)
+    (last : List Turn) where
   abbrev pub Explains : ReplayFault → List ℕ → Type 0
   Explains Bad rest = IsBad waits none full last rest
   Explains Differs rest =
       (p : Play) × (status : ℕ) × (more : List ℕ) × (last ≡ tried p ∷ [])
       × Begins rest (answer status) more × (¬ (status_in p.told ≡ decimal status))
   Explains Another rest =
-      (digest : List ℕ) × (more : List ℕ) × Begins rest (room digest) more × Elsewhere digest
+      (last ≡ []) × (open_ : Option Open) × (digest : List ℕ) × IsHead waits rest open_ digest
+      × Elsewhere open_ digest
   Explains ReadFailed rest = ⊤
   Explains WriteFailed rest = ⊤
   Explains (Want r) rest = ⊤
@@ -68,6 +81,11 @@ module _ (read_failed write_failed : Bool) where
   IsDueTo ReadFailed = (read_failed ≡ true) × (write_failed ≡ false)
   IsDueTo WriteFailed = (read_failed ≡ false) × (write_failed ≡ true)
   IsDueTo (Want r) = (read_failed ≡ false) × (write_failed ≡ false) × IsWant r
+
+-- how it is told that a room did not come to a digest
+abbrev pub miss_fault : Miss → ReplayFault
+miss_fault miss.Another = Another
+miss_fault (miss.Want r) = Want r
 
 -- why a message is not played: its bytes are none, or memory or storage is wanting
 abbrev pub Refuses : List ℕ → ReplayFault → Type 0

@@ -1,26 +1,25 @@
 -- What a replay does: the turns of a journal, and the room after them.
-use Rattle.std.specs.Prelude.{◌≡◌, ◌⊎◌, ℕ, ◌+◌, ◌-◌, ◌^◌, ⊤, min, List, [], ◌∷◌, ◌++◌, length, All, count_by, Bool, true, false, Option, Result, Ok, Err}
-use Rattle.hex.specs.Hex.{encode_lower}
+use Rattle.std.specs.Prelude.{◌≡◌, ◌⊎◌, ℕ, ◌+◌, ◌-◌, ◌^◌, ⊤, min, List, [], ◌∷◌, ◌++◌, length, All, count_by, Bool, true, false, Option, Some, None, Result, Ok, Err}
 use Rattle.room_types.specs.declared.fleet.Terminal.{Terminal}
 use Rattle.room_model.specs.Room.{Room}
 use Rattle.room_http_time.specs.declared.zones.Zone.{Zone}
+pub use Rattle.room_service.specs.Digests.{digits_of}
 use Rattle.room_service.specs.Rooms.{Step}
+use Rattle.room_http.specs.Arrivals.{message as arrived}
 use Rattle.room_http.specs.Talk.{IsReplyTo, IsTalk}
+use Rattle.room_http.specs.Towards.{LeadsToAnother}
+use Rattle.room_http_messages.specs.Messages.{WholeMessage, HasMessage}
 use Rattle.dispatch_room_replaying.specs.declared.faults.ReplayFault.{ReplayFault}
 use Rattle.dispatch_room_replaying.specs.declared.faults.ReplayFault.TheVariants.{Bad, Differs, Another, ReadFailed, WriteFailed, Want}
 use Rattle.dispatch_room_replaying.specs.declared.faults.Stopped.{Stopped}
 use Rattle.dispatch_room_replaying.specs.declared.replaying.Replayed.{Replayed}
-use Rattle.dispatch_room_replaying.specs.Turns.{Play, Turn, head, answered, caught_up, tried, left_out, timed, entries_of, arrivals_of, bytes_of, has_message, ends_open, ends_unanswered, IsReplayed}
+use Rattle.dispatch_room_replaying.specs.Turns.{Open, Play, Turn, head, answered, caught_up, tried, left_out, timed, entries_of, arrivals_of, bytes_of, has_message, ends_open, ends_unanswered, IsReplayed}
 use Rattle.dispatch_room_replaying.specs.Turns.{HasNoStatus, BeginsWith, AreTurns, EndsAt}
 use Rattle.dispatch_room_replaying.specs.Faults.{Explains, IsDueTo}
 
 -- the digest of a room's rows, with its terminals, in digits
 abbrev pub DigestOf : Type 0
 DigestOf = List Terminal → Room → List ℕ
-
--- what a journal writes of the digest that a room tells
-abbrev pub digits_of : (List Terminal → Room → List ℕ) → DigestOf
-digits_of digest_of terminals room = encode_lower (digest_of terminals room)
 
 module _ (step : Step) (zone : Zone) (digest_of : DigestOf) (terminals : List Terminal) where
   -- the room after a message, and its answer
@@ -49,13 +48,22 @@ Leads step zone digest_of trusted stood stands ts =
     trusted → (terminals : List Terminal) (room : Room) → stood terminals room
     → (after : Room) × IsReplay step zone digest_of terminals room ts after × stands terminals after
 
--- the same, to a room that has another digest than this
+-- an open message would lead a room to another digest than this, if there is one
+abbrev pub WouldMiss : Step → Zone → DigestOf → List Terminal → Room → Option Open → List ℕ → Type 0
+WouldMiss step zone digest_of terminals room None digest = ⊤
+WouldMiss step zone digest_of terminals room (Some open_) digest =
+    (whole : WholeMessage) × HasMessage open_.1 whole []
+    × LeadsToAnother step zone digest_of terminals room (arrived whole, open_.0) digest
+
+-- The same, to a room that has another digest than this, and would have another one after an open
+-- message, if there is one. That message was not done.
 abbrev pub LeadsElsewhere : Step → Zone → DigestOf → Type 0 → (List Terminal → Room → Type 0)
-    → (List Terminal → Room → Type 0) → List Turn → List ℕ → Type 0
-LeadsElsewhere step zone digest_of trusted stood stands ts digest =
+    → (List Terminal → Room → Type 0) → List Turn → Option Open → List ℕ → Type 0
+LeadsElsewhere step zone digest_of trusted stood stands ts open_ digest =
     trusted → (terminals : List Terminal) (room : Room) → stood terminals room
     → (after : Room) × IsReplay step zone digest_of terminals room ts after
-    × (¬ (digest_of terminals after ≡ digest)) × stands terminals after
+    × (¬ (digest_of terminals after ≡ digest))
+    × WouldMiss step zone digest_of terminals after open_ digest × stands terminals after
 
 -- as `Leads`, and what is played is a talk
 abbrev pub LeadsTalking : Step → Zone → DigestOf → Type 0 → (List Terminal → Room → Type 0)

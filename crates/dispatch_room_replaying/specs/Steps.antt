@@ -1,5 +1,5 @@
 -- What each step of a replay does.
-use Rattle.std.specs.Prelude.{◌≡◌, ◌⊎◌, ℕ, ◌-◌, ◌^◌, ⊤, min, count_by, List, [], ◌∷◌, ◌++◌, length, decimal, All, Bool, true, false, Vec, Option, Some, Result, Ok, Err}
+use Rattle.std.specs.Prelude.{◌≡◌, ◌⊎◌, ℕ, ◌-◌, ◌^◌, ⊤, min, count_by, List, [], ◌∷◌, ◌++◌, length, decimal, All, Bool, true, false, Vec, Option, Some, None, Result, Ok, Err}
 use Rattle.std.specs.Io.KnownBytes.{Consumes, Keeps, IsAtEnd}
 use Rattle.room_types.specs.declared.fleet.Terminal.{Terminal}
 use Rattle.room_model.specs.Room.{Room}
@@ -16,11 +16,11 @@ use Rattle.dispatch_room_replaying.specs.declared.entries.Next.TheVariants as ne
 use Rattle.dispatch_room_replaying.specs.declared.messages.Turned.{Turned}
 use Rattle.dispatch_room_replaying.specs.declared.messages.Turned.TheVariants.{Played, LeftOut, Last}
 use Rattle.dispatch_room_journal.specs.Records.{status_in}
-use Rattle.dispatch_room_replaying.specs.Turns.{Play, Turn, tried, timed, entries_in, entries_of, has_message, is_left_out, ends_open, ends_unanswered, IsPlay, IsTurn, IsReplayed, IsBy}
+use Rattle.dispatch_room_replaying.specs.Turns.{Open, Play, Turn, tried, timed, entries_in, entries_of, has_message, is_left_out, ends_open, ends_unanswered, IsPlay, IsTurn, IsReplayed, IsBy}
 use Rattle.dispatch_room_replaying.specs.Turns.{AreBy, StartsBy, HasNoStatus, BeginsWith, EndsAt}
 use Rattle.dispatch_room_replaying.specs.declared.progress.Progress.{Progress}
-use Rattle.dispatch_room_replaying.specs.Faults.{IsWanting, Refuses, Explains, IsDueTo}
-use Rattle.dispatch_room_replaying.specs.Replays.{DigestOf, Leads, LeadsElsewhere}
+use Rattle.dispatch_room_replaying.specs.Faults.{Refuses, Explains, IsDueTo}
+use Rattle.dispatch_room_replaying.specs.Replays.{DigestOf, Leads, LeadsElsewhere, WouldMiss}
 
 -- what it stands for is what it stood for
 abbrev pub Stays : Type 0 → (List Terminal → Room → Type 0) → (List Terminal → Room → Type 0)
@@ -57,19 +57,22 @@ module _ (step : Step) (zone : Zone) (digest_of : DigestOf) (trusted : Type 0)
     pub leaves : is_left_out turn ≡ left_out
     pub leads : Leads step zone digest_of trusted stood stands (turn ∷ [])
 
-  -- a message that was played is not as this line says, or memory or storage is wanting
+  -- a message that was played has another status than this line says
   abbrev pub Deviates : Play → Line → ReplayFault → Type 0
   Deviates p line fault =
-      ((fault ≡ Differs) × (status : ℕ) × (line ≡ line_of (answer status))
-      × (¬ (status_in p.told ≡ decimal status)))
-      ⊎ ((fault ≡ Another) × (digest : List ℕ) × (line ≡ line_of (room digest))
-      × LeadsElsewhere step zone digest_of trusted stood stands (tried p ∷ []) digest)
-      ⊎ IsWanting fault
+      (fault ≡ Differs) × (status : ℕ) × (line ≡ line_of (answer status))
+      × (¬ (status_in p.told ≡ decimal status))
 
-  -- a message before this line was not played, or it was and is not as the line says
+  -- this line is a head of another room than the message would lead to
+  abbrev pub IsAstray : ℕ → List ℕ → Line → ReplayFault → Type 0
+  IsAstray at sent line fault =
+      (fault ≡ Another) × (digest : List ℕ) × (line ≡ line_of (room digest))
+      × LeadsElsewhere step zone digest_of trusted stood stands [] (Some (at, sent)) digest
+
+  -- a message before this line was not done, or it was and is not as the line says
   abbrev pub StopsAt : ℕ → List ℕ → Line → ReplayFault → Type 0
   StopsAt at sent line fault =
-      (Stays trusted stood stands × Refuses sent fault)
+      (Stays trusted stood stands × (Refuses sent fault ⊎ IsAstray at sent line fault))
       ⊎ ((p : Play) × (p.at ≡ at) × (p.sent ≡ sent) × IsPlay p
       × Leads step zone digest_of trusted stood stands (tried p ∷ []) × Deviates p line fault)
 
@@ -80,6 +83,19 @@ module _ (step : Step) (zone : Zone) (digest_of : DigestOf) (trusted : Type 0)
       × (trusted → (terminals : List Terminal) (room : Room) → stood terminals room
       → (after : Room) × IsReplyTo step zone terminals room (timed p) after p.told
       × (digest_of terminals after ≡ digest) × stands terminals after)
+
+  -- where the room has another digest than this, so it would have after the message
+  abbrev pub Misses : ℕ → List ℕ → List ℕ → Type 0
+  Misses at sent digest =
+      trusted → (terminals : List Terminal) (held : Room) → stood terminals held
+      → (¬ (digest_of terminals held ≡ digest))
+      → WouldMiss step zone digest_of terminals held (Some (at, sent)) digest
+
+  -- the room has come to this digest by the message; or nothing was done, and why
+  abbrev pub PlaysTowards : {A : Type 0} → ℕ → List ℕ → List ℕ → Result A ReplayFault → Type 0
+  PlaysTowards at sent digest (Ok done) = ComesTo at sent digest
+  PlaysTowards at sent digest (Err fault) = Stays trusted stood stands
+      × (Refuses sent fault ⊎ ((fault ≡ Another) × Misses at sent digest))
 
   -- what becomes of a message before this line: it takes the line's entry with it, or is left out
   abbrev pub Settles : ℕ → List ℕ → Line → Result Bool ReplayFault → Type 0
@@ -121,12 +137,12 @@ module _ (step : Step) (zone : Zone) (digest_of : DigestOf) (trusted : Type 0)
     MessageIs at (Err fault) =
         (last : List Turn) × StopsIn true before (Some at) true fault failed false last
 
--- the room has another digest than this
+-- the room has another digest than this, and no message is open
 abbrev pub IsElsewhere : DigestOf → Type 0 → (List Terminal → Room → Type 0)
-    → (List Terminal → Room → Type 0) → List ℕ → Type 0
-IsElsewhere digest_of trusted stood stands digest =
-    trusted → (terminals : List Terminal) (held : Room) → stood terminals held
-    → (¬ (digest_of terminals held ≡ digest)) × stands terminals held
+    → (List Terminal → Room → Type 0) → Option Open → List ℕ → Type 0
+IsElsewhere digest_of trusted stood stands open_ digest =
+    (open_ ≡ None) × (trusted → (terminals : List Terminal) (held : Room) → stood terminals held
+    → (¬ (digest_of terminals held ≡ digest)) × stands terminals held)
 
 module _ (digest_of : DigestOf) (trusted : Type 0) (stood stands : List Terminal → Room → Type 0)
     (before after : Option (List ℕ)) (failed : Bool) where

@@ -7,6 +7,10 @@ use Rattle.room_http_messages.specs.Messages.{WholeMessage, HasMessage}
 use Rattle.room_http.specs.Arrivals.{message as arrived}
 use Rattle.room_http.specs.Talk.{Timed}
 
+-- an open message, which has no status: its moment, and its bytes
+abbrev pub Open : Type 0
+Open = ℕ × List ℕ
+
 -- a message that is played: its moment, its bytes, the message that they are, and the bytes of its
 -- answer
 pub record Play : Type 0 where
@@ -17,8 +21,8 @@ pub record Play : Type 0 where
 
 -- What is done with the next entry, or with the next two. A head is compared with the room. A
 -- message that has a status after it is played, and its status compared. An open one, which has
--- none, is played before a head to which the room has not come (`caught_up`), or without a look at
--- what follows it (`tried`), or it is left out.
+-- none, is played before a head to which the room has not come, and comes by it (`caught_up`), or
+-- without a look at what follows it (`tried`), or it is left out.
 pub data Turn : Type 0 where
   head : List ℕ → Turn
   answered : Play → ℕ → Turn

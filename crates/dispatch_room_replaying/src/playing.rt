@@ -6,10 +6,10 @@ ghost use Rattle.room_model.specs.Room.{Room as Held};
 ghost use Rattle.room_http_messages.specs.declared.limits.TheConstants.{INBOX_ROOM};
 ghost use Rattle.room_http_messages.specs.Layouts.{Shows};
 ghost use Rattle.room_http_messages.specs.Messages.{WholeMessage, HasMessage};
-ghost use Rattle.dispatch_room_replaying.specs.Faults.{IsNoMessage, IsWanting};
+ghost use Rattle.dispatch_room_replaying.specs.Faults.{IsNoMessage, IsWanting, miss_fault};
 ghost use Rattle.dispatch_room_journal.specs.Records.{status_in};
 ghost use Rattle.dispatch_room_replaying.specs.Replays.{UnlessWant, digits_of};
-ghost use Rattle.dispatch_room_replaying.specs.Steps.{Plays};
+ghost use Rattle.dispatch_room_replaying.specs.Steps.{Plays, PlaysTowards};
 
 use crate::faults::ReplayFault;
 use dispatch_room_journal::digests::digest_of;
@@ -18,11 +18,12 @@ use dispatch_room_journal::statuses::status_in;
 use itoa::Buffer;
 use room_http::arrivals::Arrived;
 use room_http::replies::reply;
+use room_http::towards::reply_towards;
 use room_http_messages::looks::{Look, look_at};
 use room_http_messages::messages::Message;
 use room_http_requests::routes::Routes;
 use room_http_time::zones::Zone;
-use room_service::digests::Digested;
+use room_service::digests::{Digested, Miss};
 use room_service::rooms::Room;
 use room_types::numbers::Moment;
 use std::alloc::Global;
@@ -86,6 +87,58 @@ pub fn play<M: Room>(
     ) {
         Ok(told) => Ok(told),
         Err(refusal) => Err(ReplayFault::Want(refusal)),
+    }
+}
+
+/// Plays a message where the room comes to this digest by it. Where not, nothing is done.
+pub fn play_towards<M: Digested>(
+    alloc: Global,
+    routes: &Routes,
+    zone: &Zone,
+    room: &mut M,
+    sent: &[u8],
+    at: Moment,
+    digest: &[u8; DIGEST_DIGITS],
+) -> Result<(), ReplayFault>
+    requires ready { M.is_ready room.old }
+    requires fits { length sent.now ≤ INBOX_ROOM }
+    ensures ready { M.is_ready room.new }
+    ensures trusted { M.is_trusted room.new → M.is_trusted room.old }
+    ensures plays { PlaysTowards M.step zone.now (digits_of M.digest_of) (M.is_trusted room.new)
+        (M.stands room.old) (M.stands room.new) at sent.now digest.now result }
+    ensures kept { M.is_trusted room.new → UnlessWant result (M.is_kept room.old
+        → M.is_kept room.new) }
+{
+    let Some(message) = message_in(sent) else {
+        return Err(ReplayFault::Bad);
+    };
+    match reply_towards(
+        alloc,
+        routes,
+        zone,
+        room,
+        &Arrived::Message {
+            message,
+            bytes: sent,
+        },
+        at,
+        digest,
+    ) {
+        Ok(told) => {
+            drop(told);
+            Ok(())
+        }
+        Err(miss) => Err(fault_of(miss)),
+    }
+}
+
+// How it is told that a room did not come to a digest.
+fn fault_of(miss: Miss) -> ReplayFault
+    ensures { result ≡ miss_fault miss }
+{
+    match miss {
+        Miss::Another => ReplayFault::Another,
+        Miss::Want(refusal) => ReplayFault::Want(refusal),
     }
 }
 

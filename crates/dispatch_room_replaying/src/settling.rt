@@ -1,12 +1,12 @@
 //! What becomes of a message, by what follows it in the journal.
-ghost use Rattle.std.specs.Prelude.{◌≤◌, length, MatchResult};
+ghost use Rattle.std.specs.Prelude.{◌≤◌, length};
 ghost use Rattle.room_http_messages.specs.declared.limits.TheConstants.{INBOX_ROOM};
 ghost use Rattle.dispatch_room_journal.specs.declared.lines.Line.TheVariants.{Answer, Room};
 ghost use Rattle.dispatch_room_replaying.specs.Replays.{UnlessWant, digits_of};
-ghost use Rattle.dispatch_room_replaying.specs.Steps.{ComesTo, Settles, StopsAt};
+ghost use Rattle.dispatch_room_replaying.specs.Steps.{Settles};
 
 use crate::faults::ReplayFault;
-use crate::playing::{has_status, is_at, play};
+use crate::playing::{has_status, is_at, play, play_towards};
 use dispatch_room_journal::lines::{DIGEST_DIGITS, Line};
 use room_http_requests::routes::Routes;
 use room_http_time::zones::Zone;
@@ -45,40 +45,9 @@ fn play_answered<M: Digested>(
     }
 }
 
-/// Plays a message that has no status, to a room that comes to this digest by it.
-fn play_open<M: Digested>(
-    alloc: Global,
-    routes: &Routes,
-    zone: &Zone,
-    room: &mut M,
-    sent: &[u8],
-    at: Moment,
-    digest: &[u8; DIGEST_DIGITS],
-) -> Result<(), ReplayFault>
-    requires ready { M.is_ready room.old }
-    requires fits { length sent.now ≤ INBOX_ROOM }
-    ensures ready { M.is_ready room.new }
-    ensures trusted { M.is_trusted room.new → M.is_trusted room.old }
-    ensures turn { MatchResult result
-        (λ _. ComesTo M.step zone.now (digits_of M.digest_of) (M.is_trusted room.new) (M.stands room.old)
-        (M.stands room.new) at sent.now digest.now)
-        (λ fault. StopsAt M.step zone.now (digits_of M.digest_of) (M.is_trusted room.new)
-        (M.stands room.old) (M.stands room.new) at sent.now (Room digest.now) fault) }
-    ensures kept { M.is_trusted room.new → UnlessWant result (M.is_kept room.old
-        → M.is_kept room.new) }
-{
-    match play(alloc, routes, zone, room, sent, at) {
-        Ok(_) => match is_at(room, digest) {
-            Ok(true) => Ok(()),
-            Ok(false) => Err(ReplayFault::Another),
-            Err(fault) => Err(fault),
-        },
-        Err(fault) => Err(fault),
-    }
-}
-
 /// Plays a message that has no status before the head of a part, where the room has not come to
-/// the head's digest yet. Whether it was played.
+/// the head's digest yet and comes to it by the message. Whether it was played. Where the room
+/// would come to another digest, nothing is done.
 fn catch_up<M: Digested>(
     alloc: Global,
     routes: &Routes,
@@ -99,7 +68,7 @@ fn catch_up<M: Digested>(
 {
     match is_at(room, digest) {
         Ok(true) => Ok(false),
-        Ok(false) => match play_open(alloc, routes, zone, room, sent, at, digest) {
+        Ok(false) => match play_towards(alloc, routes, zone, room, sent, at, digest) {
             Ok(()) => Ok(true),
             Err(fault) => Err(fault),
         },

@@ -1,9 +1,9 @@
 -- What is served on some connections and then on others is served on all of them, one after
 -- another.
-use Rattle.std.proofs.Common.{◌≡◌, ◌∙◌, ap, append-nil, append_assoc, arith, length, length-append, refl, subst, sym, ℕ, List, [], ◌∷◌, ◌++◌, ◌<◌, Option, None, Some, Ok, Err}
+use Rattle.std.proofs.Common.{◌≡◌, ◌∙◌, ap, append-nil, append_assoc, arith, length, length-append, refl, subst, sym, ℕ, List, [], ◌∷◌, ◌++◌, ◌<◌, Bool, Option, None, Some, Result, Ok, Err, false, true, inl, inr, ◌+◌}
 use Rattle.std.proofs.lemmas.List.{map-append}
-use Rattle.std.proofs.lemmas.List.Elements.{All-append, All-cons, All-nil}
-use Rattle.std.specs.Prelude.{option_and_then}
+use Rattle.std.proofs.lemmas.List.Elements.{All-append, All-cons, All-head, All-nil, All-tail}
+use Rattle.std.specs.Prelude.{All, option_and_then}
 use Rattle.sqlite.specs.Held.{state}
 use Rattle.sqlite.specs.State.{HasCleanDisk}
 use Rattle.sqlite_trees.specs.declared.store.Store.{Ghosts}
@@ -15,12 +15,15 @@ use Rattle.room_http_time.specs.declared.zones.Zone.{Zone}
 use Rattle.room_store.specs.Keeping.{IsKept, IsRoom, LeavesOneOf}
 use Rattle.room_store.specs.declared.store.Store.{Store}
 use Rattle.room_http.specs.Runs.{Exchange, IsRun, room_by}
-use Rattle.room_http.specs.Served.{AreFirst, KeepsPromises, Served}
+use Rattle.room_http.specs.Course.{AreFirstIn}
+use Rattle.room_http.specs.Served.{KeepsPromises, Served}
+use Rattle.room_http.specs.declared.serving.ServeEnd.{ServeEnd}
+use Rattle.room_http.specs.declared.serving.ServeEnd.TheVariants as end
 use Rattle.room_http.proofs.PromiseLaws.{promises_kept}
 use Rattle.room_http.proofs.RunLemmas.{room_split, run_join}
 use Rattle.dispatch_room_endings.specs.declared.endings.Failure.{Failure}
 use Rattle.dispatch_room_serving.specs.Calls.{Grows, Opening}
-use Rattle.dispatch_room_serving.specs.Connections.{AreAttended, AreJoined, AreNext, AreServed, Conversation, EndsAs, GoOn, GoesOn, IsNext, Service, Stage, connected, done_or, fault_after, opening_of, stage_after, together}
+use Rattle.dispatch_room_serving.specs.Connections.{AreAttended, AreJoined, AreKept, AreNext, AreServed, AttendsNext, Conversation, EndsAs, GoOn, GoesOn, HasServed, IsNext, Service, Stage, connected, done_or, fault_after, fault_by, opening_of, stage_after, stage_before, together}
 
 -- ---- what is known grows
 pub grows_none : {A : Type 0} (known : Option (List A)) → Grows known known []
@@ -92,7 +95,7 @@ module _ {S : Type 0} (g : Ghosts S) (zone : Zone) (terminals : List Terminal) w
       }
 
   pub joined_one : (c : Conversation S) (room : Room)
-      → Served zone (AreFirst c.before.left c.before.given c.after.given) c.before.held
+      → Served zone (AreFirstIn c.course c.before.left c.before.given c.after.given) c.before.held
       c.after.held (IsKept g c.from) (IsRoom g c.store) (LeavesOneOf g c.store) terminals room
       → AreJoined g zone terminals (c ∷ []) c.store room
   joined_one c room s = record {
@@ -139,7 +142,7 @@ module _ {S : Type 0} (g : Ghosts S) (zone : Zone) (came_text : ℕ → List ℕ
       → Grows old.told new.told (c.after.held ∷ [])
       → new.stage ≡ stage_after c → IsNext g zone came_text told_text old.stage c
       → (HasCleanDisk (state g c.store.conn) → HasCleanDisk (state g old.stage.store.conn))
-      → KeepsPromises zone (AreFirst c.before.left c.before.given c.after.given) c.before.held
+      → KeepsPromises zone (AreFirstIn c.course c.before.left c.before.given c.after.given) c.before.held
       c.after.held (HasCleanDisk (state g c.store.conn)) (IsKept g c.from)
       (IsRoom g old.stage.store) (IsRoom g c.store) (LeavesOneOf g c.store)
       → AreAttended g zone came_text told_text (Some c ∷ []) old new
@@ -199,3 +202,109 @@ module _ {S : Type 0} where
       → EndsAs (calls ++ call ∷ []) most (Err fault)
   ends_after calls None most fault go within is = cc
   ends_after calls (Some c) most fault go within is = (calls, c, refl, rw length-append (omega (arith, within)), go, has_some fault (fault_after c) is)
+
+-- ---- what is kept
+-- more is served only with a store that is sound
+sound_of_none : (end : ServeEnd) (is_sound : Bool) → fault_by end is_sound ≡ None
+    → is_sound ≡ false → ⊥
+sound_of_none end.Memory is_sound none unsound = cc
+sound_of_none end.Unkept is_sound none unsound = cc
+sound_of_none end.Closed true none unsound = cc
+sound_of_none end.Closed false none unsound = cc
+sound_of_none end.Cut true none unsound = cc
+sound_of_none end.Cut false none unsound = cc
+sound_of_none end.ReadFault true none unsound = cc
+sound_of_none end.ReadFault false none unsound = cc
+sound_of_none end.WriteFault true none unsound = cc
+sound_of_none end.WriteFault false none unsound = cc
+sound_of_none end.ClockFault true none unsound = cc
+sound_of_none end.ClockFault false none unsound = cc
+sound_of_none end.ReadsSpent true none unsound = cc
+sound_of_none end.ReadsSpent false none unsound = cc
+
+module _ {S : Type 0} (g : Ghosts S) (zone : Zone) (came_text : ℕ → List ℕ → List ℕ)
+    (told_text : List ℕ → List ℕ) where
+  -- where more is served after a connection, what the store holds is kept
+  kept_after : (stage : Stage S) (c : Conversation S) → IsNext g zone came_text told_text stage c
+      → GoesOn c → HasCleanDisk (state g c.store.conn) → IsKept g c.store
+  kept_after stage c next goes_on clean = elim (next.kept clean) [
+    | inl kept ↦ kept
+    | inr unsound ↦ absurd (sound_of_none c.end c.store.is_sound goes_on unsound)
+  ]
+
+  clean_before : (cs : List (Conversation S)) (stage last : Stage S)
+      → AreNext g zone came_text told_text cs stage last → HasCleanDisk (state g last.store.conn)
+      → HasCleanDisk (state g stage.store.conn)
+  clean_before [] stage last same clean = rw (← same) clean
+  clean_before (c ∷ cs) stage last in_turn clean =
+      subst (λ (s : Stage S). HasCleanDisk (state g s.store.conn)) in_turn.0.begins (in_turn.0.trusted (clean_before cs (stage_after c) last in_turn.1 clean))
+
+  kept_from : (stage : Stage S) (c : Conversation S) → stage_before c ≡ stage
+      → IsKept g stage.store → IsKept g c.from
+  kept_from stage c begins kept = subst (λ (s : Stage S). IsKept g s.store) (sym begins) kept
+
+  -- So what was kept as the first of these connections began, is kept as each begins, and after the
+  -- last.
+  kept_each : (cs : List (Conversation S)) (stage last : Stage S)
+      → AreNext g zone came_text told_text cs stage last → All GoesOn cs
+      → HasCleanDisk (state g last.store.conn) → IsKept g stage.store
+      → All (λ c. IsKept g c.from) cs × IsKept g last.store
+  kept_each [] stage last same go_on clean kept = (All-nil (λ c. IsKept g c.from), rw same kept)
+  kept_each (c ∷ cs) stage last in_turn go_on clean kept =
+      let here : HasCleanDisk (state g c.store.conn) = clean_before cs (stage_after c) last in_turn.1 clean in
+      let after : IsKept g c.store = kept_after stage c in_turn.0 (All-head GoesOn c cs go_on) here in
+      let rest = kept_each cs (stage_after c) last in_turn.1 (All-tail GoesOn c cs go_on) clean after in
+      (All-cons (λ c. IsKept g c.from) c cs (kept_from stage c in_turn.0.begins kept) rest.0, rest.1)
+
+  -- and so it is as one call's connection begins, if one came of it
+  pub kept_at : (call : Option (Conversation S)) (stage last : Stage S)
+      → AreNext g zone came_text told_text (connected (call ∷ [])) stage last
+      → IsKept g stage.store → All (λ c. IsKept g c.from) (connected (call ∷ []))
+  kept_at None stage last in_turn kept = All-nil (λ c. IsKept g c.from)
+  kept_at (Some c) stage last in_turn kept = All-cons (λ c. IsKept g c.from) c [] (kept_from stage c in_turn.0.begins kept) (All-nil (λ c. IsKept g c.from))
+
+-- ---- one call more
+module _ {S : Type 0} (g : Ghosts S) (zone : Zone) (came_text : ℕ → List ℕ → List ℕ)
+    (told_text : List ℕ → List ℕ) where
+  pub served_none : (s : Service S) → HasServed g zone came_text told_text s s 0
+  served_none s = record {
+    calls = [];
+    counted = refl;
+    go_on = go_on_none;
+    attended = attended_none g zone came_text told_text s;
+    kept = λ clean kept. All-nil (λ c. IsKept g c.from);
+    is_kept = λ clean kept. kept;
+  }
+
+  -- what was done with the next call
+  pub attends_next : (call : Option (Conversation S)) (old new : Service S)
+      (result : Result (Unit {0}) Failure)
+      → AreAttended g zone came_text told_text (call ∷ []) old new
+      → result ≡ done_or (option_and_then fault_after call)
+      → AttendsNext g zone came_text told_text old new result
+  attends_next call old new result next ends = record {
+    call = call;
+    attended = next;
+    ends = ends;
+    longer = λ goes_on first count before.
+        let on : Ok tt ≡ done_or (option_and_then fault_after call) = sym goes_on ∙ ends in
+        let one = λ (clean : HasCleanDisk (state g new.stage.store.conn)) (kept : IsKept g first.stage.store).
+        kept_each g zone came_text told_text (connected (call ∷ [])) old.stage new.stage next.in_turn (go_on_one call on) clean (before.is_kept (next.trusted clean) kept) in
+        record {
+          calls = before.calls ++ call ∷ [];
+          counted = rw length-append (ap (λ n. n + 1) before.counted);
+          go_on = go_on_more before.calls call before.go_on on;
+          attended = attended_more g zone came_text told_text before.calls (call ∷ []) first old new before.attended next;
+          kept = λ clean kept. rw (connected_more before.calls (call ∷ [])) (All-append (λ c. IsKept g c.from) (connected before.calls) (connected (call ∷ [])) (before.kept (next.trusted clean) kept) (one clean kept).0);
+          is_kept = λ clean kept. (one clean kept).1;
+        };
+  }
+
+  -- what was kept where no more is served after the next call
+  pub kept_ending : (call : Option (Conversation S)) (first old new : Service S) (count : ℕ)
+      → (before : HasServed g zone came_text told_text first old count)
+      → AreAttended g zone came_text told_text (call ∷ []) old new
+      → AreKept g zone came_text told_text (connected (before.calls ++ call ∷ [])) first (HasCleanDisk (state g new.stage.store.conn))
+  kept_ending call first old new count before next clean kept =
+      let here = next.trusted clean in
+      rw (connected_more before.calls (call ∷ [])) (All-append (λ c. IsKept g c.from) (connected before.calls) (connected (call ∷ [])) (before.kept here kept) (kept_at g zone came_text told_text call old.stage new.stage next.in_turn (before.is_kept here kept)))

@@ -1,5 +1,5 @@
 -- What is served on connections, one after another.
-use Rattle.std.specs.Prelude.{◌≡◌, ◌≤◌, ⊤, ℕ, List, [], ◌∷◌, ◌++◌, Bool, true, false, All, filter_map, flat_map, length, map, option_and_then, option_map, Option, None, Some, Result, Ok, Err}
+use Rattle.std.specs.Prelude.{◌≡◌, ◌≢◌, ◌⊎◌, ◌≤◌, ◌+◌, ⊤, ℕ, List, [], ◌∷◌, ◌++◌, Bool, true, false, All, filter_map, flat_map, length, map, option_and_then, option_map, Option, None, Some, Result, Ok, Err}
 use Rattle.sqlite.specs.Held.{state}
 use Rattle.sqlite.specs.State.{HasCleanDisk}
 use Rattle.sqlite_trees.specs.declared.store.Store.{Ghosts}
@@ -9,10 +9,12 @@ use Rattle.room_http_time.specs.declared.zones.Zone.{Zone}
 use Rattle.room_service.specs.Rooms.{machine}
 use Rattle.room_store.specs.Keeping.{IsKept, IsRoom, LeavesOneOf}
 use Rattle.room_store.specs.declared.store.Store.{Store}
+use Rattle.room_store_cache.specs.Cache.{KnowsNothing}
+use Rattle.room_http.specs.Course.{AreFirstIn, Course}
 use Rattle.room_http.specs.Kept.{ActsOnEach, KeepsEach, Tapes}
 use Rattle.room_http.specs.Promises.{Promises}
 use Rattle.room_http.specs.Runs.{Exchange, IsRun, room_by}
-use Rattle.room_http.specs.Served.{AreFirst, Served}
+use Rattle.room_http.specs.Served.{Served}
 use Rattle.room_http.specs.Serving.{Finish, MissesNone, ReadsAtMost, ServeIs, Sides}
 use Rattle.room_http.specs.Talk.{Stays, Wants}
 use Rattle.room_http.specs.declared.serving.ServeEnd.{ServeEnd}
@@ -25,23 +27,27 @@ use Rattle.dispatch_room_serving.specs.declared.connections.TheConstants.{MOST_R
 use Rattle.dispatch_room_serving.specs.Calls.{Grows, Opening}
 
 -- where serving stands between two connections: what is known of the moments given and of what the
--- witness keeps, and the store
+-- witness keeps, whether it has failed, and the store
 pub record Stage (S : Type 0) : Type 0 where
   pub given : Option (List ℕ)
   pub kept : Option (List ℕ)
+  pub has_failed : Bool
   pub store : Store S
 
--- A connection that was served: its sides before and after, what was left unread, how serving it
--- ended, and the store and what the witness keeps, before and after it.
+-- A connection that was served: its sides before and after, its course, what was left unread, how
+-- serving it ended, and the store, what the witness keeps and whether it has failed, before and
+-- after it.
 pub record Conversation (S : Type 0) : Type 0 where
   pub before : Sides
   pub after : Finish
+  pub course : Course
   pub unread : Option (List ℕ)
   pub end : ServeEnd
   pub from : Store S
   pub store : Store S
   pub kept : Option (List ℕ)
   pub keeps : Option (List ℕ)
+  pub had_failed : Bool
 
 -- what is known of all that is served, at one moment: the calls that came, what they were told, and
 -- where serving stands
@@ -74,10 +80,20 @@ module _ {S : Type 0} where
 
   -- where serving stood before it, and stands after it
   abbrev pub stage_before : Conversation S → Stage S
-  stage_before c = record { given = c.before.given; kept = c.kept; store = c.from }
+  stage_before c = record {
+    given = c.before.given;
+    kept = c.kept;
+    has_failed = c.had_failed;
+    store = c.from;
+  }
 
   abbrev pub stage_after : Conversation S → Stage S
-  stage_after c = record { given = c.after.given; kept = c.keeps; store = c.store }
+  stage_after c = record {
+    given = c.after.given;
+    kept = c.keeps;
+    has_failed = c.after.witness_failed;
+    store = c.store;
+  }
 
   -- what is known of the moments, of what the witness keeps and of what was written, before it and
   -- after it
@@ -119,8 +135,9 @@ together talks = flat_map (λ xs. xs) talks
 module _ {S : Type 0} (g : Ghosts S) (zone : Zone) (terminals : List Terminal) where
   -- on the connection these exchanges were served, from this room
   pub record IsServed (c : Conversation S) (xs : List Exchange) (room : Room) : Type 0 where
-    pub served : Served zone (AreFirst c.before.left c.before.given c.after.given) c.before.held
-        c.after.held (IsKept g c.from) (IsRoom g c.store) (LeavesOneOf g c.store) terminals room
+    pub served : Served zone (AreFirstIn c.course c.before.left c.before.given c.after.given)
+        c.before.held c.after.held (IsKept g c.from) (IsRoom g c.store) (LeavesOneOf g c.store)
+        terminals room
     pub exchanged : served.exchanges ≡ xs
 
   -- on each connection its exchanges were served, from the room that the one before left
@@ -142,7 +159,8 @@ module _ {S : Type 0} (g : Ghosts S) (zone : Zone) (terminals : List Terminal) w
 -- where a witness keeps so much of a message at its moment, and of an answer
 module _ {S : Type 0} (g : Ghosts S) (zone : Zone) (came_text : ℕ → List ℕ → List ℕ)
     (told_text : List ℕ → List ℕ) where
-  -- it was served as one connection is, from where serving stood, and witnessed
+  -- It was served as one connection is, from where serving stood, and witnessed. The witness fails
+  -- only where something can't be kept. What the store holds afterwards is kept, unless it is shut.
   pub record IsNext (stage : Stage S) (c : Conversation S) : Type 0 where
     pub begins : stage_before c ≡ stage
     pub reads : ReadsAtMost MOST_READS c.before.reads c.after.reads
@@ -150,12 +168,16 @@ module _ {S : Type 0} (g : Ghosts S) (zone : Zone) (came_text : ℕ → List ℕ
         (IsRoom g c.from)
         (Stays (IsKept g c.from) (IsRoom g c.store) (LeavesOneOf g c.store))
         (Wants machine zone (IsKept g c.from) (IsRoom g c.store) (LeavesOneOf g c.store))
-        MOST_READS c.end
+        (KnowsNothing c.store.cache) c.course MOST_READS c.end
     pub none_missed : MissesNone c.before.left c.unread c.before.given c.after.given c.end
     pub witnessed : KeepsEach came_text told_text
         (ActsOnEach machine zone (HasCleanDisk (state g c.store.conn)) (IsRoom g c.from)
         (IsRoom g c.store)) c.before.left
-        (tapes_before c) (tapes_after c)
+        (tapes_before c) (tapes_after c) c.course
+    pub failed : c.end ≢ end.Unkept → c.after.witness_failed ≡ c.had_failed
+    pub trusted : HasCleanDisk (state g c.store.conn) → HasCleanDisk (state g c.from.conn)
+    pub kept : HasCleanDisk (state g c.store.conn)
+        → IsKept g c.store ⊎ (c.store.is_sound ≡ false)
 
   -- each was served from where the one before left serving; there it stands at the end
   abbrev pub AreNext : List (Conversation S) → Stage S → Stage S → Type 0
@@ -175,21 +197,43 @@ module _ {S : Type 0} (g : Ghosts S) (zone : Zone) (came_text : ℕ → List ℕ
         → (terminals : List Terminal) (room : Room) → IsRoom g old.stage.store terminals room
         → AreJoined g zone terminals (connected calls) new.stage.store room
 
+  -- What the store held was kept as each connection began, where it was as the first did: so every
+  -- answer that was written is kept.
+  abbrev pub AreKept : List (Conversation S) → Service S → Type 0 → Type 0
+  AreKept cs first trusted =
+      trusted → IsKept g first.stage.store → All (λ c. IsKept g c.from) cs
+
+  -- So many calls came, one after another, and after each more is served. A service is served until
+  -- it is stopped: so this is what holds after each call of it, of all of them.
+  pub record HasServed (first now : Service S) (count : ℕ) : Type 0 where
+    pub calls : List (Option (Conversation S))
+    pub counted : length calls ≡ count
+    pub go_on : GoOn calls
+    pub attended : AreAttended calls first now
+    pub kept : AreKept (connected calls) first (HasCleanDisk (state g now.stage.store.conn))
+    pub is_kept : HasCleanDisk (state g now.stage.store.conn) → IsKept g first.stage.store
+        → IsKept g now.stage.store
+
   -- so many calls were served, or those up to one after which no more is served
   pub record Serves (old new : Service S) (most : ℕ) (result : Result Done Failure) : Type 0 where
     pub calls : List (Option (Conversation S))
     pub attended : AreAttended calls old new
     pub ends : EndsAs calls most result
+    pub kept : AreKept (connected calls) old (HasCleanDisk (state g new.stage.store.conn))
 
 -- no fault, or this one
 abbrev pub done_or : Option Failure → Result (Unit {0}) Failure
 done_or None = Ok tt
 done_or (Some fault) = Err fault
 
--- the next call was attended to, and why no more is served after it, if it is so
+-- The next call was attended to, and why no more is served after it, if it is so. Else what held of
+-- so many calls holds of one more.
 pub record AttendsNext {S : Type 0} (g : Ghosts S) (zone : Zone) (came_text : ℕ → List ℕ → List ℕ)
     (told_text : List ℕ → List ℕ) (old new : Service S)
     (result : Result (Unit {0}) Failure) : Type 0 where
   pub call : Option (Conversation S)
   pub attended : AreAttended g zone came_text told_text (call ∷ []) old new
   pub ends : result ≡ done_or (option_and_then fault_after call)
+  pub longer : result ≡ Ok tt → (first : Service S) (count : ℕ)
+      → HasServed g zone came_text told_text first old count
+      → HasServed g zone came_text told_text first new (count + 1)

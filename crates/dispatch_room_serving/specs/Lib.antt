@@ -2,7 +2,13 @@
 pub mod Calls
 -- what is served on connections, one after another
 pub mod Connections
--- what a journal keeps of what is served
+-- what a journal holds, what of it lasts, and when it has failed
 pub mod Journals
+-- what the log has of what was asked and answered
+pub mod Logged
+-- the parts of a line in the log
+pub mod LogLines
+-- the line of a message in the log
+pub mod Logs
 -- the room of a database, opened and served
 pub mod Rooms

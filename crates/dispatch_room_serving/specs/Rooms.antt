@@ -73,6 +73,8 @@ module _ {S : Type 0} (g : Ghosts S) where
       pub fault : Failure
       pub why : IsUnbegun fault
       pub told : result ≡ Err fault
+      -- the journal is at fault only where something could not be kept
+      pub failed : fault ≡ Journal → new.stage.has_failed ≡ true
       pub unheard : (new.heard ≡ old.heard) × (new.told ≡ old.told)
           × (new.stage.given ≡ old.stage.given)
       pub looks : Looks old.stage.store new.stage.store
@@ -91,7 +93,12 @@ module _ {S : Type 0} (g : Ghosts S) where
               heard = old.heard;
               told = old.told;
               stage =
-                  record { given = old.stage.given; kept = kept; store = store };
+                  record {
+                    given = old.stage.given;
+                    kept = kept;
+                    has_failed = old.stage.has_failed;
+                    store = store;
+                  };
             }) new most result
 
       -- serving did not begin, or so many calls were served

@@ -16,9 +16,7 @@ use std::alloc::Global;
 /// How many reads a connection has at most.
 pub const MOST_READS: u32 = 100_000;
 
-/// Serves a room to so many calls, one after another. A connection that ends badly doesn't end it,
-/// but for want of memory, where the witness could not keep what it was told, and where the store
-/// is not sound any longer.
+/// Serves a room to so many calls, one after another, each as `serve_next` does.
 pub fn serve_each<S: Alter, P: Callers, C: Clock, N: Witness>(
     alloc: Global,
     callers: &mut P,
@@ -37,6 +35,7 @@ pub fn serve_each<S: Alter, P: Callers, C: Clock, N: Witness>(
           stage = record {
             given = C.given clock.old;
             kept = N.held witness.old;
+            has_failed = N.has_failed witness.old;
             store = room.old;
           };
         })
@@ -46,6 +45,7 @@ pub fn serve_each<S: Alter, P: Callers, C: Clock, N: Witness>(
           stage = record {
             given = C.given clock.new;
             kept = N.held witness.new;
+            has_failed = N.has_failed witness.new;
             store = room.new;
           };
         })
@@ -59,8 +59,11 @@ pub fn serve_each<S: Alter, P: Callers, C: Clock, N: Witness>(
     Ok(Done::Whole)
 }
 
-// Serves the next call.
-fn serve_next<S: Alter, P: Callers, C: Clock, N: Witness>(
+/// Serves the next call. Where more is served after it, what held after the calls before holds after
+/// one more: so it does after every number of them, however long the room is served. A connection
+/// that ends badly doesn't end the service, but for want of memory, where the witness could not keep
+/// what it was told, and where the store is not sound any longer.
+pub fn serve_next<S: Alter, P: Callers, C: Clock, N: Witness>(
     alloc: Global,
     callers: &mut P,
     room: &mut Store<S>,
@@ -77,6 +80,7 @@ fn serve_next<S: Alter, P: Callers, C: Clock, N: Witness>(
           stage = record {
             given = C.given clock.old;
             kept = N.held witness.old;
+            has_failed = N.has_failed witness.old;
             store = room.old;
           };
         })
@@ -86,6 +90,7 @@ fn serve_next<S: Alter, P: Callers, C: Clock, N: Witness>(
           stage = record {
             given = C.given clock.new;
             kept = N.held witness.new;
+            has_failed = N.has_failed witness.new;
             store = room.new;
           };
         })

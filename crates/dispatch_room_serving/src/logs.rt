@@ -1,15 +1,14 @@
 //! A log of what is served: a line for each message.
-ghost use Rattle.std.specs.Prelude.{[], None};
+ghost use Rattle.std.specs.Prelude.{◌≡◌, [], None, false};
+ghost use Rattle.dispatch_room_serving.specs.Logged.{request_of};
+ghost use Rattle.dispatch_room_serving.specs.Logs.{asked_by};
 
+use crate::log_lines::{Asker, Line, Request, Visible, path_of, utc};
 use dispatch_room_journal::statuses::status_in;
-use jiff::Timestamp;
 use room_http::arrivals::Arrived;
 use room_http::witnesses::{Asked, Unkept, Witness};
-use room_types::asks::Who;
-use room_types::callsign::Callsign;
 use room_types::numbers::Moment;
 use std::alloc::Global;
-use std::fmt;
 use std::io::Write;
 use std::time::{Clock, Duration};
 
@@ -50,9 +49,13 @@ impl<'a, E: Write, T: Clock> Log<'a, E, T> {
     // Writes a line at once, and tells whether it could.
     fn put(&mut self, asked: &Asked<'_>, answer: &[u8]) -> bool {
         let line = Line {
-            asked,
-            status: status_in(answer),
-            took: self.now().saturating_sub(self.began),
+            at: utc(asked.at),
+            asker: Asker { who: asked.who },
+            request: request_of(asked.arrived),
+            status: Visible {
+                bytes: status_in(answer),
+            },
+            millis: self.now().saturating_sub(self.began).as_millis(),
         };
         match format!(in self.alloc; "{line}\n") {
             Ok(line) => self.out.write_all(line.as_bytes()).is_ok(),
@@ -61,8 +64,28 @@ impl<'a, E: Write, T: Clock> Log<'a, E, T> {
     }
 }
 
+// The method and the path of a message.
+fn request_of<'a>(arrived: &Arrived<'a>) -> Request<'a>
+    ensures { asked_by result ≡ request_of arrived.now }
+{
+    match arrived {
+        Arrived::Message { message, .. } => Request::Message {
+            method: Visible {
+                bytes: message.method,
+            },
+            path: Visible {
+                bytes: path_of(message.target),
+            },
+        },
+        Arrived::Refused { .. } => Request::Unread,
+    }
+}
+
 impl<'a, E: Write, T: Clock> Witness for Log<'a, E, T> {
     ghost held = { λ _. None };
+
+    // A log that can't be written is given up, and nobody is told.
+    ghost has_failed = { λ _. false };
 
     ghost came = { λ _ _. [] };
 
@@ -77,80 +100,9 @@ impl<'a, E: Write, T: Clock> Witness for Log<'a, E, T> {
         Ok(())
     }
 
-    // A log that can't be written is given up.
     fn answered(&mut self, asked: &Asked<'_>, answer: &[u8]) {
         if self.goes_on {
             self.goes_on = self.put(asked, answer);
         }
     }
-}
-
-// The line of a message.
-#[derive(Clone, Copy)]
-struct Line<'a> {
-    asked: &'a Asked<'a>,
-    status: &'a [u8],
-    took: Duration,
-}
-
-impl<'a> fmt::Display for Line<'a> {
-    fn fmt<W: fmt::Write>(&self, f: &mut fmt::Formatter<W>) -> fmt::Result {
-        put_moment(f, self.asked.at)?;
-        put_asker(f, &self.asked.who)?;
-        put_request(f, self.asked.arrived)?;
-        put_visible(f, self.status)?;
-        write!(f, " {} ms", self.took.as_millis())
-    }
-}
-
-fn put_moment<W: fmt::Write>(f: &mut fmt::Formatter<W>, at: Moment) -> fmt::Result {
-    match Timestamp::from_second(i64::from(at.get())) {
-        Ok(at) => write!(f, "{at} "),
-        Err(_) => f.write_str("- "),
-    }
-}
-
-fn put_asker<W: fmt::Write>(f: &mut fmt::Formatter<W>, who: &Option<Who>) -> fmt::Result {
-    match who {
-        Some(Who::Desk(division)) => write!(f, "desk {} ", division.get()),
-        Some(Who::Crew(callsign)) => put_crew(f, callsign),
-        Some(Who::Position(position)) => write!(f, "position {} ", position.get()),
-        None => f.write_str("none "),
-    }
-}
-
-fn put_crew<W: fmt::Write>(f: &mut fmt::Formatter<W>, callsign: &Callsign) -> fmt::Result {
-    f.write_str("crew ")?;
-    f.write_str(callsign.as_str())?;
-    f.write_str(" ")
-}
-
-// The method and the path, or that there is no message.
-fn put_request<W: fmt::Write>(f: &mut fmt::Formatter<W>, arrived: &Arrived<'_>) -> fmt::Result {
-    match arrived {
-        Arrived::Message { message, .. } => {
-            put_visible(f, message.method)?;
-            f.write_str(" ")?;
-            put_visible(f, path_of(message.target))?;
-            f.write_str(" ")
-        }
-        Arrived::Refused { .. } => f.write_str("- - "),
-    }
-}
-
-// A target up to its parameters.
-fn path_of(target: &[u8]) -> &[u8] {
-    match target.iter().position(|&byte| byte == b'?') {
-        Some(end) => &target[..end],
-        None => target,
-    }
-}
-
-// Writes what is visible in ASCII, and a question mark for each other byte.
-fn put_visible<W: fmt::Write>(f: &mut fmt::Formatter<W>, bytes: &[u8]) -> fmt::Result {
-    for &byte in bytes {
-        let shown = if byte.is_ascii_graphic() { byte } else { b'?' };
-        f.write_char(char::from(shown))?;
-    }
-    Ok(())
 }

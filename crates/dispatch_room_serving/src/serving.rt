@@ -1,5 +1,6 @@
 //! The room of a database, opened and served to those who call.
-ghost use Rattle.std.specs.Prelude.{◌≡◌, false, IfErr, IfOk, OnErr};
+ghost use Rattle.std.specs.Prelude.{◌≡◌, false, true, IfErr, IfOk, MatchResult, OnErr};
+ghost use Rattle.dispatch_room_endings.specs.declared.endings.Failure.TheVariants.{Journal};
 ghost use Rattle.room_store.specs.Keeping.{IsReady};
 ghost use Rattle.dispatch_room_opening.specs.Opened.{IsUnopened};
 ghost use Rattle.dispatch_room_serving.specs.Rooms.{Announces, Attends, ServesRoom};
@@ -39,6 +40,7 @@ pub fn serve_in<S: Alter + Drop, P: Callers, C: Clock, N: Watcher>(
           stage = record {
             given = C.given clock.old;
             kept = N.held watcher.old;
+            has_failed = N.has_failed watcher.old;
             store = store;
           };
         })
@@ -48,6 +50,7 @@ pub fn serve_in<S: Alter + Drop, P: Callers, C: Clock, N: Watcher>(
           stage = record {
             given = C.given clock.new;
             kept = N.held watcher.new;
+            has_failed = N.has_failed watcher.new;
             store = store;
           };
         })
@@ -87,6 +90,7 @@ fn begin_and_serve<S: Alter, P: Callers, C: Clock, N: Watcher>(
           stage = record {
             given = C.given clock.old;
             kept = N.held watcher.old;
+            has_failed = N.has_failed watcher.old;
             store = room.old;
           };
         })
@@ -96,6 +100,7 @@ fn begin_and_serve<S: Alter, P: Callers, C: Clock, N: Watcher>(
           stage = record {
             given = C.given clock.new;
             kept = N.held watcher.new;
+            has_failed = N.has_failed watcher.new;
             store = room.new;
           };
         })
@@ -116,6 +121,9 @@ fn announce<S: Alter, N: Watcher>(room: &mut Store<S>, watcher: &mut N) -> Resul
     ensures ready { IsReady S.Store room.new }
     ensures announces { Announces S.Store (N.wants watcher.old) N.begun room.old room.new
         (N.held watcher.old) (N.held watcher.new) result }
+    ensures failed { MatchResult result
+        (λ _. N.has_failed watcher.new ≡ N.has_failed watcher.old)
+        (λ fault. fault ≡ Journal → N.has_failed watcher.new ≡ true) }
 {
     if !watcher.wants_digest() {
         return Ok(());

@@ -1,5 +1,5 @@
 //! Who watches over a room that is served.
-ghost use Rattle.std.specs.Prelude.{◌≡◌, ℕ, List, Bool};
+ghost use Rattle.std.specs.Prelude.{◌≡◌, ◌||◌, ℕ, List, Bool, is_err};
 ghost use Rattle.room_http.specs.Kept.{KeepsAll};
 ghost use Rattle.dispatch_room_journal.specs.Entries.{IsDigest};
 
@@ -21,5 +21,6 @@ pub trait Watcher: Witness {
     /// The room has this digest, in digits, as serving begins.
     fn begins(&mut self, digest: &[u8; DIGEST_DIGITS]) -> Result<(), Unkept>
         requires { IsDigest digest.now }
-        ensures { KeepsAll (Self.held self.old) (Self.held self.new) (begun digest.now) result };
+        ensures kept { KeepsAll (Self.held self.old) (Self.held self.new) (begun digest.now) result }
+        ensures failed { Self.has_failed self.new ≡ (Self.has_failed self.old || is_err result) };
 }

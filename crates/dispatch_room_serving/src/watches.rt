@@ -1,7 +1,7 @@
 //! Who watches over what is served: a log, and perhaps a journal.
 ghost use Rattle.std.specs.Prelude.{◌≡◌, is_some};
 ghost use Rattle.dispatch_room_journal.specs.Records.{answer_text, message_text, room_text};
-ghost use Rattle.dispatch_room_serving.specs.Journals.{held_by};
+ghost use Rattle.dispatch_room_serving.specs.Journals.{failed_by, held_by};
 
 use crate::journals::{Journal, Synced};
 use crate::logs::Log;
@@ -31,6 +31,8 @@ impl<'a, E: Write, T: Clock, W: Synced> Watch<'a, E, T, W> {
 
 impl<'a, E: Write, T: Clock, W: Synced> Witness for Watch<'a, E, T, W> {
     ghost held = { λ watch. held_by W.held watch.journal };
+
+    ghost has_failed = { λ watch. failed_by watch.journal };
 
     ghost came = { message_text };
 

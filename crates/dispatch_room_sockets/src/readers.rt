@@ -1,6 +1,8 @@
 //! A socket that is read from.
-ghost use Rattle.std.specs.Prelude.{◌≡◌, ◌↔◌, IsTrue, false};
-ghost use Rattle.room_http_messages.specs.Streams.{known_count};
+ghost use Rattle.std.specs.Prelude.{◌≡◌, ◌≤◌, ◌-◌, ◌+◌, ◌↔◌, IfOk, IfSome, IsTrue, false, is_err, min, if◌then◌else◌, length, ◌==◌, ◌||◌};
+ghost use Rattle.std.specs.Io.KnownBytes.{ReadConsumes};
+ghost use Rattle.room_http_messages.specs.Streams.{found_end, known_count, CountsBy};
+ghost use Rattle.room_http_messages.specs.declared.limits.TheConstants.{INBOX_ROOM};
 ghost use Rattle.dispatch_room_sockets.specs.Thrown.{ThrowsAway};
 
 use crate::paces::Pace;
@@ -59,7 +61,10 @@ impl<'a, T: Read + OpenStream, C: Clock> SocketReader<'a, T, C> {
 
 // Until when a read may wait that has so much room: none where the turn is over, or where the clock
 // can't be read.
-fn moment<C: Clock>(pace: &mut Pace, clock: &C, room: usize) -> Option<Duration> {
+fn moment<C: Clock>(pace: &mut Pace, clock: &C, room: usize) -> Option<Duration>
+    ensures here { IfSome result (λ _. pace.new.here ≡ INBOX_ROOM - room) }
+    ensures kept { (pace.new.waits ≡ pace.old.waits) × (pace.new.ends ≡ pace.old.ends) }
+{
     match clock.monotonic() {
         Ok(now) => pace.next(room, now),
         Err(_) => None,
@@ -75,30 +80,55 @@ impl<'a, T: Read + OpenStream, C: Clock> Source for SocketReader<'a, T, C> {
 
     ghost has_ended = { λ r. r.ended };
 
-    fn read(&mut self, buf: &mut [u8]) -> Result<usize, ReadFailed> {
+    // Beside what each source ensures: the pace knows how much of a message is there.
+    fn read(&mut self, buf: &mut [u8]) -> Result<usize, ReadFailed>
+        ensures bound { IfOk result (λ n. n ≤ length buf.new) }
+        ensures bytes { ReadConsumes (T.remaining self.old.stream) (T.remaining self.new.stream)
+            result buf.new }
+        ensures count { CountsBy 1 (known_count self.old.reads) (known_count self.new.reads) }
+        ensures failed { self.new.failed ≡ (self.old.failed || is_err result) }
+        ensures ended { self.new.ended ≡
+            (self.old.ended || found_end result (length buf.new)) }
+        ensures paced { IfOk result (λ n. let here = INBOX_ROOM - length buf.new in
+            self.new.pace.here ≡ (if here == 0 then 0 else min (here + n) usize.MAX)) }
+    {
         self.reads = self.reads.saturating_add(1);
         let Some(moment) = moment(&mut self.pace, self.clock, buf.len()) else {
             self.failed = true;
             return Err(ReadFailed);
         };
-        match read_until(&mut self.stream, self.clock, &mut self.told, moment, buf) {
-            Ok(count) => {
-                self.pace.gave(count);
-                if count == 0 && !buf.is_empty() {
-                    self.ended = true;
-                }
-                Ok(count)
-            }
-            Err(failed) => {
-                self.failed = true;
-                self.lost = true;
-                Err(failed)
-            }
-        }
+        let given = read_until(&mut self.stream, self.clock, &mut self.told, moment, buf);
+        self.note(given, buf.len());
+        given
     }
 }
 
 impl<'a, T: Read + OpenStream, C: Clock> SocketReader<'a, T, C> {
+    // Notes what a read gave that was made and had so much room: how much of a message is there
+    // then, whether the peer has ended, and whether it is lost.
+    fn note(&mut self, given: Result<usize, ReadFailed>, room: usize)
+        ensures paced { IfOk given (λ n. self.new.pace ≡ record self.old.pace {
+          here = if self.old.pace.here == 0 then 0 else min (self.old.pace.here + n) usize.MAX;
+        }) }
+        ensures lost { self.new.lost ≡ (self.old.lost || is_err given) }
+        ensures failed { self.new.failed ≡ (self.old.failed || is_err given) }
+        ensures ended { self.new.ended ≡ (self.old.ended || found_end given room) }
+        ensures kept { (self.new.stream ≡ self.old.stream) × (self.new.reads ≡ self.old.reads) }
+    {
+        match given {
+            Ok(count) => {
+                self.pace.gave(count);
+                if count == 0 && room != 0 {
+                    self.ended = true;
+                }
+            }
+            Err(_) => {
+                self.failed = true;
+                self.lost = true;
+            }
+        }
+    }
+
     /// Whether the peer may still send: no read has failed or found the end.
     pub(crate) fn is_open(&self) -> bool
         ensures { IsTrue result ↔ ((self.now.lost ≡ false) × (self.now.ended ≡ false)) }

@@ -1,5 +1,6 @@
 //! A read or a write of a socket, which a signal may interrupt: then it is tried again.
-ghost use Rattle.std.specs.Prelude.{◌≤◌, IfOk, length};
+ghost use Rattle.std.specs.Prelude.{◌<◌, ◌≤◌, IfOk, IsSomeAnd, OnOk, length};
+ghost use Rattle.std.specs.Duration.{as_nanos};
 ghost use Rattle.std.specs.Io.KnownBytes.{ReadConsumes, WriteAppends};
 
 use crate::waits::time_until;
@@ -23,16 +24,19 @@ pub(crate) fn read_until<T: Read + OpenStream, C: Clock>(
 ) -> Result<usize, ReadFailed>
     ensures bound { IfOk result (λ n. n ≤ length buf.new) }
     ensures bytes { ReadConsumes (T.remaining stream.old) (T.remaining stream.new) result buf.new }
+    ensures waits { OnOk result (IsSomeAnd told.new (λ left. (0 < as_nanos left)
+        × (as_nanos left ≤ as_nanos moment))) }
 {
     for _try in 0..MOST_TRIES {
         let Some(left) = time_until(clock, moment) else {
             return Err(ReadFailed);
         };
-        if *told != Some(left) {
-            if stream.set_read_timeout(Some(left)).is_err() {
+        let wait = Some(left);
+        if *told != wait {
+            if stream.set_read_timeout(wait).is_err() {
                 return Err(ReadFailed);
             }
-            *told = Some(left);
+            *told = wait;
         }
         match stream.read(buf) {
             Ok(count) => return Ok(count),
@@ -54,16 +58,19 @@ pub(crate) fn write_until<T: Write + OpenStream, C: Clock>(
 ) -> Result<usize, WriteFailed>
     ensures bound { IfOk result (λ n. n ≤ length buf.now) }
     ensures bytes { WriteAppends (T.contents stream.old) (T.contents stream.new) result buf.now }
+    ensures waits { OnOk result (IsSomeAnd told.new (λ left. (0 < as_nanos left)
+        × (as_nanos left ≤ as_nanos moment))) }
 {
     for _try in 0..MOST_TRIES {
         let Some(left) = time_until(clock, moment) else {
             return Err(WriteFailed);
         };
-        if *told != Some(left) {
-            if stream.set_write_timeout(Some(left)).is_err() {
+        let wait = Some(left);
+        if *told != wait {
+            if stream.set_write_timeout(wait).is_err() {
                 return Err(WriteFailed);
             }
-            *told = Some(left);
+            *told = wait;
         }
         match stream.write(buf) {
             Ok(count) => return Ok(count),

@@ -1,5 +1,5 @@
 //! How long a connection is waited for.
-ghost use Rattle.std.specs.Prelude.{◌≡◌, ◌+◌, ◌*◌, ◌/◌, ◌<◌, ◌≤◌, IfSome, min};
+ghost use Rattle.std.specs.Prelude.{◌≡◌, ◌+◌, ◌-◌, ◌*◌, ◌/◌, ◌<◌, ◌≤◌, None, IfSome, IsSome, min};
 ghost use Rattle.std.specs.Duration.{as_nanos, max_nanos};
 
 use std::time::{Clock, Duration};
@@ -45,7 +45,21 @@ pub(crate) fn earlier(one: Duration, other: Duration) -> Duration
 pub(crate) fn time_until<C: Clock>(clock: &C, moment: Duration) -> Option<Duration>
     ensures { IfSome result (λ left. (0 < as_nanos left) × (as_nanos left ≤ as_nanos moment)) }
 {
-    let now = clock.monotonic().ok()?;
+    left_until(clock.monotonic().ok()?, moment)
+}
+
+// How long it is from now until a moment, in whole milliseconds where it is one at least: none
+// where the moment has come.
+fn left_until(now: Duration, moment: Duration) -> Option<Duration>
+    ensures come { as_nanos moment ≤ as_nanos now → result ≡ None }
+    ensures waits { as_nanos now < as_nanos moment → IsSome result }
+    ensures left { IfSome result (λ left. (0 < as_nanos left)
+        × (as_nanos left ≤ as_nanos moment - as_nanos now)) }
+    ensures whole { 1_000_000 ≤ as_nanos moment - as_nanos now → IfSome result (λ left.
+        as_nanos left ≡ (as_nanos moment - as_nanos now) / 1_000_000 * 1_000_000) }
+    ensures short { as_nanos moment - as_nanos now < 1_000_000 → IfSome result (λ left.
+        as_nanos left ≡ as_nanos moment - as_nanos now) }
+{
     let left = moment.saturating_sub(now);
     if left.is_zero() {
         None

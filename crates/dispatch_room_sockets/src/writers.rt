@@ -1,6 +1,8 @@
 //! A socket that is written to.
-ghost use Rattle.std.specs.Prelude.{◌≡◌, ◌≤◌, IfSome, None, if◌then◌else◌, true, false};
+ghost use Rattle.std.specs.Prelude.{◌≡◌, ◌≤◌, IfOk, IfSome, IsSome, None, OnOk, Some, if◌then◌else◌, length, nat_lt, true, false, ◌||◌};
 ghost use Rattle.std.specs.Duration.{as_nanos};
+ghost use Rattle.std.specs.Io.KnownBytes.{WriteAppends};
+ghost use Rattle.room_http_messages.specs.Streams.{took_none};
 
 use crate::tries::write_until;
 use crate::waits::earlier;
@@ -53,19 +55,41 @@ impl<'a, T: Write + OpenStream, C: Clock> SocketWriter<'a, T, C> {
         }
     }
 
-    // Until when a write may wait: as long as the one before it, where that left a part of its
-    // answer. None where the clock can't be read.
-    fn moment(&self) -> Option<Duration>
-        ensures goes_on { self.now.within ≡ true → result ≡ self.now.until }
-        ensures begins { self.now.within ≡ false
-            → IfSome result (λ moment. as_nanos moment ≤ as_nanos self.now.last) }
+    // Until when a write may wait, which is noted: as long as the one before it, where that left a
+    // part of its answer. None where the clock can't be read.
+    fn begin(&mut self) -> Option<Duration>
+        ensures goes_on { self.old.within ≡ true → result ≡ self.old.until }
+        ensures begins { self.old.within ≡ false
+            → IfSome result (λ moment. as_nanos moment ≤ as_nanos self.old.last) }
+        ensures noted { IfSome result (λ moment. self.new.until ≡ Some moment) }
+        ensures kept { (self.new.stream ≡ self.old.stream) × (self.new.failed ≡ self.old.failed)
+            × (self.new.within ≡ self.old.within) × (self.new.patience ≡ self.old.patience)
+            × (self.new.last ≡ self.old.last) }
     {
         if self.within {
             return self.until;
         }
-        match self.clock.monotonic() {
-            Ok(now) => Some(earlier(now.saturating_add(self.patience), self.last)),
-            Err(_) => None,
+        let now = self.clock.monotonic().ok()?;
+        self.until = Some(earlier(now.saturating_add(self.patience), self.last));
+        self.until
+    }
+
+    // Notes what a write took of so many bytes: whether it left a part of its answer, and whether
+    // it failed.
+    fn note(&mut self, taken: Result<usize, WriteFailed>, size: usize)
+        ensures within { IfOk taken (λ n. self.new.within ≡ nat_lt n size) }
+        ensures failed { self.new.failed ≡ (self.old.failed || took_none taken size) }
+        ensures kept { (self.new.stream ≡ self.old.stream) × (self.new.until ≡ self.old.until)
+            × (self.new.patience ≡ self.old.patience) × (self.new.last ≡ self.old.last) }
+    {
+        match taken {
+            Ok(count) => {
+                self.within = count < size;
+                if count == 0 && size != 0 {
+                    self.failed = true;
+                }
+            }
+            Err(_) => self.failed = true,
         }
     }
 
@@ -88,24 +112,23 @@ impl<'a, T: Write + OpenStream, C: Clock> Sink for SocketWriter<'a, T, C> {
 
     ghost has_failed = { λ w. w.failed };
 
-    fn write(&mut self, buf: &[u8]) -> Result<usize, WriteFailed> {
-        let Some(moment) = self.moment() else {
+    // Beside what each sink ensures: whether some of its answer is left, and until when it waits.
+    fn write(&mut self, buf: &[u8]) -> Result<usize, WriteFailed>
+        ensures bound { IfOk result (λ n. n ≤ length buf.now) }
+        ensures bytes { WriteAppends (T.contents self.old.stream) (T.contents self.new.stream)
+            result buf.now }
+        ensures failed { self.new.failed ≡
+            (self.old.failed || took_none result (length buf.now)) }
+        ensures within { IfOk result (λ n. self.new.within ≡ nat_lt n (length buf.now)) }
+        ensures goes_on { self.old.within ≡ true → OnOk result (self.new.until ≡ self.old.until) }
+        ensures noted { OnOk result (IsSome self.new.until) }
+    {
+        let Some(moment) = self.begin() else {
             self.failed = true;
             return Err(WriteFailed);
         };
-        self.until = Some(moment);
-        match write_until(&mut self.stream, self.clock, &mut self.told, moment, buf) {
-            Ok(count) => {
-                self.within = count < buf.len();
-                if count == 0 && !buf.is_empty() {
-                    self.failed = true;
-                }
-                Ok(count)
-            }
-            Err(failed) => {
-                self.failed = true;
-                Err(failed)
-            }
-        }
+        let taken = write_until(&mut self.stream, self.clock, &mut self.told, moment, buf);
+        self.note(taken, buf.len());
+        taken
     }
 }

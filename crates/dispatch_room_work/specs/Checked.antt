@@ -7,7 +7,7 @@ use Rattle.sqlite.specs.State.{HasCleanDisk}
 use Rattle.sqlite_trees.specs.declared.store.Store.{Ghosts}
 use Rattle.room_place.specs.Plans.{Layout}
 use Rattle.room_store_check.specs.declared.summaries.Summary.{Summary}
-use Rattle.room_store_examining.specs.Examined.{Explains, IsSummaryOf}
+use Rattle.room_store_examining.specs.Examined.{ExplainsFile, IsSummaryOf}
 use Rattle.room_store_examining.specs.declared.examining.Wrong.{Wrong}
 use Rattle.room_store_examining.specs.declared.examining.Wrong.TheVariants as wrong
 use Rattle.dispatch_room_endings.specs.declared.endings.Done.{Done}
@@ -70,7 +70,7 @@ pub record HasFault {S : Type 0} (g : Ghosts S) (old new : Held S)
     (failure : Failure) : Type 0 where
   pub wrong : Wrong
   pub told : failure ≡ failure_of wrong
-  pub explains : HasCleanDisk (state g new) → Explains (state g old).now wrong
+  pub explains : HasCleanDisk (state g new) → ExplainsFile (state g old) (state g new) wrong
 
 -- or it holds a room whose days can't be reckoned
 pub record HasNoRule {S : Type 0} (g : Ghosts S) (old new : Held S)

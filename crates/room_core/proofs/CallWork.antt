@@ -10,7 +10,7 @@ use Rattle.room_types.specs.declared.asks.CallForm.{CallForm}
 use Rattle.room_types.specs.declared.asks.NewCall.{NewCall}
 use Rattle.room_types.specs.declared.tables.Call.{Call}
 use Rattle.room_incident.proofs.CallLaws.{taken_in}
-use Rattle.room_model.proofs.CallsApart.{call_by_share, call_by_working}
+use Rattle.room_model.proofs.CallsApart.{call_by_share, call_by_working, call_equal}
 use Rattle.room_model.specs.Calls.{call_in, new_call, take_call}
 use Rattle.room_model.specs.Queries.{kept_call}
 use Rattle.room_model.specs.Room.{Room}
@@ -51,3 +51,11 @@ pub told_by : (d : ℕ) (new : NewCall) (r : Room) (f : CallForm) (rows : Room) 
     → take_call new r ≡ call_in d new rows
 told_by d new r f rows formed same none placed read =
     ap (λ n. take_call n r) same ∙ by_read d new.position f new.at r formed none placed rows read ∙ ap (λ n. call_in d n rows) (sym same)
+
+-- and in another room with an equal share it is decided alike
+pub told_apart : (d : ℕ) (new : NewCall) (r other : Room) (f : CallForm) → IsWellFormed r
+    → IsWellFormed other → new ≡ new_call new.position f new.at → own d r ≡ own d other
+    → kept_call new.position f.serial r ≡ None → kept_call new.position f.serial other ≡ None
+    → division_of r.plan f.place ≡ Some d → take_call new r ≡ take_call new other
+told_apart d new r other f formed good same shares none nor placed =
+    ap (λ n. take_call n r) same ∙ call_equal d new.position f new.at r other formed good shares none nor placed ∙ sym (ap (λ n. take_call n other) same)

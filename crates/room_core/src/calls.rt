@@ -10,6 +10,7 @@ ghost use Rattle.room_model.specs.Calls.{new_call, same_call, take_call};
 ghost use Rattle.room_model.specs.Decisions.{refuse_if, show};
 ghost use Rattle.room_model.specs.Queries.{kept_call};
 ghost use Rattle.room_model.specs.Room.{Room};
+ghost use Rattle.room_model.specs.Shares.{own};
 ghost use Rattle.room_model.specs.Slices.{room_of};
 ghost use Rattle.room_model.specs.WellFormed.{IsWellFormed};
 ghost use Rattle.room_core.specs.Deciding.{AreRead, Decides};
@@ -28,12 +29,22 @@ use std::alloc::Global;
 /// Where the slice's rows are those that the call reads, or the division's whole share, the
 /// decision is the room's, in every well-formed room.
 pub fn decide_call(alloc: Global, slice: &Slice, new: &NewCall) -> Result<Decision, Refusal>
-    ensures { (r : Room) (f : CallForm) → IsWellFormed r
+    ensures decides { (r : Room) (f : CallForm) → IsWellFormed r
         → new.now ≡ new_call new.now.position f new.now.at
         → kept_call new.now.position f.serial r ≡ None
         → division_of r.plan f.place ≡ Some slice.now.division
         → AreRead slice.now.division (CallAsk f) new.now.at (room_of r.plan slice.now.rows) r
         → Decides (take_call new.now r) result }
+    // In every other room that has not kept it either, and where the division has the same rows, it
+    // is that room's too.
+    ensures apart { (r other : Room) (f : CallForm) → IsWellFormed r
+        → new.now ≡ new_call new.now.position f new.now.at
+        → kept_call new.now.position f.serial r ≡ None
+        → division_of r.plan f.place ≡ Some slice.now.division
+        → AreRead slice.now.division (CallAsk f) new.now.at (room_of r.plan slice.now.rows) r
+        → IsWellFormed other → kept_call new.now.position f.serial other ≡ None
+        → own slice.now.division r ≡ own slice.now.division other
+        → Decides (take_call new.now other) result }
 {
     match take_call(slice, new) {
         Ok(taken) => put(alloc, &taken),

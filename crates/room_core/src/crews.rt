@@ -2,7 +2,8 @@
 ghost use Rattle.std.specs.Prelude.{◌≡◌, None, Ok, Some, IfOk, IfErr};
 ghost use Rattle.room_types.specs.declared.refusals.Refusal.TheVariants.{Memory};
 ghost use Rattle.room_model.specs.Queries.{kept_report};
-ghost use Rattle.room_model.specs.Room.{Room};
+ghost use Rattle.room_model.specs.Room.{IsInOrder, Room};
+ghost use Rattle.room_model.specs.Shares.{mine};
 ghost use Rattle.room_model.specs.Slices.{AreCrewRows};
 ghost use Rattle.room_model.specs.WellFormed.{IsWellFormed};
 ghost use Rattle.room_model.specs.Reports.{order_of, take_report};
@@ -53,10 +54,17 @@ pub fn decide_report(
     press: &Press,
     at: Moment,
 ) -> Result<Decision, Refusal>
-    ensures { (r : Room) → IsWellFormed r
+    ensures decides { (r : Room) → IsWellFormed r
         → AreCrewRows slice.now.rows.vehicle.callsign r slice.now.rows
         → kept_report slice.now.rows.vehicle.callsign press.now.number r ≡ None
         → Decides (take_report slice.now.rows.vehicle.callsign press.now at r) result }
+    // In every other room where the vehicle has the same rows, it is that room's too.
+    ensures apart { (r other : Room) → IsWellFormed r
+        → AreCrewRows slice.now.rows.vehicle.callsign r slice.now.rows
+        → kept_report slice.now.rows.vehicle.callsign press.now.number r ≡ None
+        → IsInOrder other
+        → mine slice.now.rows.vehicle.callsign r ≡ mine slice.now.rows.vehicle.callsign other
+        → Decides (take_report slice.now.rows.vehicle.callsign press.now at other) result }
 {
     let reported = report(slice, press, at);
     let kept = &reported.report;

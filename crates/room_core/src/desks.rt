@@ -1,6 +1,7 @@
 //! What a desk asks, decided on its division's rows.
 ghost use Rattle.std.specs.Prelude.{◌≡◌};
-ghost use Rattle.room_model.specs.Room.{Room};
+ghost use Rattle.room_model.specs.Room.{IsInOrder, Room};
+ghost use Rattle.room_model.specs.Shares.{own};
 ghost use Rattle.room_model.specs.Slices.{room_of};
 ghost use Rattle.room_model.specs.Step.{desk_asks};
 ghost use Rattle.room_model.specs.WellFormed.{IsWellFormed};
@@ -25,9 +26,14 @@ pub fn decide_desk(
     ask: &Ask,
     at: Moment,
 ) -> Result<Decision, Refusal>
-    ensures { (r : Room) → IsWellFormed r → r.plan ≡ plan.now.areas
+    ensures decides { (r : Room) → IsWellFormed r → r.plan ≡ plan.now.areas
         → AreRead slice.now.division ask.now at (room_of r.plan slice.now.rows) r
         → Decides (desk_asks slice.now.division ask.now at r) result }
+    // In every other room where the division has the same rows, it is that room's too.
+    ensures apart { (r other : Room) → IsWellFormed r → r.plan ≡ plan.now.areas
+        → AreRead slice.now.division ask.now at (room_of r.plan slice.now.rows) r
+        → IsInOrder other → own slice.now.division r ≡ own slice.now.division other
+        → Decides (desk_asks slice.now.division ask.now at other) result }
 {
     decide(alloc, plan, slice, ask, at)
 }

@@ -1,5 +1,5 @@
 -- Lemmas on what a witness keeps.
-use Rattle.std.proofs.Common.{◌≡◌, ◌∙◌, ◌≤◌, ap, sym, refl, inl, inr, ℕ, List, [], ◌∷◌, ◌++◌, map, append-nil, append_assoc, Bool, false, Option, Some, Result, Ok, Err, All}
+use Rattle.std.proofs.Common.{◌≡◌, ◌∙◌, ◌≤◌, ap, sym, refl, inl, inr, ℕ, List, [], ◌∷◌, ◌++◌, map, append-nil, append_assoc, Bool, false, Option, Some, None, Result, Ok, Err, All}
 use Rattle.std.proofs.lemmas.List.{map-append}
 use Rattle.std.proofs.lemmas.List.Elements.{All-nil, All-push}
 use Rattle.std.proofs.lemmas.List.Folds.{concat-append}
@@ -17,11 +17,12 @@ use Rattle.room_service.specs.Rooms.{IsWant, Step}
 use Rattle.room_http.specs.declared.arrivals.Arrived.{Arrived}
 use Rattle.room_http.specs.declared.arrivals.Arrived.TheVariants.{Message, Refused}
 use Rattle.room_http.specs.declared.serving.ServeEnd.{ServeEnd}
-use Rattle.room_http.specs.declared.serving.ServeEnd.TheVariants.{Closed, WriteFault, ClockFault, Unkept}
+use Rattle.room_http.specs.declared.serving.ServeEnd.TheVariants.{Closed, Cut, ReadFault, WriteFault, ClockFault, Unkept, ReadsSpent, Memory}
 use Rattle.room_http.specs.Arrivals.{Arrival, message, refused, is_closing, is_head_only, Begins, HasNext, IsShown}
 use Rattle.room_http.specs.Kept.{Acts, ActsOnEach, AreKept, AreReplies, DoesNothing, Grow, IsBegun, IsCome, IsRecord, KeepsEach, KeepsOne, Tapes, Unmoved, answer_kept, came_of, told_of}
 use Rattle.room_http.specs.Talk.{Timed, IsFront, IsReplyTo}
-use Rattle.room_http.proofs.ServeLemmas.{still_begins}
+use Rattle.room_http.specs.Course.{Course}
+use Rattle.room_http.proofs.ServeLemmas.{last_of, still_begins}
 use Rattle.room_http.proofs.StreamLemmas.{Passes, Begins-push}
 
 -- ---- one arrival
@@ -69,7 +70,7 @@ module _ (came : ℕ → List ℕ → List ℕ) (told : List ℕ → List ℕ) w
     abbrev Here : Option (List ℕ) → Option (List ℕ) → Option (List ℕ) → Option (List ℕ)
         → Result (Unit {0}) ServeEnd → Type 0
     Here kept keeps held holds =
-        KeepsOne came told unmoved moved (record { given = given; kept = kept; held = held }) (record { given = gives; kept = keeps; held = holds }) o
+        KeepsOne came told unmoved moved (record { given = given; kept = kept; held = held }) (record { given = gives; kept = keeps; held = holds }) at o
 
     is_record : (answer : List ℕ) → IsRecord came told (o, at) answer
         (coming ++ told_of told arrived answer)
@@ -80,7 +81,6 @@ module _ (came : ℕ → List ℕ → List ℕ) (told : List ℕ → List ℕ) w
         → ((front : List ℕ) × IsFront front coming × Appends kept keeps front)
         → Here kept keeps held held (Err Unkept)
     kept_none kept keeps held still cut = (
-      at,
       cut.0,
       [],
       inl (still, inl (coming, come arrived o at within shown, cut.1, refl)),
@@ -93,7 +93,6 @@ module _ (came : ℕ → List ℕ → List ℕ) (told : List ℕ → List ℕ) w
         → IsFront wrote (fixed_bytes r (is_head_only o)) → Appends held holds wrote
         → Here kept last held holds (Err Closed)
     kept_want kept comes last held holds r wrote still want first same front written = (
-      at,
       coming,
       wrote,
       inl (still, inr (come arrived o at within shown, (r, want, front))),
@@ -111,7 +110,6 @@ module _ (came : ℕ → List ℕ → List ℕ) (told : List ℕ → List ℕ) w
           × Appends comes keeps front)
           → Here kept keeps held held (Err Unkept)
       kept_part kept comes keeps held first cut = (
-        at,
         coming ++ cut.0,
         [],
         inr (answer, acted, inl (coming, cut.0, come arrived o at within shown, (cut.1.0, sym (answer_is arrived o answer shown) ∙ cut.1.1), refl, refl)),
@@ -128,7 +126,6 @@ module _ (came : ℕ → List ℕ → List ℕ) (told : List ℕ → List ℕ) w
           → last ≡ keeps
           → Appends held holds answer → Here kept last held holds (Ok tt)
       kept_all kept comes keeps last held holds first second same wrote = (
-        at,
         answer,
         coming ++ told_of told arrived answer,
         acted,
@@ -148,7 +145,6 @@ module _ (came : ℕ → List ℕ → List ℕ) (told : List ℕ → List ℕ) w
           → IsFront wrote answer → Appends held holds wrote
           → Here kept last held holds (Err WriteFault)
       kept_cut kept comes keeps last held holds wrote first second same front written = (
-        at,
         coming ++ told_of told arrived answer,
         wrote,
         inr (answer, acted, inr (is_record answer, front)),
@@ -180,8 +176,8 @@ module _ (came : ℕ → List ℕ → List ℕ) (told : List ℕ → List ℕ) w
   -- each was kept
   pub record Noted (step : Step) (zone : Zone) (left : Option (List ℕ)) (old : Tapes)
       (remains : Option (List ℕ)) (new : Tapes) (trusted : Type 0)
-      (stood stands : List Terminal → Room → Type 0) (outs : List Timed) : Type 0 where
-    pub answers : List (List ℕ)
+      (stood stands : List Terminal → Room → Type 0) (outs : List Timed)
+      (answers : List (List ℕ)) : Type 0 where
     pub text : List ℕ
     pub begins : (stream : List ℕ) → left ≡ Some stream
         → (rest : List ℕ) × (remains ≡ Some rest) × Begins stream (map (λ x. x.0) outs) rest
@@ -192,9 +188,8 @@ module _ (came : ℕ → List ℕ → List ℕ) (told : List ℕ → List ℕ) w
 
   module _ (step : Step) (zone : Zone) (left : Option (List ℕ)) (old : Tapes) where
     pub Noted-none : (trusted : Type 0) (stood : List Terminal → Room → Type 0)
-        → Noted step zone left old left old trusted stood stood []
+        → Noted step zone left old left old trusted stood stood [] []
     Noted-none trusted stood = record {
-      answers = [];
       text = [];
       begins = λ stream known. (stream, known, refl);
       stay = All-nil (λ (x : Timed). is_closing x.0 ≡ false);
@@ -206,10 +201,10 @@ module _ (came : ℕ → List ℕ → List ℕ) (told : List ℕ → List ℕ) w
     -- the bytes that are left come from the reader to the inbox
     pub Noted-kept : (remains after : Option (List ℕ)) (new : Tapes) (trusted : Type 0)
         (stood stands : List Terminal → Room → Type 0) (outs : List Timed)
-        → Noted step zone left old remains new trusted stood stands outs → Keeps remains after
-        → Noted step zone left old after new trusted stood stands outs
-    Noted-kept remains after new trusted stood stands outs before same = record {
-      answers = before.answers;
+        (answers : List (List ℕ))
+        → Noted step zone left old remains new trusted stood stands outs answers → Keeps remains after
+        → Noted step zone left old after new trusted stood stands outs answers
+    Noted-kept remains after new trusted stood stands outs answers before same = record {
       text = before.text;
       begins = λ stream known. still_begins stream outs remains after (before.begins stream known) same;
       stay = before.stay;
@@ -221,46 +216,49 @@ module _ (came : ℕ → List ℕ → List ℕ) (told : List ℕ → List ℕ) w
     -- serving ended between arrivals
     pub Noted-ends : (remains : Option (List ℕ)) (new : Tapes) (trusted : Type 0)
         (stood stands : List Terminal → Room → Type 0) (outs : List Timed)
-        → Noted step zone left old remains new trusted stood stands outs
+        (answers : List (List ℕ))
+        → Noted step zone left old remains new trusted stood stands outs answers
         → KeepsEach came told (ActsOnEach step zone trusted stood stands) left old new
-    Noted-ends remains new trusted stood stands outs before = record {
-      outs = outs;
-      answers = before.answers;
+        (record { outs = outs; answers = answers; last = None })
+    Noted-ends remains new trusted stood stands outs answers before = record {
       text = before.text;
       kept = before.kept;
-      ends = inl (before.moved, (λ stream known. let begins = before.begins stream known in (begins.0, begins.2, tt)), ([], inl refl, rw append-nil before.grew));
+      ends = inl (refl, before.moved, (λ stream known. let begins = before.begins stream known in (begins.0, begins.2, tt)), ([], inl refl, rw append-nil before.grew));
     }
 
     -- one more arrival
     module _ (early_left remains : Option (List ℕ)) (mid : Tapes) (early late : Type 0)
         (stood stays stands : List Terminal → Room → Type 0) (earlier : late → early)
-        (outs : List Timed)
-        (noted : Noted step zone left old early_left mid early stood stays outs) (same : Keeps early_left remains) (new : Tapes) (after : Option (List ℕ)) (o : Arrival) (pass : Passes remains after o) where
-      before : Noted step zone left old remains mid early stood stays outs
-      before = Noted-kept early_left remains mid early stood stays outs noted same
+        (outs : List Timed) (answers : List (List ℕ))
+        (noted : Noted step zone left old early_left mid early stood stays outs answers) (same : Keeps early_left remains) (new : Tapes) (after : Option (List ℕ)) (o : Arrival) (pass : Passes remains after o) (at : ℕ) where
+      before : Noted step zone left old remains mid early stood stays outs answers
+      before = Noted-kept early_left remains mid early stood stays outs answers noted same
+
+      abbrev Course-to : ServeEnd → Course
+      Course-to e = record { outs = outs; answers = answers; last = last_of e (o, at) }
 
       abbrev Now : List Timed → List (List ℕ) → Type 0
       Now = ActsOnEach step zone late stood stands
 
       abbrev One : Result (Unit {0}) ServeEnd → Type 0
-      One = KeepsOne came told (Unmoved late stays stands) (Acts step zone late stays stands) mid new o
+      One = KeepsOne came told (Unmoved late stays stands) (Acts step zone late stays stands) mid new at o
 
-      same_moves : Unmoved late stays stands → Now outs before.answers
+      same_moves : Unmoved late stays stands → Now outs answers
       same_moves still trust terminals room standing =
           let first = before.moved (earlier trust) terminals room standing in
           (first.0, first.1, still trust terminals first.0 first.2)
 
-      one_moves : (at : ℕ) (answer : List ℕ) → Acts step zone late stays stands (o, at) answer
-          → Now (outs ++ (o, at) ∷ []) (before.answers ++ answer ∷ [])
-      one_moves at answer acts trust terminals room standing =
+      one_moves : (answer : List ℕ) → Acts step zone late stays stands (o, at) answer
+          → Now (outs ++ (o, at) ∷ []) (answers ++ answer ∷ [])
+      one_moves answer acts trust terminals room standing =
           let first = before.moved (earlier trust) terminals room standing in
           let second = acts trust terminals first.0 first.2 in
-          (second.0, AreReplies-push step zone terminals room first.0 second.0 outs before.answers (o, at) answer first.1 second.1, second.2)
+          (second.0, AreReplies-push step zone terminals room first.0 second.0 outs answers (o, at) answer first.1 second.1, second.2)
 
-      begins_more : (at : ℕ) (stream : List ℕ) → left ≡ Some stream
+      begins_more : (stream : List ℕ) → left ≡ Some stream
           → (next : List ℕ) × (after ≡ Some next)
           × Begins stream (map (λ x. x.0) (outs ++ (o, at) ∷ [])) next
-      begins_more at stream known =
+      begins_more stream known =
           let begins = before.begins stream known in
           let passes = pass.passes begins.0 begins.1 in
           (passes.0, passes.2, Begins-push stream outs begins.0 (o, at) passes.0 begins.2 before.stay passes.1)
@@ -274,92 +272,94 @@ module _ (came : ℕ → List ℕ → List ℕ) (told : List ℕ → List ℕ) w
 
       grow_more : (moments text bytes : List ℕ) → Grow mid new moments text bytes
           → Grow old new (map (λ x. x.1) outs ++ moments) (before.text ++ text)
-          (concat before.answers ++ bytes)
+          (concat answers ++ bytes)
       grow_more moments text bytes more = record {
         given = Appends-more old.given mid.given new.given (map (λ x. x.1) outs) moments before.grew.given more.given;
         kept = Appends-more old.kept mid.kept new.kept before.text text before.grew.kept more.kept;
-        held = Appends-more old.held mid.held new.held (concat before.answers) bytes before.grew.held more.held;
+        held = Appends-more old.held mid.held new.held (concat answers) bytes before.grew.held more.held;
       }
 
-      grow_next : (at : ℕ) (text bytes : List ℕ) → Grow mid new (at ∷ []) text bytes
+      grow_next : (text bytes : List ℕ) → Grow mid new (at ∷ []) text bytes
           → Grow old new (map (λ x. x.1) (outs ++ (o, at) ∷ [])) (before.text ++ text)
-          (concat before.answers ++ bytes)
-      grow_next at text bytes more = rw (map-append (λ (x : Timed). x.1) outs ((o, at) ∷ [])) (grow_more (at ∷ []) text bytes more)
+          (concat answers ++ bytes)
+      grow_next text bytes more = rw (map-append (λ (x : Timed). x.1) outs ((o, at) ∷ [])) (grow_more (at ∷ []) text bytes more)
 
-      grow_one : (at : ℕ) (text answer : List ℕ) → Grow mid new (at ∷ []) text answer
+      grow_one : (text answer : List ℕ) → Grow mid new (at ∷ []) text answer
           → Grow old new (map (λ x. x.1) (outs ++ (o, at) ∷ [])) (before.text ++ text)
-          (concat (before.answers ++ answer ∷ []))
-      grow_one at text answer more =
-          let all : concat (before.answers ++ answer ∷ []) ≡ concat before.answers ++ answer = concat-append before.answers (answer ∷ []) ∙ ap (λ t. concat before.answers ++ t) (append-nil answer) in
-          rw all (grow_next at text answer more)
+          (concat (answers ++ answer ∷ []))
+      grow_one text answer more =
+          let all : concat (answers ++ answer ∷ []) ≡ concat answers ++ answer = concat-append answers (answer ∷ []) ∙ ap (λ t. concat answers ++ t) (append-nil answer) in
+          rw all (grow_next text answer more)
 
       -- it was answered, and stays open
-      pub Noted-more : One (Ok tt) → is_closing o ≡ false
-          → (more : List Timed) × Noted step zone left old after new late stood stands more
-      Noted-more one open_ = (
-        outs ++ (o, one.0) ∷ [],
-        record {
-          answers = before.answers ++ one.1 ∷ [];
-          text = before.text ++ one.2;
-          begins = begins_more one.0;
-          stay = All-push (λ (x : Timed). is_closing x.0 ≡ false) outs (o, one.0) before.stay open_;
-          kept = AreKept-push outs before.answers before.text (o, one.0) one.1 one.2 before.kept one.4;
-          grew = grow_one one.0 one.2 one.1 one.5;
-          moved = one_moves one.0 one.1 one.3;
-        },
-      )
+      pub Noted-more : (one : One (Ok tt)) → is_closing o ≡ false
+          → Noted step zone left old after new late stood stands (outs ++ (o, at) ∷ [])
+          (answers ++ one.0 ∷ [])
+      Noted-more one open_ = record {
+        text = before.text ++ one.1;
+        begins = begins_more;
+        stay = All-push (λ (x : Timed). is_closing x.0 ≡ false) outs (o, at) before.stay open_;
+        kept = AreKept-push outs answers before.text (o, at) one.0 one.1 before.kept one.3;
+        grew = grow_one one.1 one.0 one.4;
+        moved = one_moves one.0 one.2;
+      }
 
       -- it was answered, and closes
-      pub Noted-closes : One (Ok tt) → KeepsEach came told Now left old new
+      pub Noted-closes : (one : One (Ok tt)) → KeepsEach came told Now left old new
+          (record { outs = outs ++ (o, at) ∷ []; answers = answers ++ one.0 ∷ []; last = None })
       Noted-closes one = record {
-        outs = outs ++ (o, one.0) ∷ [];
-        answers = before.answers ++ one.1 ∷ [];
-        text = before.text ++ one.2;
-        kept = AreKept-push outs before.answers before.text (o, one.0) one.1 one.2 before.kept one.4;
+        text = before.text ++ one.1;
+        kept = AreKept-push outs answers before.text (o, at) one.0 one.1 before.kept one.3;
         ends = inl (
-          one_moves one.0 one.1 one.3,
-          (λ stream known. let begins = begins_more one.0 stream known in (begins.0, begins.2, tt)),
-          ([], inl refl, rw append-nil (grow_one one.0 one.2 one.1 one.5)),
+          refl,
+          one_moves one.0 one.2,
+          (λ stream known. let begins = begins_more stream known in (begins.0, begins.2, tt)),
+          ([], inl refl, rw append-nil (grow_one one.1 one.0 one.4)),
         );
       }
 
       stopped : Unmoved late stays stands → DoesNothing mid new
-          → KeepsEach came told Now left old new
+          → KeepsEach came told Now left old new (Course-to ClockFault)
       stopped still none = record {
-        outs = outs;
-        answers = before.answers;
         text = before.text;
         kept = before.kept;
         ends = inl (
+          refl,
           same_moves still,
           (λ stream known. let begins = before.begins stream known in (begins.0, begins.2, tt)),
           (none.0, none.1, simp append-nil at (grow_more none.0 [] [] none.2)),
         );
       }
 
-      begun_after : (at : ℕ) (tail wrote : List ℕ)
+      begun_after : (tail wrote : List ℕ)
           → IsBegun came told (Unmoved late stays stands)
           (Acts step zone late stays stands (o, at)) (o, at) tail wrote
-          → IsBegun came told (Now outs before.answers)
-          (λ answer. Now (outs ++ (o, at) ∷ []) (before.answers ++ answer ∷ []))
+          → IsBegun came told (Now outs answers)
+          (λ answer. Now (outs ++ (o, at) ∷ []) (answers ++ answer ∷ []))
           (o, at) tail wrote
-      begun_after at tail wrote (inl none) = inl (same_moves none.0, none.1)
-      begun_after at tail wrote (inr some) = inr (some.0, one_moves at some.0 some.1, some.2)
+      begun_after tail wrote (inl none) = inl (same_moves none.0, none.1)
+      begun_after tail wrote (inr some) = inr (some.0, one_moves some.0 some.1, some.2)
 
-      begun : (at : ℕ) (tail wrote : List ℕ)
+      begun : (tail wrote : List ℕ)
           → IsBegun came told (Unmoved late stays stands)
           (Acts step zone late stays stands (o, at)) (o, at) tail wrote
           → Grow mid new (at ∷ []) tail wrote
           → KeepsEach came told Now left old new
-      begun at tail wrote is grew = record {
-        outs = outs;
-        answers = before.answers;
+          (record { outs = outs; answers = answers; last = Some (o, at) })
+      begun tail wrote is grew = record {
         text = before.text;
         kept = before.kept;
-        ends = inr ((o, at), tail, wrote, has_next, begun_after at tail wrote is, grow_next at tail wrote grew);
+        ends = inr ((o, at), refl, tail, wrote, has_next, begun_after tail wrote is, grow_next tail wrote grew);
       }
 
       -- serving ended with it
-      pub Noted-breaks : (end : ServeEnd) → One (Err end) → KeepsEach came told Now left old new
+      pub Noted-breaks : (end : ServeEnd) → One (Err end)
+          → KeepsEach came told Now left old new (Course-to end)
       Noted-breaks ClockFault one = stopped one.0 one.1
-      Noted-breaks end one = begun one.0 one.1 one.2 one.3 one.4
+      Noted-breaks Closed one = begun one.0 one.1 one.2 one.3
+      Noted-breaks Cut one = begun one.0 one.1 one.2 one.3
+      Noted-breaks ReadFault one = begun one.0 one.1 one.2 one.3
+      Noted-breaks WriteFault one = begun one.0 one.1 one.2 one.3
+      Noted-breaks Unkept one = begun one.0 one.1 one.2 one.3
+      Noted-breaks ReadsSpent one = begun one.0 one.1 one.2 one.3
+      Noted-breaks Memory one = begun one.0 one.1 one.2 one.3

@@ -27,7 +27,9 @@ use Rattle.room_http_time.proofs.SpanLaws.{one_span_law}
 use Rattle.room_http.specs.Events.{AsksAs, AsksAt, AsksBy, IsAskFor, named}
 use Rattle.room_http.specs.Laws.{AreFirstOf, IsOneStream, IsOneTalk}
 use Rattle.room_http.specs.Arrivals.{Arrival, message, refused, is_head_only, is_closing, Begins}
-use Rattle.room_service.specs.Rooms.{Step}
+use Rattle.room_service.specs.Rooms.{Step, machine}
+use Rattle.room_http.specs.Kept.{AreReplies}
+use Rattle.room_http.specs.Runs.{AreAnswered, Exchange, answers_of, arrivals_of}
 use Rattle.room_http.specs.Talk.{Timed, Finds, replied, IsReplyTo, IsTalk}
 
 none_more : (few many : List Arrival) → few ≡ [] → AreFirstOf few many
@@ -96,3 +98,21 @@ one_talk_law step zone terminals room (x ∷ more) after other bytes others is a
     let again = subst (λ (r : Room). IsTalk step zone terminals r more after is.2) first.0 is.5 in
     let rest = one_talk_law step zone terminals also.0 more after other is.2 also.2 again also.5 in
     (rest.0, is.3 ∙ ap (λ t. t ++ is.2) first.1 ∙ ap (λ t. also.1 ++ t) rest.1 ∙ sym also.3)
+
+-- what is answered to equal arrivals, one after another, is the same, each answer by itself
+pub one_course_law : (zone : Zone) (terminals : List Terminal) (room after : Room)
+    (outs : List Timed) (answers : List (List ℕ)) (xs : List Exchange)
+    → AreReplies machine zone terminals room outs answers after
+    → AreAnswered zone terminals xs room → arrivals_of xs ≡ outs → answers_of xs ≡ answers
+one_course_law zone terminals room after [] [] [] replies answered is = refl
+one_course_law zone terminals room after [] [] (x ∷ xs) replies answered is = absurd (cc)
+one_course_law zone terminals room after [] (a ∷ answers) xs replies answered is = absurd replies
+one_course_law zone terminals room after (o ∷ outs) [] xs replies answered is = absurd replies
+one_course_law zone terminals room after (o ∷ outs) (a ∷ answers) [] replies answered is = absurd (cc)
+one_course_law zone terminals room after (o ∷ outs) (a ∷ answers) (x ∷ xs) replies answered is =
+    let head : x.arrival ≡ o = cc in
+    let tail : arrivals_of xs ≡ outs = cc in
+    let told = subst (λ (y : Timed). IsReplyTo machine zone terminals room y (replied machine x.found room).0 x.bytes) head (x.found, answered.0, refl, answered.1) in
+    let same = one_reply_to machine zone terminals room o (replied machine x.found room).0 replies.0 x.bytes a told replies.1 in
+    let more = one_course_law zone terminals replies.0 after outs answers xs replies.2 (subst (AreAnswered zone terminals xs) same.0 answered.2) tail in
+    ap (λ b. b ∷ answers_of xs) same.1 ∙ ap (λ bs. a ∷ bs) more

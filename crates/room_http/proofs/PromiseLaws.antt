@@ -1,33 +1,39 @@
 -- Every run of a connection keeps the promises.
 use Rattle.std.proofs.Common.{◌≡◌, ◌∙◌, ap, append_assoc, inl, inr, refl, subst, sym, ℕ, List, [], ◌∷◌, ◌++◌, Bool, true, Some, Result, Ok, Err}
-use Rattle.std.specs.Prelude.{cond, false, is_ok}
+use Rattle.std.specs.Prelude.{cond, false, is_ok, ⊤}
 use Rattle.room_place.specs.Choice.{Among}
 use Rattle.room_types.specs.Texts.{Callsign}
 use Rattle.room_types.specs.declared.answers.Answer.{Answer}
 use Rattle.room_types.specs.declared.asks.Ask.{Ask}
 use Rattle.room_types.specs.declared.asks.Ask.TheVariants.{Call, Report}
+use Rattle.room_types.specs.declared.asks.CallForm.{CallForm}
 use Rattle.room_types.specs.declared.asks.Event.{Event}
 use Rattle.room_types.specs.declared.fleet.Terminal.{Terminal}
 use Rattle.room_types.specs.declared.refusals.Refusal.{Refusal}
+use Rattle.room_types.specs.declared.refusals.Refusal.TheVariants.{SerialReused}
 use Rattle.room_model.proofs.AssignedOnce.{of_one_order, one_assignment, one_open_turn}
 use Rattle.room_model.proofs.CrewLaws.{mine_answer, mine_equal}
-use Rattle.room_model.proofs.KeptEvents.{run_kept}
-use Rattle.room_model.proofs.RepeatLaws.{call_repeated, report_repeated}
-use Rattle.room_model.proofs.Runs.{equal_answers, equal_shares, meet_well_formed, run_share, run_told}
+use Rattle.room_model.proofs.KeptEvents.{addressed_run, run_kept}
+use Rattle.room_model.proofs.RefusedAgain.{outside_still, report_told_again, serial_again}
+use Rattle.room_model.proofs.RepeatLaws.{call_repeated}
+use Rattle.room_model.proofs.Runs.{equal_answers, equal_shares, meet_well_formed, run_everyday, run_share, run_told}
+use Rattle.room_model.proofs.Unlent.{unlent_run}
+use Rattle.room_model.specs.Calls.{outside_again}
 use Rattle.room_model.specs.Crossing.{crossings}
 use Rattle.room_model.specs.Decisions.{answer_of}
 use Rattle.room_model.specs.Events.{AreAddressed, OnlyAnswers, by_crew, by_position, received}
+use Rattle.room_model.specs.Queries.{kept_call}
 use Rattle.room_model.specs.Room.{IsInOrder, Room}
 use Rattle.room_model.specs.Run.{is_desk, room_run, told}
 use Rattle.room_model.specs.Shares.{mine, own}
-use Rattle.room_model.specs.Step.{answer_to, room_after}
+use Rattle.room_model.specs.Step.{IsAddressed, answer_to, room_after}
 use Rattle.room_model.specs.WellFormed.{IsWellFormed}
 use Rattle.room_http_answers.proofs.Dates.{one_reply_law}
 use Rattle.room_http_answers.specs.Replies.{IsReply}
 use Rattle.room_http_time.specs.declared.zones.Zone.{Zone}
 use Rattle.room_service.specs.Rooms.{machine}
 use Rattle.room_http.specs.Arrivals.{is_closing, is_head_only}
-use Rattle.room_http.specs.Promises.{ActsOnce, IsDeskAlike, AreSentOnce, Promises}
+use Rattle.room_http.specs.Promises.{ActsOnce, IsDeskAlike, AreSentOnce, Promises, StaysOutside}
 use Rattle.room_http.specs.Runs.{AreAnswered, AreTold, Exchange, IsRun, IsTold, answers_of, arrivals_of, asker, event_then, events_of, is_by_desk, room_by, with_desk}
 use Rattle.room_http.specs.Talk.{Finds, Timed, replied}
 use Rattle.room_http.proofs.RunLemmas.{found_asked_by, room_push, room_split, run_first}
@@ -45,6 +51,20 @@ module _ (known : Room) where
           → AreAddressed (event_then found (events_of (before ++ rest))) known
           → AreAddressed (event_then found (events_of before)) known
       go (Ok event) early all = (all.0, all.1, early all.2)
+      go (Err r) early all = early all
+
+  -- the room knows who asks of each
+  addressed_in : (before rest : List Exchange) (x : Exchange) (event : Event)
+      → x.found ≡ Ok event → AreAddressed (events_of (before ++ x ∷ rest)) known
+      → IsAddressed event known
+  addressed_in [] rest x event is all = (subst (λ (found : Result Event Refusal). AreAddressed (event_then found (events_of rest)) known) is all).0
+  addressed_in (y ∷ before) rest x event is all = go y.found (addressed_in before rest x event is) all
+    where
+      go : (found : Result Event Refusal)
+          → (AreAddressed (events_of (before ++ x ∷ rest)) known → IsAddressed event known)
+          → AreAddressed (event_then found (events_of (before ++ x ∷ rest))) known
+          → IsAddressed event known
+      go (Ok e) early all = early all.2
       go (Err r) early all = early all
 
 -- what an arrival is answered, after those before it
@@ -128,6 +148,23 @@ module _ (zone : Zone) (terminals : List Terminal) (xs : List Exchange) (room : 
       ≡ (replied machine found (room_by before room)).0
   room_on before x found is = room_push before x room ∙ ap (λ (found : Result Event Refusal). (replied machine found (room_by before room)).0) is
 
+  -- the room before an arrival is in order, and knows who asks
+  known_at : (before rest : List Exchange) (x : Exchange) (event : Event)
+      → xs ≡ before ++ x ∷ rest → x.found ≡ Ok event
+      → IsInOrder (room_by before room) × IsAddressed event (room_by before room)
+  known_at before rest x event split is = (
+    (formed_at before (x ∷ rest) split).order,
+    addressed_run (events_of before) room event (addressed_in room before rest x event is (subst (λ l. AreAddressed (events_of l) room) split run.addressed)),
+  )
+
+  -- the room after an event, and those of others
+  after : (before between : List Exchange) (first : Exchange) (event : Event)
+      → first.found ≡ Ok event → room_by (before ++ first ∷ between) room
+      ≡ room_run (events_of between) (room_after event (room_by before room))
+  after before between first event is =
+      room_split before (first ∷ between) room ∙ run_first first.found (events_of between) (room_by before room)
+      ∙ ap (λ (found : Result Event Refusal). room_run (events_of between) (replied machine found (room_by before room)).0) is
+
   alike : (d : ℕ) (zone_there : Zone) (terminals_there : List Terminal) (ys : List Exchange)
       (other : Room) → IsWellFormed other → IsRun zone_there terminals_there ys other
       → own d room ≡ own d other → received (crossings d (events_of xs) room)
@@ -154,27 +191,53 @@ module _ (zone : Zone) (terminals : List Terminal) (xs : List Exchange) (room : 
         ap (mine c) (room_on before x (Ok (by_crew c ask at)) is) ∙ mine_equal c ask at (room_by before room) other order in_order same,
       )
 
-  -- what acts once in a room that is in order acts once in every run
-  once : (sent : ℕ → Event)
-      → ((at later : ℕ) (s : Room) (between : List Event) → IsInOrder s
-      → is_ok (answer_to (sent at) s) ≡ true
-      → OnlyAnswers (sent later) (room_run between (room_after (sent at) s))
-      (answer_to (sent at) s))
-      → ActsOnce xs room sent
-  once sent law before between rest first again at later split is is_again ok =
+  -- what is only answered when it comes again is told so, and changes nothing
+  told_again : (sent : ℕ → Event) (before between rest : List Exchange) (first again : Exchange)
+      (at later : ℕ) (answer : Result Answer Refusal)
+      → xs ≡ before ++ first ∷ between ++ again ∷ rest
+      → first.found ≡ Ok (sent at) → again.found ≡ Ok (sent later)
+      → OnlyAnswers (sent later) (room_run (events_of between) (room_after (sent at) (room_by before room))) answer
+      → (IsTold first (answer_to (sent at) (room_by before room)) × IsTold again answer)
+      × (room_by (before ++ first ∷ between ++ again ∷ []) room
+      ≡ room_by (before ++ first ∷ between) room)
+  told_again sent before between rest first again at later answer split is is_again law =
       let s = room_by before room in
-      let answer = answer_to (sent at) s in
       let early = before ++ first ∷ between in
       let split_first : xs ≡ before ++ first ∷ (between ++ again ∷ rest) = split ∙ append_assoc before (first ∷ between) (again ∷ rest) in
-      let there : room_by early room ≡ room_run (events_of between) (room_after (sent at) s) =
-      room_split before (first ∷ between) room ∙ run_first first.found (events_of between) s ∙ ap (λ (found : Result Event Refusal). room_run (events_of between) (replied machine found s).0) is in
-      let only : OnlyAnswers (sent later) (room_by early room) answer =
-      subst (λ now. OnlyAnswers (sent later) now answer) (sym there)
-      (law at later s (events_of between) (formed_at before (first ∷ (between ++ again ∷ rest)) split_first).order ok) in (
-        told_in before (between ++ again ∷ rest) first (Ok (sent at)) split_first is,
-        subst (IsTold again) only.1 (told_in early rest again (Ok (sent later)) split is_again),
+      let only : OnlyAnswers (sent later) (room_by early room) answer = subst (λ now. OnlyAnswers (sent later) now answer) (sym (after before between first (sent at) is)) law in (
+        (told_in before (between ++ again ∷ rest) first (Ok (sent at)) split_first is, subst (IsTold again) only.1 (told_in early rest again (Ok (sent later)) split is_again)),
         room_on early again (Ok (sent later)) is_again ∙ only.0,
       )
+
+  -- what acts once in a room that is in order and knows who asks acts once in every run
+  once : (sent : ℕ → Event) (lasts : Result Answer Refusal → Type 0)
+      → ((at later : ℕ) (s : Room) (between : List Event) → IsInOrder s → IsAddressed (sent at) s
+      → lasts (answer_to (sent at) s)
+      → OnlyAnswers (sent later) (room_run between (room_after (sent at) s))
+      (answer_to (sent at) s))
+      → ActsOnce xs room sent lasts
+  once sent lasts law before between rest first again at later split is is_again ok =
+      let s = room_by before room in
+      let is_on = known_at before (between ++ again ∷ rest) first (sent at) (split ∙ append_assoc before (first ∷ between) (again ∷ rest)) is in
+      let told = told_again sent before between rest first again at later (answer_to (sent at) s) split is is_again (law at later s (events_of between) is_on.0 is_on.1 ok) in
+      (told.0.0, told.0.1, told.1)
+
+  serial : (position : ℕ) (form : CallForm)
+      → ActsOnce xs room (by_position position (Call form)) (λ answer. answer ≡ Err SerialReused)
+  serial position form =
+      let sent = by_position position (Call form) in
+      once sent (λ answer. answer ≡ Err SerialReused) (λ at later s between in_order known refused.
+      subst (OnlyAnswers (sent later) (room_run between (room_after (sent at) s))) (sym refused) (serial_again position form at s between in_order refused later))
+
+  outside : (position : ℕ) (form : CallForm) → StaysOutside xs room position form
+  outside position form before between rest first again at later split is is_again refused =
+      let sent = by_position position (Call form) in
+      let s = room_by before room in
+      let now = after before between first (sent at) is in
+      let is_on = known_at before (between ++ again ∷ rest) first (sent at) (split ∙ append_assoc before (first ∷ between) (again ∷ rest)) is in
+      let law = subst (λ now_s. OnlyAnswers (sent later) (room_run (events_of between) (room_after (sent at) s)) (Err (outside_again (kept_call position form.serial now_s)))) (sym now) (outside_still position form at s (events_of between) is_on.0 refused later) in
+      let told = told_again sent before between rest first again at later (Err (outside_again (kept_call position form.serial (room_by (before ++ first ∷ between) room)))) split is is_again law in
+      (told.0.1, told.1)
 
   pub promises_kept : Promises terminals xs room
   promises_kept =
@@ -185,10 +248,13 @@ module _ (zone : Zone) (terminals : List Terminal) (xs : List Exchange) (room : 
         desk_told = λ d. desk_answered zone terminals d xs room run.answered;
         desk_apart = λ d. subst (AreTold (with_desk d xs)) (run_told d (events_of xs) room meets) (desk_answered zone terminals d xs room run.answered);
         desk_alike = alike;
+        desk_by_itself = λ d unlent nobody. run_everyday d (events_of xs) room (unlent_run (events_of xs) room formed run.addressed unlent nobody).0;
         crew_alike = crew;
         refused_alike = λ before rest x r split is. (told_in before rest x (Err r) split is, room_on before x (Err r) is);
         formed = formed_at;
         sent_once = λ before rest split. sent_once_in (room_by before room) (formed_at before rest split);
-        report_once = λ c press. once (by_crew c (Report press)) (λ at later s between in_order ok. report_repeated c press at s between in_order ok later);
-        call_once = λ position form. once (by_position position (Call form)) (λ at later s between in_order ok. call_repeated position form at s between in_order ok later);
+        report_once = λ c press. once (by_crew c (Report press)) (λ answer. ⊤) (λ at later s between in_order known ok. report_told_again c press at s between in_order known later);
+        call_once = λ position form. once (by_position position (Call form)) (λ answer. is_ok answer ≡ true) (λ at later s between in_order known ok. call_repeated position form at s between in_order ok later);
+        serial_once = serial;
+        call_outside = outside;
       }

@@ -22,10 +22,11 @@ use Rattle.room_http.specs.Answering.{Answers, EndsAnswering}
 use Rattle.room_http_time.specs.Moments.{HasNoMoment}
 use Rattle.room_http.specs.Arrivals.{Arrival, is_closing, is_head_only, Begins, HasNext}
 use Rattle.room_http_time.specs.declared.zones.Zone.{Zone}
-use Rattle.room_service.specs.Rooms.{Step, IsWant}
+use Rattle.room_service.specs.Rooms.{Step}
+use Rattle.room_http.specs.Course.{Course}
 use Rattle.room_http.specs.Reads.{EndsAs}
 use Rattle.room_http.specs.Serving.{Sides, Finish, Answered, Unserved, Unwritten, Broken, LeavesPart, MissesNone, ServeIs}
-use Rattle.room_http.specs.Talk.{Timed, IsFront, BreaksOff, Stays, Talks, Wants}
+use Rattle.room_http.specs.Talk.{Timed, IsCaused, IsFront, BreaksOff, Stays, Talks, Wants}
 use Rattle.room_http.proofs.StreamLemmas.{Passes, Begins-push, nothing_left}
 use Rattle.room_http.proofs.TalkLemmas.{Talks-append, Talks-as, Talks-none}
 
@@ -40,6 +41,17 @@ pub record Going (step : Step) (zone : Zone) (old : Sides) (left held given : Op
   pub moments : Appends old.given given (map (λ x. x.1) outs)
   pub talk : Talks step zone trusted stood old.held held outs
       (λ terminals after tail. stands terminals after × (tail ≡ []))
+
+-- the arrival with which serving ended, if it had a moment
+abbrev pub last_of : ServeEnd → Timed → Option Timed
+last_of ClockFault x = None
+last_of Closed x = Some x
+last_of Cut x = Some x
+last_of ReadFault x = Some x
+last_of WriteFault x = Some x
+last_of Unkept x = Some x
+last_of ReadsSpent x = Some x
+last_of Memory x = Some x
 
 -- the clock gave no moment, some moments later
 no_moment_later : (a b c : Option (List ℕ)) (was_none : Bool) (moments : List ℕ)
@@ -97,7 +109,8 @@ module _ (step : Step) (zone : Zone) (old : Sides) where
     }
 
     -- serving ended between arrivals
-    pub Going-ends : (reads : Option ℕ) (read_failed read_ended write_failed was_none : Bool)
+    pub Going-ends : (reads : Option ℕ)
+        (read_failed read_ended write_failed was_none witness_failed : Bool)
         (follows : List ℕ → Type 0) → Going step zone old left held given early stood stays outs
         → ((rest : List ℕ) → left ≡ Some rest → follows rest)
         → Answered step zone old (record {
@@ -110,8 +123,9 @@ module _ (step : Step) (zone : Zone) (old : Sides) where
           write_failed = write_failed;
           was_none =
               was_none;
+          witness_failed = witness_failed;
         }) early stood stays outs follows
-    Going-ends reads read_failed read_ended write_failed was_none follows before then = record {
+    Going-ends reads read_failed read_ended write_failed was_none witness_failed follows before then = record {
       begins = λ stream known. let begins = before.begins stream known in (begins.0, begins.2, then begins.0 begins.1);
       timed = (before.timed, before.moments);
       talk = before.talk;
@@ -155,42 +169,44 @@ module _ (step : Step) (zone : Zone) (old : Sides) where
     stops_missing_none (Err Fault) e says is = rw is (leaves_part early stood stays (prepend_known kept remains) held given outs kept remains refl reached says.0)
     stops_missing_none (Err Spent) e says is = rw is (leaves_part early stood stays (prepend_known kept remains) held given outs kept remains refl reached says.0)
 
-    module _ (reads : Option ℕ) (write_failed was_none : Bool)
-        (wants : Timed → List Terminal → Room → Type 0) (budget : ℕ)
+    module _ (reads : Option ℕ) (write_failed was_none witness_failed : Bool)
+        (wants : Timed → List Terminal → Room → Type 0) (failed : Type 0)
+        (answers : List (List ℕ)) (budget : ℕ)
         (count : CountsBy (budget - granted) old.reads reads) where
       abbrev new : Finish
-      new = record { reads = reads; held = held; given = given; read_failed = read_failed; read_ended = read_ended; write_failed = write_failed; was_none = was_none }
+      new = record { reads = reads; held = held; given = given; read_failed = read_failed; read_ended = read_ended; write_failed = write_failed; was_none = was_none; witness_failed = witness_failed }
 
       answered : (follows : List ℕ → Type 0)
           → ((rest : List ℕ) → prepend_known kept remains ≡ Some rest → follows rest)
           → Answered step zone old new early stood stays outs follows
-      answered follows then = Going-ends early stood stays (prepend_known kept remains) held given outs reads read_failed read_ended write_failed was_none follows reached then
+      answered follows then = Going-ends early stood stays (prepend_known kept remains) held given outs reads read_failed read_ended write_failed was_none witness_failed follows reached then
 
       pub stops : (read : Result Layout Unread) (e : ServeEnd) → Says read → EndsAs read e
-          → ServeIs step zone old new early stood stays wants budget e
+          → ServeIs step zone old new early stood stays wants failed
+          (record { outs = outs; answers = answers; last = None }) budget e
       stops (Ok layout) e says is = absurd is
       stops (Err (Refused r head_only)) e says is = absurd is
-      stops (Err End) e says is = rw is (inl (outs, answered (λ rest. rest ≡ []) (λ rest known. nothing_left kept remains rest says.2 known ∙ says.0), says.1))
-      stops (Err UnreadCut) e says is = rw is (outs, answered IsCut (λ rest known. rw (nothing_left kept remains rest says.2 known) says.0), says.1)
-      stops (Err Fault) e says is = rw is (outs, answered (λ rest. ⊤) (λ rest known. tt), says.1)
+      stops (Err End) e says is = rw is (inl ((refl, answered (λ rest. rest ≡ []) (λ rest known. nothing_left kept remains rest says.2 known ∙ says.0)), says.1))
+      stops (Err UnreadCut) e says is = rw is ((refl, answered IsCut (λ rest known. rw (nothing_left kept remains rest says.2 known) says.0)), says.1)
+      stops (Err Fault) e says is = rw is ((refl, answered (λ rest. ⊤) (λ rest known. tt)), says.1)
       stops (Err Spent) e says is =
           let all : budget - granted ≡ budget = omega (arith, says.1) in
-          rw is (outs, answered (λ rest. ⊤) (λ rest known. tt), rw all at count)
+          rw is ((refl, answered (λ rest. ⊤) (λ rest known. tt)), rw all at count)
 
   -- one more arrival
   module _ (was early : Type 0) (stood stays : List Terminal → Room → Type 0)
       (lefts : List Terminal → List Room → Type 0) (begun left held given : Option (List ℕ))
       (outs : List Timed)
-      (first : Going step zone old begun held given early stood (Stays was stays lefts) outs) (same : Keeps begun left) (new : Finish) (is_kept late : Type 0) (stands : List Terminal → Room → Type 0) (leaves : List Terminal → List Room → Type 0)
+      (first : Going step zone old begun held given early stood (Stays was stays lefts) outs) (same : Keeps begun left) (new : Finish) (is_kept late failed : Type 0) (stands : List Terminal → Room → Type 0) (leaves : List Terminal → List Room → Type 0)
       (earlier : late → early) (kept : late → was → is_kept) (after : Option (List ℕ)) (o : Arrival) (pass : Passes left after o) where
     before : Going step zone old left held given early stood (Stays was stays lefts) outs
     before = Going-kept early stood (Stays was stays lefts) begun held given outs left first same
 
-    abbrev AnswersHere : Result (Unit {0}) ServeEnd → Type 0
-    AnswersHere = Answers step zone held new.held given new.given new.write_failed new.was_none late stays (Stays is_kept stands leaves) (Wants step zone is_kept stands leaves) o
+    abbrev AnswersHere : ℕ → Result (Unit {0}) ServeEnd → Type 0
+    AnswersHere at = Answers step zone held new.held given new.given new.write_failed new.was_none new.witness_failed late stays (Stays is_kept stands leaves) (Wants step zone is_kept stands leaves) failed at o
 
-    abbrev ServeHere : ℕ → ServeEnd → Type 0
-    ServeHere = ServeIs step zone old new late stood (Stays was stands leaves) (Wants step zone was stands leaves)
+    abbrev ServeHere : Course → ℕ → ServeEnd → Type 0
+    ServeHere = ServeIs step zone old new late stood (Stays was stands leaves) (Wants step zone was stands leaves) failed
 
     still : late → (terminals : List Terminal) (room : Room)
         → Stays is_kept stands leaves terminals room → Stays was stands leaves terminals room
@@ -250,42 +266,41 @@ module _ (step : Step) (zone : Zone) (old : Sides) where
     more_said more tells talk = talk_more more (Said is_kept tells) (Said was tells) (λ trust terminals room tail it. (still trust terminals room it.0, it.1)) talk
 
     -- one more was answered, and stays open
-    pub Going-more : AnswersHere (Ok tt) → is_closing o ≡ false
-        → (more : List Timed) × Going step zone old after new.held new.given late stood
-        (Stays was stands leaves) more
-    Going-more answers open_ =
-        let at = answers.0 in (
-          outs ++ (o, at) ∷ [],
-          record {
-            begins = begins_more at;
-            stay = All-push (λ (x : Timed). is_closing x.0 ≡ false) outs (o, at) before.stay open_;
-            timed = timed_more at answers.1.0;
-            moments = moments_more at answers.1.1;
-            talk = more_said ((o, at) ∷ []) (λ tail. tail ≡ []) answers.3;
-          },
-        )
+    pub Going-more : (at : ℕ) → AnswersHere at (Ok tt) → is_closing o ≡ false
+        → Going step zone old after new.held new.given late stood
+        (Stays was stands leaves) (outs ++ (o, at) ∷ [])
+    Going-more at answers open_ = record {
+      begins = begins_more at;
+      stay = All-push (λ (x : Timed). is_closing x.0 ≡ false) outs (o, at) before.stay open_;
+      timed = timed_more at answers.0.0;
+      moments = moments_more at answers.0.1;
+      talk = more_said ((o, at) ∷ []) (λ tail. tail ≡ []) answers.2;
+    }
 
     -- one more was answered, and closes
-    pub closes : (budget : ℕ) → AnswersHere (Ok tt) → is_closing o ≡ true → ServeHere budget Closed
-    closes budget answers closing =
-        let at = answers.0 in
-        inr (inl (
-          outs ++ (o, at) ∷ [],
-          record {
-            begins = λ stream known. let begins = begins_more at stream known in (begins.0, begins.2, tt);
-            timed = (timed_more at answers.1.0, moments_more at answers.1.1);
-            talk = more_said ((o, at) ∷ []) (λ tail. tail ≡ []) answers.3;
-          },
-          (outs, (o, at), refl, closing),
-        ))
+    pub closes : (told : List (List ℕ)) (budget at : ℕ) → AnswersHere at (Ok tt)
+        → is_closing o ≡ true
+        → ServeHere (record { outs = outs ++ (o, at) ∷ []; answers = told; last = None }) budget
+        Closed
+    closes told budget at answers closing = inr (inl (
+      (
+        refl,
+        record {
+          begins = λ stream known. let begins = begins_more at stream known in (begins.0, begins.2, tt);
+          timed = (timed_more at answers.0.0, moments_more at answers.0.1);
+          talk = more_said ((o, at) ∷ []) (λ tail. tail ≡ []) answers.2;
+        },
+      ),
+      (outs, (o, at), refl, closing),
+    ))
 
     wanted : (at : ℕ) (r : Refusal) (more : List ℕ → List ℕ → Type 0) → at ≤ LAST_MOMENT
-        → Appends given new.given (at ∷ []) → IsWant r
+        → Appends given new.given (at ∷ []) → IsCaused failed r
         → Talks step zone late stays held new.held []
         (λ terminals room tail. Wants step zone is_kept stands leaves (o, at) terminals room
         × more tail (fixed_bytes r (is_head_only o)))
         → Unserved step zone old new late stood (Stays was stands leaves)
-        (Wants step zone was stands leaves) outs (o, at) more
+        (Wants step zone was stands leaves) failed outs (o, at) more
     wanted at r more within moment want talk = record {
       begins = has_next;
       next = λ stream known. let begins = begins_more at stream known in (begins.0, begins.2, tt);
@@ -329,39 +344,45 @@ module _ (step : Step) (zone : Zone) (old : Sides) where
     Acted before at terminals room = BreaksOff step zone terminals (Stays before stands leaves) room (o, at) []
 
     -- serving ended with one more
-    pub ends : (budget : ℕ) (e : ServeEnd) → AnswersHere (Err e) → ServeHere budget e
-    ends budget Closed answers = inr (inr (outs, (o, answers.0), wanted answers.0 answers.2.0 (λ tail fixed. tail ≡ fixed) answers.1.0 answers.1.1 answers.2.1 answers.2.2))
-    ends budget WriteFault answers = (
+    pub ends : (told : List (List ℕ)) (budget at : ℕ) (e : ServeEnd) → AnswersHere at (Err e)
+        → ServeHere (record { outs = outs; answers = told; last = last_of e (o, at) }) budget e
+    ends told budget at Closed answers = inr (inr ((o, at), refl, wanted at answers.1.0 (λ tail fixed. tail ≡ fixed) answers.0.0 answers.0.1 answers.1.1 answers.1.2))
+    ends told budget at WriteFault answers = (
       (
-        outs,
-        (o, answers.0),
-        elim answers.3 [
-          | inl talk ↦ inl (broken answers.0 answers.1.0 answers.1.1 talk)
-          | inr want ↦ inr (wanted answers.0 want.0 IsFront answers.1.0 answers.1.1 want.1 want.2)
+        (o, at),
+        refl,
+        elim answers.2 [
+          | inl talk ↦ inl (broken at answers.0.0 answers.0.1 talk)
+          | inr want ↦ inr (wanted at want.0 IsFront answers.0.0 answers.0.1 want.1 want.2)
         ],
       ),
-      answers.2,
+      answers.1,
     )
-    ends budget Unkept answers = (
-      outs,
-      (o, answers.0),
-      elim answers.2 [
-        | inl talk ↦ inl (unwritten answers.0 (Stays is_kept stands leaves) (Stays was stands leaves) still answers.1.0 answers.1.1 talk)
-        | inr talk ↦
-            inr (unwritten answers.0 (Acted is_kept answers.0) (Acted was answers.0) (λ trust terminals room it. (it.0, it.1, it.2, still trust terminals it.0 it.3, it.4)) answers.1.0 answers.1.1 talk)
-      ],
+    ends told budget at Unkept answers = (
+      (
+        (o, at),
+        refl,
+        elim answers.2 [
+          | inl talk ↦ inl (unwritten at (Stays is_kept stands leaves) (Stays was stands leaves) still answers.0.0 answers.0.1 talk)
+          | inr talk ↦
+              inr (unwritten at (Acted is_kept at) (Acted was at) (λ trust terminals room it. (it.0, it.1, it.2, still trust terminals it.0 it.3, it.4)) answers.0.0 answers.0.1 talk)
+        ],
+      ),
+      answers.1,
     )
-    ends budget ClockFault answers = (
-      outs,
-      o,
-      record {
-        begins = has_next;
-        timed = before.timed;
-        clock = no_moment_later old.given given new.given new.was_none (map (λ x. x.1) outs) before.moments answers.0;
-        talk = talk_kept (Said is_kept (λ tail. tail ≡ [])) (Said was (λ tail. tail ≡ [])) (λ trust terminals room tail it. (still trust terminals room it.0, it.1)) answers.1;
-      },
+    ends told budget at ClockFault answers = (
+      refl,
+      (
+        o,
+        record {
+          begins = has_next;
+          timed = before.timed;
+          clock = no_moment_later old.given given new.given new.was_none (map (λ x. x.1) outs) before.moments answers.0;
+          talk = talk_kept (Said is_kept (λ tail. tail ≡ [])) (Said was (λ tail. tail ≡ [])) (λ trust terminals room tail it. (still trust terminals room it.0, it.1)) answers.1;
+        },
+      ),
     )
-    ends budget Cut answers = absurd answers
-    ends budget ReadFault answers = absurd answers
-    ends budget ReadsSpent answers = absurd answers
-    ends budget Memory answers = absurd answers
+    ends told budget at Cut answers = absurd answers
+    ends told budget at ReadFault answers = absurd answers
+    ends told budget at ReadsSpent answers = absurd answers
+    ends told budget at Memory answers = absurd answers

@@ -17,10 +17,11 @@ use Rattle.room_http_messages.specs.Messages.{IsCut}
 use Rattle.room_http_answers.specs.Replies.{fixed_bytes}
 use Rattle.room_http.specs.Answering.{Answers}
 use Rattle.room_http.specs.Arrivals.{Arrival, Begins, HasNext, is_head_only}
+use Rattle.room_http.specs.Course.{AreFirstIn, Course, OneCourse}
 use Rattle.room_http.specs.Served.{AreFirst, AreGiven, AreWritten, IsAtMost, IsWantTail, KeepsPromises, Served}
 use Rattle.room_http.specs.Runs.{Exchange, IsRun, IsTold, arrivals_of, room_by}
 use Rattle.room_http.specs.Serving.{Answered, Broken, Finish, HasActed, ServeIs, Sides, Unserved, Untimed, Unwritten}
-use Rattle.room_http.specs.Talk.{BreaksOff, IsFront, IsTalk, LeavesNext, Stays, Talks, Timed, Wants, replied}
+use Rattle.room_http.specs.Talk.{BreaksOff, IsCaused, IsFront, IsTalk, LeavesNext, Stays, Talks, Timed, Wants, replied}
 use Rattle.room_http.proofs.PromiseLaws.{promises_kept}
 use Rattle.room_http.proofs.RunLemmas.{answered_join, room_push, run_of, talk_run}
 use Rattle.room_http.proofs.TalkLemmas.{Talks-as, Talks-none}
@@ -125,14 +126,19 @@ none_served zone are held was_kept trusted stood leaves fit leaves_it none =
     kept_whole zone are held held was_kept stood leaves trusted stood fit [] (Stays was_kept stood leaves) (λ tail. tail ≡ []) none (alone zone are was_kept stood leaves []) (λ tail is. inl is)
     (Talks-none machine zone trusted stood (Stays was_kept stood leaves) held (λ terminals room standing. (standing, λ was. leaves_it terminals room was standing)))
 
--- a fixed answer that was written, or some first bytes of it
-all_of : (r : Refusal) (head_only : Bool) → IsWant r → (tail : List ℕ)
-    → tail ≡ fixed_bytes r head_only → IsWantTail tail
-all_of r head_only want tail is = inr (r, want, head_only, ([], sym (append-nil tail ∙ is)))
+-- what is caused is a want
+pub want_of : (failed : Type 0) (r : Refusal) → IsCaused failed r → IsWant r
+want_of failed r (inl memory) = inl memory
+want_of failed r (inr storage) = inr storage.0
 
-some_of : (r : Refusal) (head_only : Bool) → IsWant r → (tail : List ℕ)
+-- a fixed answer that was written, or some first bytes of it
+all_of : (failed : Type 0) (r : Refusal) (head_only : Bool) → IsCaused failed r → (tail : List ℕ)
+    → tail ≡ fixed_bytes r head_only → IsWantTail tail
+all_of failed r head_only want tail is = inr (r, want_of failed r want, head_only, ([], sym (append-nil tail ∙ is)))
+
+some_of : (failed : Type 0) (r : Refusal) (head_only : Bool) → IsCaused failed r → (tail : List ℕ)
     → IsFront tail (fixed_bytes r head_only) → IsWantTail tail
-some_of r head_only want tail is = inr (r, want, head_only, is)
+some_of failed r head_only want tail is = inr (r, want_of failed r want, head_only, is)
 
 -- the room has acted and nothing was written, so the answer was not written wholly
 silent : (zone : Zone) (trusted : Type 0) (stood stays : List Terminal → Room → Type 0)
@@ -147,15 +153,15 @@ silent zone trusted stood stays held holds outs x talk =
     (λ trust terminals room tail it. subst (BreaksOff machine zone terminals stays room x) (sym it.1) it.0) talk
 
 -- ---- one arrival
-module _ (zone : Zone) (held holds given gives : Option (List ℕ)) (write_failed was_none : Bool)
-    (was_kept trusted : Type 0) (stood stands : List Terminal → Room → Type 0)
+module _ (zone : Zone) (held holds given gives : Option (List ℕ))
+    (write_failed was_none witness_failed : Bool) (was_kept trusted failed : Type 0) (stood stands : List Terminal → Room → Type 0)
     (leaves : List Terminal → List Room → Type 0)
-    (fit : (terminals : List Terminal) (room : Room) → stood terminals room → AreTerminals room terminals) (o : Arrival) where
+    (fit : (terminals : List Terminal) (room : Room) → stood terminals room → AreTerminals room terminals) (at : ℕ) (o : Arrival) where
   abbrev KeptOne : Type 0
   KeptOne = KeepsPromises zone (IsAtMost o given gives) held holds trusted was_kept stood stands leaves
 
   abbrev AnswersHere : Step → Result (Unit {0}) ServeEnd → Type 0
-  AnswersHere step result = Answers step zone held holds given gives write_failed was_none trusted stood (Stays was_kept stands leaves) (Wants step zone was_kept stands leaves) o result
+  AnswersHere step result = Answers step zone held holds given gives write_failed was_none witness_failed trusted stood (Stays was_kept stands leaves) (Wants step zone was_kept stands leaves) failed at o result
 
   none_answered : (says : List Terminal → Room → Type 0) (tells : List ℕ → Type 0)
       → ((terminals : List Terminal) (room : Room) → says terminals room
@@ -167,24 +173,24 @@ module _ (zone : Zone) (held holds given gives : Option (List ℕ)) (write_faile
 
   kept_one : (result : Result (Unit {0}) ServeEnd) → AnswersHere machine result → KeptOne
   kept_one (Ok done) a =
-      kept_whole zone (IsAtMost o given gives) held holds was_kept stands leaves trusted stood fit ((o, a.0) ∷ []) (Stays was_kept stands leaves) (λ tail. tail ≡ []) (refl, ([], a.1.1))
-      (alone zone (IsAtMost o given gives) was_kept stands leaves ((o, a.0) ∷ [])) (λ tail is. inl is) a.3
+      kept_whole zone (IsAtMost o given gives) held holds was_kept stands leaves trusted stood fit ((o, at) ∷ []) (Stays was_kept stands leaves) (λ tail. tail ≡ []) (refl, ([], a.0.1))
+      (alone zone (IsAtMost o given gives) was_kept stands leaves ((o, at) ∷ [])) (λ tail is. inl is) a.2
   kept_one (Err Closed) a =
-      none_answered (Wants machine zone was_kept stands leaves (o, a.0)) (λ tail. tail ≡ fixed_bytes a.2.0 (is_head_only o)) (wanting zone (IsAtMost o given gives) was_kept stands leaves [] (o, a.0) (refl, ([], a.1.1)))
-      (all_of a.2.0 (is_head_only o) a.2.1) a.2.2
-  kept_one (Err WriteFault) a = elim a.3 [
-    | inl talk ↦ kept_short zone (IsAtMost o given gives) held holds was_kept stands leaves trusted stood fit [] (o, a.0) (refl, ([], a.1.1)) talk
+      none_answered (Wants machine zone was_kept stands leaves (o, at)) (λ tail. tail ≡ fixed_bytes a.1.0 (is_head_only o)) (wanting zone (IsAtMost o given gives) was_kept stands leaves [] (o, at) (refl, ([], a.0.1)))
+      (all_of failed a.1.0 (is_head_only o) a.1.1) a.1.2
+  kept_one (Err WriteFault) a = elim a.2 [
+    | inl talk ↦ kept_short zone (IsAtMost o given gives) held holds was_kept stands leaves trusted stood fit [] (o, at) (refl, ([], a.0.1)) talk
     | inr want ↦
-        none_answered (Wants machine zone was_kept stands leaves (o, a.0)) (λ tail. IsFront tail (fixed_bytes want.0 (is_head_only o))) (wanting zone (IsAtMost o given gives) was_kept stands leaves [] (o, a.0) (refl, ([], a.1.1)))
-        (some_of want.0 (is_head_only o) want.1) want.2
+        none_answered (Wants machine zone was_kept stands leaves (o, at)) (λ tail. IsFront tail (fixed_bytes want.0 (is_head_only o))) (wanting zone (IsAtMost o given gives) was_kept stands leaves [] (o, at) (refl, ([], a.0.1)))
+        (some_of failed want.0 (is_head_only o) want.1) want.2
   ]
   kept_one (Err ClockFault) a =
       none_answered (Stays was_kept stands leaves) (λ tail. tail ≡ []) (alone zone (IsAtMost o given gives) was_kept stands leaves []) (λ tail is. inl is) a.1
   kept_one (Err Unkept) a = elim a.2 [
     | inl talk ↦ none_answered (Stays was_kept stands leaves) (λ tail. tail ≡ []) (alone zone (IsAtMost o given gives) was_kept stands leaves []) (λ tail is. inl is) talk
     | inr talk ↦
-        kept_short zone (IsAtMost o given gives) held holds was_kept stands leaves trusted stood fit [] (o, a.0) (refl, ([], a.1.1))
-        (silent zone trusted stood (Stays was_kept stands leaves) held holds [] (o, a.0) talk)
+        kept_short zone (IsAtMost o given gives) held holds was_kept stands leaves trusted stood fit [] (o, at) (refl, ([], a.0.1))
+        (silent zone trusted stood (Stays was_kept stands leaves) held holds [] (o, at) talk)
   ]
   kept_one (Err Cut) a = absurd a
   kept_one (Err ReadFault) a = absurd a
@@ -217,83 +223,111 @@ no_moment : (given gives : Option (List ℕ)) (was_none : Bool) (outs : List Tim
 no_moment given gives was_none outs (inl none) = no_more given gives outs none.1
 no_moment given gives was_none outs (inr late) = (late.0 ∷ [], late.2)
 
-module _ (zone : Zone) (old : Sides) (new : Finish) (was_kept trusted : Type 0)
+module _ (zone : Zone) (old : Sides) (new : Finish) (was_kept trusted has_failed : Type 0)
     (stood stands : List Terminal → Room → Type 0) (leaves : List Terminal → List Room → Type 0)
-    (fit : (terminals : List Terminal) (room : Room) → stood terminals room → AreTerminals room terminals) where
+    (fit : (terminals : List Terminal) (room : Room) → stood terminals room → AreTerminals room terminals) (course : Course) where
   abbrev AreFirstHere : List Timed → Type 0
-  AreFirstHere outs = AreFirst old.left old.given new.given outs
+  AreFirstHere = AreFirstIn course old.left old.given new.given
 
   abbrev StaysHere : List Terminal → Room → Type 0
   StaysHere = Stays was_kept stands leaves
 
   abbrev ServeHere : Step → ℕ → ServeEnd → Type 0
-  ServeHere step = ServeIs step zone old new trusted stood StaysHere (Wants step zone was_kept stands leaves)
+  ServeHere step = ServeIs step zone old new trusted stood StaysHere (Wants step zone was_kept stands leaves) has_failed course
 
   abbrev Kept : Type 0
-  Kept = KeepsPromises zone (AreFirst old.left old.given new.given) old.held new.held trusted was_kept stood stands leaves
+  Kept = KeepsPromises zone AreFirstHere old.held new.held trusted was_kept stood stands leaves
 
-  kept_all : (outs : List Timed) → AreFirstHere outs
-      → Talks machine zone trusted stood old.held new.held outs
+  -- what the stream begins with, whatever follows
+  answered_first : (follows : List ℕ → Type 0)
+      → ((stream : List ℕ) → old.left ≡ Some stream
+      → (rest : List ℕ) × Begins stream (map (λ x. x.0) course.outs) rest × follows rest)
+      → AreGiven old.given new.given course.outs → AreFirstHere course.outs
+  answered_first follows begins moments = (inl refl, firsts old.left old.given new.given course.outs follows begins moments)
+
+  with_last : (x : Timed) → course.last ≡ Some x
+      → ((stream : List ℕ) → old.left ≡ Some stream
+      → (rest : List ℕ) × Begins stream (map (λ x. x.0) (course.outs ++ x ∷ [])) rest × ⊤)
+      → Appends old.given new.given (map (λ x. x.1) (course.outs ++ x ∷ []))
+      → AreFirstHere (course.outs ++ x ∷ [])
+  with_last x last begins moments =
+      (inr (x, last, refl), firsts old.left old.given new.given (course.outs ++ x ∷ []) (λ rest. ⊤) begins (no_more old.given new.given (course.outs ++ x ∷ []) moments))
+
+  kept_all : AreFirstHere course.outs
+      → Talks machine zone trusted stood old.held new.held course.outs
       (λ terminals after tail. StaysHere terminals after × (tail ≡ [])) → Kept
-  kept_all outs first talk =
-      kept_whole zone AreFirstHere old.held new.held was_kept stands leaves trusted stood fit outs StaysHere (λ tail. tail ≡ []) first (alone zone AreFirstHere was_kept stands leaves outs) (λ tail is. inl is) talk
+  kept_all first talk =
+      kept_whole zone AreFirstHere old.held new.held was_kept stands leaves trusted stood fit course.outs StaysHere (λ tail. tail ≡ []) first (alone zone AreFirstHere was_kept stands leaves course.outs) (λ tail is. inl is) talk
 
-  kept_answered : (outs : List Timed) (follows : List ℕ → Type 0)
-      → Answered machine zone old new trusted stood StaysHere outs follows → Kept
-  kept_answered outs follows a = kept_all outs (firsts old.left old.given new.given outs follows a.begins (no_more old.given new.given outs a.timed.1)) a.talk
+  kept_answered : (follows : List ℕ → Type 0)
+      → Answered machine zone old new trusted stood StaysHere course.outs follows → Kept
+  kept_answered follows a = kept_all (answered_first follows a.begins (no_more old.given new.given course.outs a.timed.1)) a.talk
 
-  kept_unserved : (outs : List Timed) (x : Timed) (so_much : List ℕ → List ℕ → Type 0)
-      → ((r : Refusal) (head_only : Bool) → IsWant r → (tail : List ℕ)
+  kept_unserved : (x : Timed) (so_much : List ℕ → List ℕ → Type 0) → course.last ≡ Some x
+      → ((failed : Type 0) (r : Refusal) (head_only : Bool) → IsCaused failed r → (tail : List ℕ)
       → so_much tail (fixed_bytes r head_only) → IsWantTail tail)
       → Unserved machine zone old new trusted stood StaysHere
-      (Wants machine zone was_kept stands leaves) outs x so_much → Kept
-  kept_unserved outs x so_much wants u =
-      kept_whole zone AreFirstHere old.held new.held was_kept stands leaves trusted stood fit outs (Wants machine zone was_kept stands leaves x) (λ tail. so_much tail (fixed_bytes u.refusal (is_head_only x.0)))
-      (firsts old.left old.given new.given outs (HasNext x.0) u.begins (one_more old.given new.given outs x u.timed.1))
-      (wanting zone AreFirstHere was_kept stands leaves outs x (firsts old.left old.given new.given (outs ++ x ∷ []) (λ rest. ⊤) u.next (no_more old.given new.given (outs ++ x ∷ []) u.timed.1)))
-      (wants u.refusal (is_head_only x.0) u.want) u.talk
+      (Wants machine zone was_kept stands leaves) has_failed course.outs x so_much → Kept
+  kept_unserved x so_much last wants u =
+      kept_whole zone AreFirstHere old.held new.held was_kept stands leaves trusted stood fit course.outs (Wants machine zone was_kept stands leaves x) (λ tail. so_much tail (fixed_bytes u.refusal (is_head_only x.0)))
+      (answered_first (HasNext x.0) u.begins (one_more old.given new.given course.outs x u.timed.1))
+      (wanting zone AreFirstHere was_kept stands leaves course.outs x (with_last x last u.next u.timed.1))
+      (wants has_failed u.refusal (is_head_only x.0) u.want) u.talk
 
-  kept_untimed : (outs : List Timed) (o : Arrival)
-      → Untimed machine zone old new trusted stood StaysHere outs o → Kept
-  kept_untimed outs o u = kept_all outs (firsts old.left old.given new.given outs (HasNext o) u.begins (no_moment old.given new.given new.was_none outs u.clock)) u.talk
+  kept_untimed : (o : Arrival)
+      → Untimed machine zone old new trusted stood StaysHere course.outs o → Kept
+  kept_untimed o u = kept_all (answered_first (HasNext o) u.begins (no_moment old.given new.given new.was_none course.outs u.clock)) u.talk
 
-  kept_broken : (outs : List Timed) (x : Timed)
-      → Broken machine zone old new trusted stood StaysHere outs x → Kept
-  kept_broken outs x b =
-      kept_short zone AreFirstHere old.held new.held was_kept stands leaves trusted stood fit outs x
-      (firsts old.left old.given new.given (outs ++ x ∷ []) (λ rest. ⊤) b.begins (no_more old.given new.given (outs ++ x ∷ []) b.timed.1)) b.talk
+  kept_broken : (x : Timed) → course.last ≡ Some x
+      → Broken machine zone old new trusted stood StaysHere course.outs x → Kept
+  kept_broken x last b =
+      kept_short zone AreFirstHere old.held new.held was_kept stands leaves trusted stood fit course.outs x (with_last x last b.begins b.timed.1) b.talk
 
-  kept_unwritten : (outs : List Timed) (x : Timed)
-      → Unwritten machine zone old new trusted stood StaysHere outs x StaysHere → Kept
-  kept_unwritten outs x u = kept_all outs (firsts old.left old.given new.given outs (HasNext x.0) u.begins (one_more old.given new.given outs x u.timed.1)) u.talk
+  kept_unwritten : (x : Timed)
+      → Unwritten machine zone old new trusted stood StaysHere course.outs x StaysHere → Kept
+  kept_unwritten x u = kept_all (answered_first (HasNext x.0) u.begins (one_more old.given new.given course.outs x u.timed.1)) u.talk
 
-  kept_acted : (outs : List Timed) (x : Timed)
-      → Unwritten machine zone old new trusted stood StaysHere outs x
+  kept_acted : (x : Timed) → course.last ≡ Some x
+      → Unwritten machine zone old new trusted stood StaysHere course.outs x
       (HasActed machine zone old new trusted stood StaysHere x) → Kept
-  kept_acted outs x u =
-      kept_short zone AreFirstHere old.held new.held was_kept stands leaves trusted stood fit outs x
-      (firsts old.left old.given new.given (outs ++ x ∷ []) (λ rest. ⊤) u.next (no_more old.given new.given (outs ++ x ∷ []) u.timed.1))
-      (silent zone trusted stood StaysHere old.held new.held outs x u.talk)
+  kept_acted x last u =
+      kept_short zone AreFirstHere old.held new.held was_kept stands leaves trusted stood fit course.outs x (with_last x last u.next u.timed.1)
+      (silent zone trusted stood StaysHere old.held new.held course.outs x u.talk)
 
   -- however serving ended
   kept : (budget : ℕ) (end : ServeEnd) → ServeHere machine budget end → Kept
-  kept budget Closed (inl ended) = kept_answered ended.0 (λ rest. rest ≡ []) ended.1
-  kept budget Closed (inr (inl closed)) = kept_answered closed.0 (λ rest. ⊤) closed.1
-  kept budget Closed (inr (inr want)) = kept_unserved want.0 want.1 (λ tail fixed. tail ≡ fixed) all_of want.2
-  kept budget Cut cut = kept_answered cut.0 IsCut cut.1
-  kept budget ReadFault failed = kept_answered failed.0 (λ rest. ⊤) failed.1
+  kept budget Closed (inl ended) = kept_answered (λ rest. rest ≡ []) ended.0.1
+  kept budget Closed (inr (inl closed)) = kept_answered (λ rest. ⊤) closed.0.1
+  kept budget Closed (inr (inr want)) = kept_unserved want.0 (λ tail fixed. tail ≡ fixed) want.1 all_of want.2
+  kept budget Cut cut = kept_answered IsCut cut.0.1
+  kept budget ReadFault failed = kept_answered (λ rest. ⊤) failed.0.1
   kept budget WriteFault failed = elim failed.0.2 [
     | inl b ↦ kept_broken failed.0.0 failed.0.1 b
-    | inr u ↦ kept_unserved failed.0.0 failed.0.1 IsFront some_of u
+    | inr u ↦ kept_unserved failed.0.0 IsFront failed.0.1 some_of u
   ]
-  kept budget Unkept failed = elim failed.2 [
-    | inl u ↦ kept_unwritten failed.0 failed.1 u
-    | inr u ↦ kept_acted failed.0 failed.1 u
+  kept budget Unkept cut = elim cut.0.2 [
+    | inl u ↦ kept_unwritten cut.0.0 u
+    | inr u ↦ kept_acted cut.0.0 cut.0.1 u
   ]
-  kept budget ClockFault none = kept_untimed none.0 none.1 none.2
-  kept budget ReadsSpent used = kept_answered used.0 (λ rest. ⊤) used.1
-  kept budget Memory refused = kept_answered [] (λ rest. ⊤) refused.0
+  kept budget ClockFault none = kept_untimed none.1.0 none.1.1
+  kept budget ReadsSpent used = kept_answered (λ rest. ⊤) used.0.1
+  kept budget Memory refused = kept_answered (λ rest. ⊤) refused.1.1
 
-  pub promised : (step : Step) (budget : ℕ) (end : ServeEnd) → ServeHere step budget end
+  promised : (step : Step) (budget : ℕ) (end : ServeEnd) → ServeHere step budget end
       → step ≡ machine → Kept
   promised step budget end is same = kept budget end (subst (λ (s : Step). ServeHere s budget end) same is)
+
+  -- with what a witness kept of the same course
+  pub one_course : (keeps : Course → Type 0) (step : Step) (budget : ℕ) (end : ServeEnd)
+      → ServeHere step budget end → keeps course
+      → OneCourse
+      (λ c. ServeIs step zone old new trusted stood StaysHere
+      (Wants step zone was_kept stands leaves) has_failed c budget end)
+      (λ c. step ≡ machine → KeepsPromises zone (AreFirstIn c old.left old.given new.given) old.held
+      new.held trusted was_kept stood stands leaves) keeps
+  one_course keeps step budget end is witnessed = record {
+    course = course;
+    talk = is;
+    promised = promised step budget end is;
+    witnessed = witnessed;
+  }

@@ -7,12 +7,12 @@ use Rattle.room_model.specs.Room.{Room}
 use Rattle.room_http_time.specs.declared.moments.TheConstants.{LAST_MOMENT}
 use Rattle.room_http.specs.declared.serving.ServeEnd.{ServeEnd}
 use Rattle.room_http.specs.declared.serving.ServeEnd.TheVariants.{Closed, Cut, ReadFault, WriteFault, ClockFault, Unkept, ReadsSpent, Memory}
-use Rattle.room_service.specs.Rooms.{Step, IsWant}
+use Rattle.room_service.specs.Rooms.{Step}
 use Rattle.room_http.specs.Arrivals.{Arrival, is_head_only}
 use Rattle.room_http_time.specs.Moments.{HasNoMoment}
 use Rattle.room_http_answers.specs.Replies.{fixed_bytes}
 use Rattle.room_http_time.specs.declared.zones.Zone.{Zone}
-use Rattle.room_http.specs.Talk.{Timed, Talks, IsFront, BreaksOff}
+use Rattle.room_http.specs.Talk.{Timed, Talks, IsCaused, IsFront, BreaksOff}
 
 -- serving ends with an answer in one of these ways
 abbrev pub EndsAnswering : ServeEnd → Type 0
@@ -26,32 +26,33 @@ EndsAnswering ReadsSpent = ⊥
 EndsAnswering Memory = ⊥
 
 module _ (step : Step) (zone : Zone) (held holds given gives : Option (List ℕ))
-    (write_failed was_none : Bool)
+    (write_failed was_none witness_failed : Bool)
     (trusted : Type 0) (stood stands : List Terminal → Room → Type 0)
-    (wants : Timed → List Terminal → Room → Type 0) (o : Arrival) where
-  -- the arrival had a moment
-  abbrev pub IsAt : ℕ → Type 0
-  IsAt at = (at ≤ LAST_MOMENT) × Appends given gives (at ∷ [])
+    (wants : Timed → List Terminal → Room → Type 0) (failed : Type 0)
+    (at : ℕ) (o : Arrival) where
+  -- the arrival had this moment
+  abbrev pub IsAt : Type 0
+  IsAt = (at ≤ LAST_MOMENT) × Appends given gives (at ∷ [])
 
   -- it was answered, or serving ends with it
   abbrev pub Answers : Result (Unit {0}) ServeEnd → Type 0
-  Answers (Ok done) = (at : ℕ) × IsAt at × (write_failed ≡ false)
+  Answers (Ok done) = IsAt × (write_failed ≡ false)
       × Talks step zone trusted stood held holds ((o, at) ∷ [])
       (λ terminals after tail. stands terminals after × (tail ≡ []))
-  Answers (Err Closed) = (at : ℕ) × IsAt at × ((r : Refusal) × IsWant r
+  Answers (Err Closed) = IsAt × ((r : Refusal) × IsCaused failed r
       × Talks step zone trusted stood held holds []
       (λ terminals after tail. wants (o, at) terminals after
       × (tail ≡ fixed_bytes r (is_head_only o))))
-  Answers (Err WriteFault) = (at : ℕ) × IsAt at × (write_failed ≡ true)
+  Answers (Err WriteFault) = IsAt × (write_failed ≡ true)
       × (Talks step zone trusted stood held holds []
       (λ terminals after tail. BreaksOff step zone terminals stands after (o, at) tail)
-      ⊎ ((r : Refusal) × IsWant r × Talks step zone trusted stood held holds []
+      ⊎ ((r : Refusal) × IsCaused failed r × Talks step zone trusted stood held holds []
       (λ terminals after tail. wants (o, at) terminals after
       × IsFront tail (fixed_bytes r (is_head_only o)))))
   Answers (Err ClockFault) = HasNoMoment given gives was_none []
       × Talks step zone trusted stood held holds []
       (λ terminals after tail. stands terminals after × (tail ≡ []))
-  Answers (Err Unkept) = (at : ℕ) × IsAt at
+  Answers (Err Unkept) = IsAt × (witness_failed ≡ true)
       × (Talks step zone trusted stood held holds []
       (λ terminals after tail. stands terminals after × (tail ≡ []))
       ⊎ Talks step zone trusted stood held holds []

@@ -1,11 +1,11 @@
--- What is found of the event that a request asks for.
+-- What is found of the event that a message asks for.
 use Rattle.std.specs.Prelude.{◌≡◌, ◌⊎◌, ℕ, List, [], ◌∷◌, Option, Some, None, true, Result, Ok, Err, MatchResult}
 use Rattle.room_types.specs.declared.asks.Ask.{Ask}
 use Rattle.room_types.specs.declared.asks.Event.{Event}
 use Rattle.room_types.specs.declared.asks.Who.{Who}
 use Rattle.room_types.specs.declared.fleet.Terminal.{Terminal}
 use Rattle.room_types.specs.declared.refusals.Refusal.{Refusal}
-use Rattle.room_types.specs.declared.refusals.Refusal.TheVariants.{BadBody, Memory, NoTerminal}
+use Rattle.room_types.specs.declared.refusals.Refusal.TheVariants.{BadBody, Memory, NoTerminal, Storage}
 use Rattle.room_model.specs.Room.{Room}
 use Rattle.room_model.specs.Step.{IsAddressed}
 use Rattle.room_http_requests.specs.declared.asking.Request.{Request}
@@ -13,12 +13,9 @@ use Rattle.room_http_requests.specs.Roles.{is_known}
 use Rattle.room_http_messages.specs.declared.messages.Message.{Message}
 use Rattle.room_http_messages.specs.Layouts.{Shows}
 use Rattle.room_http_messages.specs.Messages.{WholeMessage}
-use Rattle.room_http.specs.declared.arrivals.Arrived.{Arrived}
 use Rattle.room_http.specs.Events.{AsksFor, IsAskFor, named}
-use Rattle.room_http.specs.Arrivals.{Arrival, IsShown}
 use Rattle.room_http_time.specs.declared.zones.Zone.{Zone}
 use Rattle.room_service.specs.Rooms.{IsWant}
-use Rattle.room_http.specs.Talk.{Finds}
 
 -- what is wanted was found, or there was no memory to find it
 abbrev pub FindsAsk : Zone → Option Request → Result Ask Refusal → Type 0
@@ -27,8 +24,9 @@ FindsAsk zone given result =
     (λ asks. (w : Request) × (given ≡ Some w) × IsAskFor zone w asks)
     (λ refusal. (refusal ≡ Memory) ⊎ ((refusal ≡ BadBody) × (given ≡ None)))
 
--- The room was asked who shows the token of a field, and stayed as it was.
-pub record FindsTerminal {M : Type 0} (is_trusted : M → Type 0)
+-- The room was asked who shows the token of a field, and stayed as it was. Storage is wanting only
+-- where that call was refused.
+pub record FindsTerminal {M : Type 0} (is_trusted has_failed : M → Type 0)
     (stands : M → List Terminal → Room → Type 0) (old new : M) (field : Option (List ℕ))
     (result : Result Who Refusal) : Type 0 where
   pub trusted : is_trusted new → is_trusted old
@@ -38,19 +36,23 @@ pub record FindsTerminal {M : Type 0} (is_trusted : M → Type 0)
       → MatchResult result
       (λ who. (named terminals field ≡ Some who) × (is_known who room ≡ true))
       (λ refusal. IsWant refusal ⊎ ((refusal ≡ NoTerminal) × (named terminals field ≡ None)))
+  pub failed : result ≡ Err Storage → has_failed new
 
 -- The room was asked who shows a token, and stayed as it was. What was found holds of each message
--- or refusal that is shown, whatever room is kept.
-pub record FindsBy {M : Type 0} (is_trusted : M → Type 0)
-    (stands : M → List Terminal → Room → Type 0) (old new : M)
-    (finds : List Terminal → Result Event Refusal → Type 0)
-    (result : Result Event Refusal) : Type 0 where
+-- that is shown, whatever room is kept. Storage is wanting only where that call was refused.
+pub record FindsMessage {M : Type 0} (is_trusted has_failed : M → Type 0)
+    (stands : M → List Terminal → Room → Type 0) (old new : M) (zone : Zone) (shown : Message)
+    (at : ℕ) (result : Result Event Refusal) : Type 0 where
   pub trusted : is_trusted new → is_trusted old
   pub same : is_trusted new → (terminals : List Terminal) (room : Room) → stands old terminals room
       → stands new terminals room
   pub says : is_trusted new → (terminals : List Terminal) (room : Room) → stands old terminals room
-      → MatchResult result (λ event. finds terminals (Ok event) × IsAddressed event room)
-      (λ refusal. IsWant refusal ⊎ finds terminals (Err refusal))
+      → MatchResult result
+      (λ event. ((m : WholeMessage) → Shows shown m → AsksFor zone terminals m at (Ok event))
+      × IsAddressed event room)
+      (λ refusal. IsWant refusal
+      ⊎ ((m : WholeMessage) → Shows shown m → AsksFor zone terminals m at (Err refusal)))
+  pub failed : result ≡ Err Storage → has_failed new
 
 -- What was held is still kept, unless memory or storage was wanting; and even then a stop leaves
 -- the room that it was.
@@ -61,17 +63,3 @@ pub record LooksOnly {M T : Type 0} (is_trusted is_kept : M → Type 0)
       → MatchResult result (λ _. is_kept new) (λ refusal. IsWant refusal ⊎ is_kept new)
   pub left : is_trusted new → is_kept old → (terminals : List Terminal) (room : Room)
       → stands old terminals room → leaves new terminals (room ∷ [])
-
--- of a message
-abbrev pub FindsMessage : {M : Type 0} → (M → Type 0) → (M → List Terminal → Room → Type 0) → M → M
-    → Zone → Message → ℕ → Result Event Refusal → Type 0
-FindsMessage is_trusted stands old new zone shown at =
-    FindsBy is_trusted stands old new
-    (λ terminals found. (m : WholeMessage) → Shows shown m → AsksFor zone terminals m at found)
-
--- of a request
-abbrev pub FindsEvent : {M : Type 0} → (M → Type 0) → (M → List Terminal → Room → Type 0) → M → M
-    → Zone → Arrived → ℕ → Result Event Refusal → Type 0
-FindsEvent is_trusted stands old new zone request at =
-    FindsBy is_trusted stands old new
-    (λ terminals found. (o : Arrival) → IsShown request o → Finds zone terminals (o, at) found)

@@ -1,5 +1,5 @@
 -- What a witness keeps of what is served.
-use Rattle.std.specs.Prelude.{◌≡◌, ◌⊎◌, ◌<◌, ◌≤◌, ⊤, ℕ, List, [], ◌∷◌, ◌++◌, map, Option, Some, Result, Ok, Err}
+use Rattle.std.specs.Prelude.{◌≡◌, ◌⊎◌, ◌<◌, ◌≤◌, ⊤, ℕ, List, [], ◌∷◌, ◌++◌, map, Option, Some, None, Result, Ok, Err}
 use Rattle.std.specs.Io.KnownBytes.{Appends}
 use Rattle.std.specs.List.{concat}
 use Rattle.room_types.specs.declared.fleet.Terminal.{Terminal}
@@ -14,6 +14,7 @@ use Rattle.room_http.specs.declared.arrivals.Arrived.TheVariants.{Message, Refus
 use Rattle.room_http.specs.declared.serving.ServeEnd.{ServeEnd}
 use Rattle.room_http.specs.declared.serving.ServeEnd.TheVariants.{ClockFault}
 use Rattle.room_http.specs.Arrivals.{Arrival, Begins, HasNext, IsAlone, is_head_only, message, refused}
+use Rattle.room_http.specs.Course.{Course}
 use Rattle.room_http.specs.Talk.{IsFront, IsReplyTo, Timed}
 
 -- the witness keeps all these bytes more, or could keep some of the first of them
@@ -146,30 +147,31 @@ module _ (came : ℕ → List ℕ → List ℕ) (told : List ℕ → List ℕ) w
       ⊎ ((answer : List ℕ) × moved answer
       × (IsUnwritten x answer tail wrote ⊎ IsUnfinished x answer tail wrote))
 
-  -- what was kept and written of one arrival, where the room has not acted on it, or has acted and
-  -- this is its answer
-  abbrev pub KeepsOne : Type 0 → (Timed → List ℕ → Type 0) → Tapes → Tapes → Arrival
+  -- what was kept and written of one arrival at its moment, where the room has not acted on it, or
+  -- has acted and this is its answer
+  abbrev pub KeepsOne : Type 0 → (Timed → List ℕ → Type 0) → Tapes → Tapes → ℕ → Arrival
       → Result (Unit {0}) ServeEnd → Type 0
-  KeepsOne unmoved moved old new o (Ok done) = (at : ℕ) × (answer text : List ℕ)
+  KeepsOne unmoved moved old new at o (Ok done) = (answer text : List ℕ)
       × moved (o, at) answer × IsRecord (o, at) answer text × Grow old new (at ∷ []) text answer
-  KeepsOne unmoved moved old new o (Err ClockFault) = unmoved × DoesNothing old new
-  KeepsOne unmoved moved old new o (Err end) =
-      (at : ℕ) × (tail wrote : List ℕ) × IsBegun unmoved (moved (o, at)) (o, at) tail wrote
+  KeepsOne unmoved moved old new at o (Err ClockFault) = unmoved × DoesNothing old new
+  KeepsOne unmoved moved old new at o (Err end) =
+      (tail wrote : List ℕ) × IsBegun unmoved (moved (o, at)) (o, at) tail wrote
       × Grow old new (at ∷ []) tail wrote
 
   -- What was kept and written of a connection, where `moved` says on which arrivals the room has
-  -- acted, and what their answers are: the first arrivals were answered, each after its record was
-  -- kept, and no more was done; or of the next one so much.
+  -- acted, and what their answers are: the arrivals of the course were answered, each after its
+  -- record was kept, and no more was done; or of the last one so much.
   pub record KeepsEach (moved : List Timed → List (List ℕ) → Type 0) (left : Option (List ℕ))
-      (old new : Tapes) : Type 0 where
-    pub outs : List Timed
-    pub answers : List (List ℕ)
+      (old new : Tapes) (course : Course) : Type 0 where
     pub text : List ℕ
-    pub kept : AreKept outs answers text
-    pub ends : (moved outs answers × BeginsThen left outs (λ rest. ⊤)
+    pub kept : AreKept course.outs course.answers text
+    pub ends : ((course.last ≡ None) × moved course.outs course.answers
+        × BeginsThen left course.outs (λ rest. ⊤)
         × ((late : List ℕ) × IsNoMoment late
-        × Grow old new (map (λ x. x.1) outs ++ late) text (concat answers)))
-        ⊎ ((x : Timed) × (tail wrote : List ℕ) × BeginsThen left outs (HasNext x.0)
-        × IsBegun (moved outs answers) (λ answer. moved (outs ++ x ∷ []) (answers ++ answer ∷ []))
-        x tail wrote
-        × Grow old new (map (λ x. x.1) (outs ++ x ∷ [])) (text ++ tail) (concat answers ++ wrote))
+        × Grow old new (map (λ x. x.1) course.outs ++ late) text (concat course.answers)))
+        ⊎ ((x : Timed) × (course.last ≡ Some x) × (tail wrote : List ℕ)
+        × BeginsThen left course.outs (HasNext x.0)
+        × IsBegun (moved course.outs course.answers)
+        (λ answer. moved (course.outs ++ x ∷ []) (course.answers ++ answer ∷ [])) x tail wrote
+        × Grow old new (map (λ x. x.1) (course.outs ++ x ∷ [])) (text ++ tail)
+        (concat course.answers ++ wrote))

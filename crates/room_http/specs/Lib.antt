@@ -6,8 +6,10 @@ pub mod Replies
 pub mod Runs
 pub mod Promises
 pub mod Served
+pub mod Course
 pub mod Laws
 pub mod Kept
 pub mod Answering
 pub mod Reads
 pub mod Serving
+pub mod Towards

@@ -1,8 +1,10 @@
 -- What the room promises of every run, whatever is asked: the machine's laws, of messages and the
 -- bytes that answer them.
-use Rattle.std.specs.Prelude.{◌≡◌, ℕ, List, [], ◌∷◌, ◌++◌, None, Some, Ok, Err, is_ok, true}
+use Rattle.std.specs.List.{list_all}
+use Rattle.std.specs.Prelude.{◌≡◌, ⊤, ℕ, List, [], ◌∷◌, ◌++◌, None, Some, Result, Ok, Err, is_ok, true}
 use Rattle.room_place.specs.Choice.{Among}
 use Rattle.room_types.specs.Texts.{Callsign}
+use Rattle.room_types.specs.declared.answers.Answer.{Answer}
 use Rattle.room_types.specs.declared.asks.Ask.{Ask}
 use Rattle.room_types.specs.declared.asks.Ask.TheVariants.{Call, Report}
 use Rattle.room_types.specs.declared.asks.CallForm.{CallForm}
@@ -10,11 +12,14 @@ use Rattle.room_types.specs.declared.asks.Event.{Event}
 use Rattle.room_types.specs.declared.asks.Press.{Press}
 use Rattle.room_types.specs.declared.fleet.Terminal.{Terminal}
 use Rattle.room_types.specs.declared.refusals.Refusal.{Refusal}
+use Rattle.room_types.specs.declared.refusals.Refusal.TheVariants.{OutsideArea, SerialReused}
 use Rattle.room_types.specs.declared.tables.Assignment.{Assignment}
 use Rattle.room_types.specs.declared.tables.Turn.{Turn}
 use Rattle.room_model.specs.Alone.{alone, told_alone}
+use Rattle.room_model.specs.Calls.{outside_again}
 use Rattle.room_model.specs.Crossing.{crossings}
-use Rattle.room_model.specs.Events.{by_crew, by_position, received}
+use Rattle.room_model.specs.Events.{IsUnlent, NobodyLends, by_crew, by_position, is_everyday, received}
+use Rattle.room_model.specs.Queries.{kept_call}
 use Rattle.room_model.specs.Room.{IsInOrder, Room}
 use Rattle.room_model.specs.Run.{told}
 use Rattle.room_model.specs.Shares.{mine, own}
@@ -44,18 +49,32 @@ pub record IsDeskAlike (d : ℕ) (xs ys : List Exchange) (room other : Room) : T
       → answers_of (with_desk d xs) ≡ answers_of (with_desk d ys)
   pub shares : own d (room_by xs room) ≡ own d (room_by ys other)
 
--- A message of some kind that was accepted, and is sent again anywhere later, is told its first
--- answer and changes nothing.
-abbrev pub ActsOnce : List Exchange → Room → (ℕ → Event) → Type 0
-ActsOnce xs room sent =
+-- A message of some kind whose first answer is of this sort, and that is sent again anywhere later,
+-- is told its first answer and changes nothing.
+abbrev pub ActsOnce : List Exchange → Room → (ℕ → Event) → (Result Answer Refusal → Type 0) → Type 0
+ActsOnce xs room sent lasts =
     (before between rest : List Exchange) (first again : Exchange) (at later : ℕ)
     → xs ≡ before ++ first ∷ between ++ again ∷ rest
     → first.found ≡ Ok (sent at) → again.found ≡ Ok (sent later)
-    → is_ok (answer_to (sent at) (room_by before room)) ≡ true
+    → lasts (answer_to (sent at) (room_by before room))
     → IsTold first (answer_to (sent at) (room_by before room))
     × IsTold again (answer_to (sent at) (room_by before room))
     × (room_by (before ++ first ∷ between ++ again ∷ []) room
     ≡ room_by (before ++ first ∷ between) room)
+
+-- A call that was refused because its place is in no division, and that is sent again anywhere
+-- later, is refused and changes nothing: for its place, or for its serial where that is another
+-- call's by then.
+abbrev pub StaysOutside : List Exchange → Room → ℕ → CallForm → Type 0
+StaysOutside xs room position form =
+    (before between rest : List Exchange) (first again : Exchange) (at later : ℕ)
+    → xs ≡ before ++ first ∷ between ++ again ∷ rest
+    → first.found ≡ Ok (by_position position (Call form) at)
+    → again.found ≡ Ok (by_position position (Call form) later)
+    → answer_to (by_position position (Call form) at) (room_by before room) ≡ Err OutsideArea
+    → let now = room_by (before ++ first ∷ between) room in
+    IsTold again (Err (outside_again (kept_call position form.serial now)))
+    × (room_by (before ++ first ∷ between ++ again ∷ []) room ≡ now)
 
 pub record Promises (terminals : List Terminal) (xs : List Exchange) (room : Room) : Type 0 where
   -- the room is asked by the terminal whose token the message shows, at the message's moment
@@ -75,6 +94,11 @@ pub record Promises (terminals : List Terminal) (xs : List Exchange) (room : Roo
       → IsWellFormed other → IsRun zone others ys other → own d room ≡ own d other
       → received (crossings d (events_of xs) room) ≡ received (crossings d (events_of ys) other)
       → IsDeskAlike d xs ys room other
+  -- where nothing is lent or offered, and nobody offers a vehicle but so that it is refused, a
+  -- division is handed its desk's requests, calls placed in it and reports of vehicles that it
+  -- holds, and nothing else
+  pub desk_by_itself : (d : ℕ) → IsUnlent room → NobodyLends (events_of xs) room
+      → list_all is_everyday (crossings d (events_of xs) room) ≡ true
   -- a crew is answered by its vehicle's rows, and these afterwards are made of them
   pub crew_alike : (before rest : List Exchange) (x : Exchange) (c : Callsign) (ask : Ask) (at : ℕ)
       (other : Room)
@@ -92,7 +116,13 @@ pub record Promises (terminals : List Terminal) (xs : List Exchange) (room : Roo
   -- in each of these no vehicle is sent to two incidents
   pub sent_once : (before rest : List Exchange) → xs ≡ before ++ rest
       → AreSentOnce (room_by before room)
-  -- a report or a call that is sent again acts once
-  pub report_once : (c : Callsign) (press : Press) → ActsOnce xs room (by_crew c (Report press))
+  -- a report that is sent again acts once, be it accepted or refused
+  pub report_once : (c : Callsign) (press : Press)
+      → ActsOnce xs room (by_crew c (Report press)) (λ answer. ⊤)
+  -- so does a call that is accepted, or refused because its serial is another's
   pub call_once : (position : ℕ) (form : CallForm)
-      → ActsOnce xs room (by_position position (Call form))
+      → ActsOnce xs room (by_position position (Call form)) (λ answer. is_ok answer ≡ true)
+  pub serial_once : (position : ℕ) (form : CallForm)
+      → ActsOnce xs room (by_position position (Call form)) (λ answer. answer ≡ Err SerialReused)
+  -- and one whose place is in no division stays refused
+  pub call_outside : (position : ℕ) (form : CallForm) → StaysOutside xs room position form

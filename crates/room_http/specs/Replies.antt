@@ -6,16 +6,16 @@ use Rattle.room_model.specs.Room.{Room}
 use Rattle.room_http.specs.declared.arrivals.Arrived.{Arrived}
 use Rattle.room_http.specs.Arrivals.{Arrival, IsShown}
 use Rattle.room_http_time.specs.declared.zones.Zone.{Zone}
-use Rattle.room_service.specs.Rooms.{Step, IsWant}
-use Rattle.room_http.specs.Talk.{IsReplyTo, LeavesNext}
+use Rattle.room_service.specs.Rooms.{Step}
+use Rattle.room_http.specs.Talk.{IsCaused, IsReplyTo, LeavesNext}
 
 -- the bytes are the answer, and the room is the one after it; or memory or storage is wanting, and
 -- the room is as it was
-pub record Replies {M A : Type 0} (step : Step) (is_trusted : M → Type 0)
+pub record Replies {M A : Type 0} (step : Step) (is_trusted has_failed : M → Type 0)
     (stands : M → List Terminal → Room → Type 0) (old new : M) (zone : Zone) (request : Arrived)
     (at : ℕ) (result : Result (Vec ℕ A) Refusal) : Type 0 where
   pub trusted : is_trusted new → is_trusted old
-  pub wants : IfErr result IsWant
+  pub wants : IfErr result (IsCaused (has_failed new))
   pub says : is_trusted new → (terminals : List Terminal) (room : Room) → stands old terminals room
       → MatchResult result
       (λ bytes. (o : Arrival) → IsShown request o

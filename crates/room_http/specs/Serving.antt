@@ -1,5 +1,5 @@
 -- How a connection is served, and how that ends.
-use Rattle.std.specs.Prelude.{◌≡◌, ◌⊎◌, ◌≤◌, ℕ, List, [], ◌∷◌, ◌++◌, length, map, All, Bool, true, ⊤, Option, Some}
+use Rattle.std.specs.Prelude.{◌≡◌, ◌⊎◌, ◌≤◌, ℕ, List, [], ◌∷◌, ◌++◌, length, map, All, Bool, true, ⊤, Option, Some, None}
 use Rattle.std.specs.Io.KnownBytes.{Appends}
 use Rattle.room_types.specs.declared.fleet.Terminal.{Terminal}
 use Rattle.room_types.specs.declared.refusals.Refusal.{Refusal}
@@ -10,11 +10,12 @@ use Rattle.room_http_messages.specs.Streams.{CountsBy}
 use Rattle.room_http.specs.declared.serving.ServeEnd.{ServeEnd}
 use Rattle.room_http.specs.declared.serving.ServeEnd.TheVariants.{Closed, Cut, ReadFault, WriteFault, ClockFault, Unkept, ReadsSpent, Memory}
 use Rattle.room_http_time.specs.declared.moments.TheConstants.{LAST_MOMENT}
-use Rattle.room_service.specs.Rooms.{Step, IsWant}
+use Rattle.room_service.specs.Rooms.{Step}
 use Rattle.room_http.specs.Arrivals.{Arrival, is_head_only, is_closing, Begins, HasNext}
 use Rattle.room_http_time.specs.declared.zones.Zone.{Zone}
 use Rattle.room_http_time.specs.Moments.{HasNoMoment}
-use Rattle.room_http.specs.Talk.{Timed, IsFront, BreaksOff, Talks}
+use Rattle.room_http.specs.Course.{Course}
+use Rattle.room_http.specs.Talk.{Timed, IsCaused, IsFront, BreaksOff, Talks}
 
 -- what is known of a connection: the bytes to come, the reads made, the bytes written, and the
 -- moments given
@@ -24,8 +25,8 @@ pub record Sides : Type 0 where
   pub held : Option (List ℕ)
   pub given : Option (List ℕ)
 
--- the same at its end, but for the bytes to come, and how the reader, the writer and the clock were
--- left
+-- the same at its end, but for the bytes to come, and how the reader, the writer, the clock and the
+-- witness were left
 pub record Finish : Type 0 where
   pub reads : Option ℕ
   pub held : Option (List ℕ)
@@ -34,6 +35,7 @@ pub record Finish : Type 0 where
   pub read_ended : Bool
   pub write_failed : Bool
   pub was_none : Bool
+  pub witness_failed : Bool
 
 -- so many reads were made, or fewer
 abbrev pub ReadsAtMost : ℕ → Option ℕ → Option ℕ → Type 0
@@ -94,8 +96,9 @@ module _ (step : Step) (zone : Zone) (old : Sides) (new : Finish) (trusted : Typ
   abbrev pub HasActed : Timed → List Terminal → Room → Type 0
   HasActed x terminals room = BreaksOff step zone terminals stands room x []
 
-  -- where memory or storage was wanting for an arrival, so much holds of the room
-  module _ (wants : Timed → List Terminal → Room → Type 0) where
+  -- where memory or storage was wanting for an arrival, so much holds of the room; and so much
+  -- where its last call was refused
+  module _ (wants : Timed → List Terminal → Room → Type 0) (failed : Type 0) where
     -- The arrivals were answered. For the next one memory or storage was wanting: the room stayed
     -- as it was, and of the fixed answer so much was written.
     pub record Unserved (outs : List Timed) (x : Timed)
@@ -104,28 +107,38 @@ module _ (step : Step) (zone : Zone) (old : Sides) (new : Finish) (trusted : Typ
       pub next : Reaches (outs ++ x ∷ []) (λ rest. ⊤)
       pub timed : AreTimed (outs ++ x ∷ [])
       pub refusal : Refusal
-      pub want : IsWant refusal
+      pub want : IsCaused failed refusal
       pub talk : Spoke outs (λ terminals after tail. wants x terminals after
           × so_much tail (fixed_bytes refusal (is_head_only x.0)))
 
-    -- How serving ended, which was granted so many reads. Closed: the stream ended between
-    -- messages, an answer closed, or memory or storage was wanting and its fixed answer closed.
-    abbrev pub ServeIs : ℕ → ServeEnd → Type 0
-    ServeIs budget Closed =
-        ((outs : List Timed) × Answered outs (λ rest. rest ≡ []) × (new.read_ended ≡ true))
-        ⊎ ((outs : List Timed) × Answered outs (λ rest. ⊤) × EndsClosing outs)
-        ⊎ ((outs : List Timed) × (x : Timed) × Unserved outs x (λ tail fixed. tail ≡ fixed))
-    ServeIs budget Cut = (outs : List Timed) × Answered outs IsCut × (new.read_ended ≡ true)
-    ServeIs budget ReadFault =
-        (outs : List Timed) × Answered outs (λ rest. ⊤) × (new.read_failed ≡ true)
-    ServeIs budget WriteFault = ((outs : List Timed) × (x : Timed)
-        × (Broken outs x ⊎ Unserved outs x IsFront)) × (new.write_failed ≡ true)
-    ServeIs budget Unkept = (outs : List Timed) × (x : Timed)
-        × (Unwritten outs x stands ⊎ Unwritten outs x (HasActed x))
-    ServeIs budget ClockFault = (outs : List Timed) × (o : Arrival) × Untimed outs o
-    ServeIs budget ReadsSpent =
-        (outs : List Timed) × Answered outs (λ rest. ⊤) × CountsBy budget old.reads new.reads
-    ServeIs budget Memory = Answered [] (λ rest. ⊤) × CountsBy 0 old.reads new.reads
+    -- of this course
+    module _ (course : Course) where
+      -- all that had a moment was answered wholly
+      abbrev pub IsWhole : (List ℕ → Type 0) → Type 0
+      IsWhole follows = (course.last ≡ None) × Answered course.outs follows
+
+      -- serving ended with an arrival that had a moment, and of it so much holds
+      abbrev pub EndsWith : (Timed → Type 0) → Type 0
+      EndsWith holds = (x : Timed) × (course.last ≡ Some x) × holds x
+
+      -- How serving ended, which was granted so many reads. Closed: the stream ended between
+      -- messages, an answer closed, or memory or storage was wanting and its fixed answer closed.
+      abbrev pub ServeIs : ℕ → ServeEnd → Type 0
+      ServeIs budget Closed = (IsWhole (λ rest. rest ≡ []) × (new.read_ended ≡ true))
+          ⊎ (IsWhole (λ rest. ⊤) × EndsClosing course.outs)
+          ⊎ EndsWith (λ x. Unserved course.outs x (λ tail fixed. tail ≡ fixed))
+      ServeIs budget Cut = IsWhole IsCut × (new.read_ended ≡ true)
+      ServeIs budget ReadFault = IsWhole (λ rest. ⊤) × (new.read_failed ≡ true)
+      ServeIs budget WriteFault =
+          EndsWith (λ x. Broken course.outs x ⊎ Unserved course.outs x IsFront)
+          × (new.write_failed ≡ true)
+      ServeIs budget Unkept = EndsWith (λ x. Unwritten course.outs x stands
+          ⊎ Unwritten course.outs x (HasActed x)) × (new.witness_failed ≡ true)
+      ServeIs budget ClockFault =
+          (course.last ≡ None) × ((o : Arrival) × Untimed course.outs o)
+      ServeIs budget ReadsSpent = IsWhole (λ rest. ⊤) × CountsBy budget old.reads new.reads
+      ServeIs budget Memory =
+          (course.outs ≡ []) × IsWhole (λ rest. ⊤) × CountsBy 0 old.reads new.reads
 
 -- the clock gave a moment for each of these arrivals
 abbrev pub HasMoments : Option (List ℕ) → Option (List ℕ) → List Arrival → Type 0

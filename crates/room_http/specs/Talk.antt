@@ -5,6 +5,7 @@ use Rattle.room_types.specs.declared.answers.Answer.{Answer}
 use Rattle.room_types.specs.declared.asks.Event.{Event}
 use Rattle.room_types.specs.declared.fleet.Terminal.{Terminal}
 use Rattle.room_types.specs.declared.refusals.Refusal.{Refusal}
+use Rattle.room_types.specs.declared.refusals.Refusal.TheVariants.{Memory, Storage}
 use Rattle.room_model.specs.Room.{Room}
 use Rattle.room_http_answers.specs.Replies.{IsReply}
 use Rattle.room_http.specs.Events.{AsksFor}
@@ -40,6 +41,10 @@ module _ (step : Step) (zone : Zone) (terminals : List Terminal) where
   IsTalk room (x ∷ more) after bytes =
       (next : Room) × (first : List ℕ) × (others : List ℕ) × (bytes ≡ first ++ others)
       × IsReplyTo room x next first × IsTalk next more after others
+
+-- memory is wanting, or storage, and then the last call of the room was refused
+abbrev pub IsCaused : Type 0 → Refusal → Type 0
+IsCaused failed refusal = (refusal ≡ Memory) ⊎ ((refusal ≡ Storage) × failed)
 
 -- The room is this one. Where what was held at the beginning was kept, a stop leaves this room
 -- alone.

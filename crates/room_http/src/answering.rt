@@ -1,8 +1,9 @@
 //! What arrives, answered.
-ghost use Rattle.std.specs.Prelude.{◌≡◌, false, IfErr, OnOk};
+ghost use Rattle.std.specs.Prelude.{◌≡◌, ◌≢◌, ℕ, false, Err, IfErr, OnOk};
 ghost use Rattle.room_http.specs.Arrivals.{Arrival, IsBounded, IsShown};
 ghost use Rattle.room_http.specs.Answering.{Answers, EndsAnswering};
 ghost use Rattle.room_http.specs.Kept.{Acts, KeepsOne, Unmoved};
+ghost use Rattle.room_http.specs.declared.serving.ServeEnd.TheVariants as endings;
 ghost use Rattle.room_http_messages.specs.Streams.{WritesAll};
 ghost use Rattle.room_http.specs.Served.{IsAtMost, KeepsPromises};
 ghost use Rattle.room_http.specs.Talk.{Stays, Wants};
@@ -40,21 +41,14 @@ pub fn answer<W: Sink, M: Room, C: Clock, N: Witness>(
     ensures ready { M.is_ready room.new }
     ensures trusted { M.is_trusted room.new → M.is_trusted room.old }
     ensures ends { IfErr result EndsAnswering }
-    ensures answers { (o : Arrival) → IsShown arrived.now o → Answers M.step zone.now
+    ensures answers { (o : Arrival) → IsShown arrived.now o → (at : ℕ) × Answers M.step zone.now
         (W.held writer.old) (W.held writer.new) (C.given clock.old) (C.given clock.new)
-        (W.has_failed writer.new) (C.was_none clock.new)
+        (W.has_failed writer.new) (C.was_none clock.new) (N.has_failed witness.new)
         (M.is_trusted room.new) (M.stands room.old)
         (Stays (M.is_kept room.old) (M.stands room.new) (M.leaves_one_of room.new))
         (Wants M.step zone.now (M.is_kept room.old) (M.stands room.new) (M.leaves_one_of room.new))
-        o result }
-    ensures kept { M.is_trusted room.new → OnOk result (M.is_kept room.old
-        → M.is_kept room.new) }
-    ensures promised { M.step ≡ machine → (o : Arrival) → IsShown arrived.now o
-        → KeepsPromises zone.now (IsAtMost o (C.given clock.old) (C.given clock.new))
-        (W.held writer.old) (W.held writer.new)
-        (M.is_trusted room.new) (M.is_kept room.old)
-        (M.stands room.old) (M.stands room.new) (M.leaves_one_of room.new) }
-    ensures witnessed { (o : Arrival) → IsShown arrived.now o → KeepsOne N.came N.told
+        (M.has_failed room.new) at o result
+        × KeepsOne N.came N.told
         (Unmoved (M.is_trusted room.new) (M.stands room.old) (M.stands room.new))
         (Acts M.step zone.now (M.is_trusted room.new) (M.stands room.old) (M.stands room.new))
         (record {
@@ -67,7 +61,16 @@ pub fn answer<W: Sink, M: Room, C: Clock, N: Witness>(
           kept = N.held witness.new;
           held = W.held writer.new;
         })
-        o result }
+        at o result }
+    ensures failed { result ≢ Err endings.Unkept
+        → N.has_failed witness.new ≡ N.has_failed witness.old }
+    ensures kept { M.is_trusted room.new → OnOk result (M.is_kept room.old
+        → M.is_kept room.new) }
+    ensures promised { M.step ≡ machine → (o : Arrival) → IsShown arrived.now o
+        → KeepsPromises zone.now (IsAtMost o (C.given clock.old) (C.given clock.new))
+        (W.held writer.old) (W.held writer.new)
+        (M.is_trusted room.new) (M.is_kept room.old)
+        (M.stands room.old) (M.stands room.new) (M.leaves_one_of room.new) }
 {
     let Some(at) = moment(clock) else {
         return Err(ServeEnd::ClockFault);
@@ -108,6 +111,7 @@ fn tell<W: Sink, N: Witness>(
     requires { W.has_failed writer.old ≡ false }
     ensures written { WritesAll W.held W.has_failed writer.old writer.new answer.now result }
     ensures kept { N.held witness.new ≡ N.held witness.old }
+    ensures failed { N.has_failed witness.new ≡ N.has_failed witness.old }
 {
     let written = write_all(writer, answer);
     witness.answered(asked, answer);

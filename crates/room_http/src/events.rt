@@ -4,15 +4,8 @@ ghost use Rattle.std.specs.Option.{option_map, option_copied};
 ghost use Rattle.room_http_requests.specs.Asking.{request_by};
 ghost use Rattle.room_http_requests.specs.declared.asking.Request.TheVariants as request;
 ghost use Rattle.room_http.specs.Events.{IsAskFor, token_of};
-ghost use Rattle.room_http.specs.Findings.{
-  FindsAsk,
-  FindsEvent,
-  FindsMessage,
-  FindsTerminal,
-  LooksOnly,
-};
+ghost use Rattle.room_http.specs.Findings.{FindsAsk, FindsMessage, FindsTerminal, LooksOnly};
 
-use crate::arrivals::Arrived;
 use room_http_messages::messages::Message;
 use room_http_requests::asking::{Request, ask_of};
 use room_http_requests::roles::Role;
@@ -42,8 +35,8 @@ fn token(field: Option<&[u8]>) -> Option<Token>
 fn terminal<M: Room>(alloc: Global, room: &mut M, message: &Message) -> Result<Who, Refusal>
     requires { M.is_ready room.old }
     ensures ready { M.is_ready room.new }
-    ensures terminal { FindsTerminal M.is_trusted M.stands room.old room.new (option_map (λ text.
-        text.now) message.now.terminal) result }
+    ensures terminal { FindsTerminal M.is_trusted M.has_failed M.stands room.old room.new
+        (option_map (λ text. text.now) message.now.terminal) result }
     ensures looks { LooksOnly M.is_trusted M.is_kept M.stands M.leaves_one_of room.old room.new
         result }
 {
@@ -87,7 +80,7 @@ fn ask(alloc: Global, zone: &Zone, target: &Target, body: &[u8]) -> Result<Ask, 
 
 /// The event that a message asks for. The path is looked at first, then the method, the terminal,
 /// its role and the body. Whose terminal it is, is noted once it is known.
-fn asked<M: Room>(
+pub fn event_of<M: Room>(
     alloc: Global,
     routes: &Routes,
     zone: &Zone,
@@ -98,8 +91,8 @@ fn asked<M: Room>(
 ) -> Result<Event, Refusal>
     requires { M.is_ready room.old }
     ensures ready { M.is_ready room.new }
-    ensures event { FindsMessage M.is_trusted M.stands room.old room.new zone.now message.now at
-        result }
+    ensures event { FindsMessage M.is_trusted M.has_failed M.stands room.old room.new zone.now
+        message.now at result }
     ensures looks { LooksOnly M.is_trusted M.is_kept M.stands M.leaves_one_of room.old room.new
         result }
 {
@@ -118,28 +111,5 @@ fn asked<M: Room>(
     match ask(alloc, zone, &target, message.body) {
         Ok(ask) => Ok(Event { who, ask, at }),
         Err(refusal) => Err(refusal),
-    }
-}
-
-/// The event that what has arrived asks for. Whose terminal asks, is noted once it is known.
-pub fn event_of<M: Room>(
-    alloc: Global,
-    routes: &Routes,
-    zone: &Zone,
-    room: &mut M,
-    arrived: &Arrived,
-    at: Moment,
-    asker: &mut Option<Who>,
-) -> Result<Event, Refusal>
-    requires { M.is_ready room.old }
-    ensures ready { M.is_ready room.new }
-    ensures event { FindsEvent M.is_trusted M.stands room.old room.new zone.now arrived.now at
-        result }
-    ensures looks { LooksOnly M.is_trusted M.is_kept M.stands M.leaves_one_of room.old room.new
-        result }
-{
-    match arrived {
-        Arrived::Message { message, .. } => { asked(alloc, routes, zone, room, message, at, asker) }
-        Arrived::Refused { refusal, .. } => Err(*refusal),
     }
 }

@@ -7,9 +7,10 @@ ghost use Rattle.room_model.specs.Room.{Room};
 ghost use Rattle.room_model.specs.WellFormed.{IsWellFormed};
 ghost use Rattle.room_http_time.specs.declared.zones.Zone.{Zone};
 ghost use Rattle.room_service.specs.Rooms.{machine};
+ghost use Rattle.room_http.specs.Kept.{AreReplies};
 ghost use Rattle.room_http.specs.Laws.{IsOneStream, IsOneTalk};
 ghost use Rattle.room_http.specs.Promises.{Promises};
-ghost use Rattle.room_http.specs.Runs.{Exchange, IsRun, IsRunOf, room_by};
+ghost use Rattle.room_http.specs.Runs.{Exchange, IsRun, IsRunOf, answers_of, arrivals_of, room_by};
 ghost use Rattle.room_http.specs.Talk.{IsTalk, Timed};
 
 /// A stream has the same messages however it was cut into pieces: two readings of it differ only in
@@ -48,4 +49,13 @@ pub fn a_run_keeps_the_promises()
     ensures { (zone : Zone) (terminals : List Terminal) (xs : List Exchange) (room : Room) →
         IsWellFormed room → IsRun zone terminals xs room →
         Promises terminals xs room }
+{}
+
+/// The answers that are kept of a course are those of its run: what is answered to equal arrivals
+/// at equal moments, one after another, is the same, each answer by itself.
+pub fn one_course()
+    ensures { (zone : Zone) (terminals : List Terminal) (room after : Room) (outs : List Timed)
+        (answers : List (List ℕ)) (xs : List Exchange) →
+        AreReplies machine zone terminals room outs answers after →
+        IsRun zone terminals xs room → arrivals_of xs ≡ outs → answers_of xs ≡ answers }
 {}

@@ -7,4 +7,5 @@ pub mod events;
 pub mod laws;
 pub mod replies;
 pub mod serving;
+pub mod towards;
 pub mod witnesses;

@@ -29,13 +29,19 @@ pub fn reply<M: Room>(
 ) -> Result<Vec<u8>, Refusal>
     requires { M.is_ready room.old }
     ensures ready { M.is_ready room.new }
-    ensures reply { Replies M.step M.is_trusted M.stands room.old room.new zone.now arrived.now at
-        result }
+    ensures reply { Replies M.step M.is_trusted M.has_failed M.stands room.old room.new zone.now
+        arrived.now at result }
     ensures keeps { KeepsReply M.step M.is_trusted M.is_kept M.stands M.leaves_one_of
         room.old room.new zone.now arrived.now at result }
 {
     let (head_only, closing) = (arrived.head_only(), arrived.is_closing());
-    match event_of(alloc, routes, zone, room, arrived, at, asker) {
+    let message = match arrived {
+        Arrived::Message { message, .. } => message,
+        Arrived::Refused { refusal, .. } => {
+            return refused(alloc, *refusal, at, head_only, closing);
+        }
+    };
+    match event_of(alloc, routes, zone, room, message, at, asker) {
         Ok(event) => room.act(alloc, &event, |answer| {
             render(alloc, answer, at, head_only, closing)
         }),

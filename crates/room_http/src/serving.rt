@@ -1,11 +1,13 @@
 //! A connection that is served.
-ghost use Rattle.std.specs.Prelude.{◌≡◌, ◌≤◌, false, length, IfErr, IfOk};
+ghost use Rattle.std.specs.Prelude.{◌≡◌, ◌≢◌, ◌≤◌, ◌⊎◌, false, length, IfErr, IfOk};
 ghost use Rattle.room_http_messages.specs.Layouts.{IsWhole};
 ghost use Rattle.room_service.specs.Rooms.{machine};
 ghost use Rattle.room_http.specs.Arrivals.{Arrival, IsShown};
+ghost use Rattle.room_http.specs.declared.serving.ServeEnd.TheVariants as endings;
 ghost use Rattle.room_http.specs.Kept.{ActsOnEach, KeepsEach};
 ghost use Rattle.room_http.specs.Reads.{EndsAs, IsReadAs, kept_after};
-ghost use Rattle.room_http.specs.Served.{AreFirst, KeepsPromises};
+ghost use Rattle.room_http.specs.Course.{AreFirstIn, OneCourse};
+ghost use Rattle.room_http.specs.Served.{KeepsPromises};
 ghost use Rattle.room_http.specs.Serving.{MissesNone, ReadsAtMost, ServeIs};
 ghost use Rattle.room_http.specs.Talk.{Stays, Wants};
 
@@ -67,7 +69,8 @@ pub fn serve<R: Source, W: Sink, M: Room, C: Clock, N: Witness>(
     ensures ready { M.is_ready room.new }
     ensures reads { ReadsAtMost budget (R.reads reader.old) (R.reads reader.new) }
     ensures trusted { M.is_trusted room.new → M.is_trusted room.old }
-    ensures talk { ServeIs M.step zone.now
+    ensures run { OneCourse
+        (λ course. ServeIs M.step zone.now
         (record {
           left = R.left reader.old;
           reads = R.reads reader.old;
@@ -82,19 +85,18 @@ pub fn serve<R: Source, W: Sink, M: Room, C: Clock, N: Witness>(
           read_ended = R.has_ended reader.new;
           write_failed = W.has_failed writer.new;
           was_none = C.was_none clock.new;
+          witness_failed = N.has_failed witness.new;
         })
         (M.is_trusted room.new) (M.stands room.old)
         (Stays (M.is_kept room.old) (M.stands room.new) (M.leaves_one_of room.new))
         (Wants M.step zone.now (M.is_kept room.old) (M.stands room.new) (M.leaves_one_of room.new))
-        budget result }
-    ensures promised { M.step ≡ machine → KeepsPromises zone.now
-        (AreFirst (R.left reader.old) (C.given clock.old) (C.given clock.new))
+        (M.has_failed room.new) course budget result)
+        (λ course. M.step ≡ machine → KeepsPromises zone.now
+        (AreFirstIn course (R.left reader.old) (C.given clock.old) (C.given clock.new))
         (W.held writer.old) (W.held writer.new)
         (M.is_trusted room.new) (M.is_kept room.old)
-        (M.stands room.old) (M.stands room.new) (M.leaves_one_of room.new) }
-    ensures none_missed { MissesNone (R.left reader.old) (R.left reader.new) (C.given clock.old)
-        (C.given clock.new) result }
-    ensures witnessed { KeepsEach N.came N.told
+        (M.stands room.old) (M.stands room.new) (M.leaves_one_of room.new))
+        (λ course. KeepsEach N.came N.told
         (ActsOnEach M.step zone.now (M.is_trusted room.new) (M.stands room.old) (M.stands room.new))
         (R.left reader.old)
         (record {
@@ -106,7 +108,13 @@ pub fn serve<R: Source, W: Sink, M: Room, C: Clock, N: Witness>(
           given = C.given clock.new;
           kept = N.held witness.new;
           held = W.held writer.new;
-        }) }
+        })
+        course) }
+    ensures kept { M.is_trusted room.new → M.is_kept room.new ⊎ M.is_shut room.new }
+    ensures failed { result ≢ endings.Unkept
+        → N.has_failed witness.new ≡ N.has_failed witness.old }
+    ensures none_missed { MissesNone (R.left reader.old) (R.left reader.new) (C.given clock.old)
+        (C.given clock.new) result }
 {
     let Ok(routes) = Routes::new(alloc) else {
         return ServeEnd::Memory;

@@ -1,5 +1,5 @@
 //! Who is told of what is served, and may keep it.
-ghost use Rattle.std.specs.Prelude.{◌≡◌, ℕ, List, [], Option, None};
+ghost use Rattle.std.specs.Prelude.{◌≡◌, ◌||◌, ℕ, List, [], Bool, false, is_err, Option, None};
 ghost use Rattle.room_http.specs.Arrivals.{IsBounded};
 ghost use Rattle.room_http.specs.Kept.{KeepsAll, came_of, told_of};
 
@@ -18,6 +18,9 @@ pub trait Witness {
     // The bytes that it keeps, where they are known.
     ghost held: { Self → Option (List ℕ) };
 
+    // Whether something that it was told could not be kept.
+    ghost has_failed: { Self → Bool };
+
     // What it keeps of a message: its moment, and its bytes as they came.
     ghost came: { ℕ → List ℕ → List ℕ };
 
@@ -27,17 +30,21 @@ pub trait Witness {
     /// Something has arrived. The room acts on it next.
     fn arrived(&mut self, arrived: &Arrived<'_>, at: Moment) -> Result<(), Unkept>
         requires { IsBounded arrived.now }
-        ensures { KeepsAll (held self.old) (held self.new) (came_of came arrived.now at) result };
+        ensures kept { KeepsAll (held self.old) (held self.new) (came_of came arrived.now at)
+            result }
+        ensures failed { has_failed self.new ≡ (has_failed self.old || is_err result) };
 
     /// This is its answer, which is written next. Where memory or storage was wanting, this is not
     /// called.
     fn answering(&mut self, arrived: &Arrived<'_>, answer: &[u8]) -> Result<(), Unkept>
-        ensures { KeepsAll (held self.old) (held self.new) (told_of told arrived.now answer.now)
-            result };
+        ensures kept { KeepsAll (held self.old) (held self.new)
+            (told_of told arrived.now answer.now) result }
+        ensures failed { has_failed self.new ≡ (has_failed self.old || is_err result) };
 
     /// It was answered, and the bytes of its answer were written, or as many of them as were taken.
     fn answered(&mut self, asked: &Asked<'_>, answer: &[u8])
-        ensures { held self.new ≡ held self.old };
+        ensures kept { held self.new ≡ held self.old }
+        ensures failed { has_failed self.new ≡ has_failed self.old };
 }
 
 /// What was asked.
@@ -56,6 +63,8 @@ pub struct Nobody;
 
 impl Witness for Nobody {
     ghost held = { λ _. None };
+
+    ghost has_failed = { λ _. false };
 
     ghost came = { λ _ _. [] };
 

@@ -1,6 +1,7 @@
 //! What gives the moment, in whole seconds of UTC since 1970.
-ghost use Rattle.std.specs.Prelude.{◌≡◌, ◌<◌, ℕ, List, [], ◌∷◌, Bool, true, false, Option, Some, None, MatchOption, replicate};
+ghost use Rattle.std.specs.Prelude.{◌≡◌, ◌<◌, ◌/◌, ℕ, List, [], ◌∷◌, Bool, true, false, Option, Some, None, MatchOption, replicate};
 ghost use Rattle.std.specs.Io.KnownBytes.{Appends, Keeps};
+ghost use Rattle.std.specs.Time.{system_time_nanos};
 
 use std::time::{self, SystemTime, UNIX_EPOCH};
 
@@ -45,13 +46,18 @@ impl<'a, R: time::Clock> Clock for MachineClock<'a, R> {
     ghost was_none = { λ clock. clock.was_none };
 
     fn now(&mut self) -> Option<u64> {
-        let moment = SystemTime::now(self.machine)
-            .ok()
-            .and_then(|time| time.duration_since(UNIX_EPOCH).ok())
-            .map(|since| since.as_secs());
+        let moment = SystemTime::now(self.machine).ok().and_then(moment_of);
         self.was_none = moment.is_none();
         moment
     }
+}
+
+// The whole seconds from 1970 to a time that the system gave: it gives none before 1970.
+fn moment_of(time: SystemTime) -> Option<u64>
+    ensures { result ≡ Some (system_time_nanos time / 1_000_000_000) }
+{
+    let since = time.duration_since(UNIX_EPOCH).ok()?;
+    Some(since.as_secs())
 }
 
 /// A clock that gives `MOMENT` each time, and none once its count is at its last value.

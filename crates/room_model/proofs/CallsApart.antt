@@ -146,7 +146,7 @@ module _ (d : ℕ) (r : Room) (w : IsWellFormed r) (p : ℕ) (f : CallForm) (at 
       ≡ share_by d (own d r) (cond (is_division_of d o) (Some (CallIn taken)) None)
   placed None k e = refl
   placed (Some h) k e = (elim (h == d) as (λ (b : Bool). h == d ≡ b → own d (apply r (changes_of (call_in h call r))) ≡ share_by d (own d r) (cond b (Some (CallIn taken)) None)) [
-    | true ↦ λ same. own_apply_own d r (changes_of (call_in h call r)) w.order (all_plain (changes_of (call_in h call r)) (call_in_all r IsPlain (plain_allowed r) h call k)) ∙ ap (λ x. own d (apply (own d r) (changes_of x))) (sym (call_by_share k (e ∙ ap Some (eqb-true h d same)) ∙ new_taken r h k e))
+    | true ↦ λ same. own_apply_own d r (changes_of (call_in h call r)) w.order (all_plain (changes_of (call_in h call r)) (call_in_all r IsPlain (plain_allowed r) h call k e)) ∙ ap (λ x. own d (apply (own d r) (changes_of x))) (sym (call_by_share k (e ∙ ap Some (eqb-true h d same)) ∙ new_taken r h k e))
     | false ↦ λ other. call_leaves d h r w other call k
   ]) refl
 
@@ -163,6 +163,14 @@ module _ (d : ℕ) (r : Room) (w : IsWellFormed r) (p : ℕ) (f : CallForm) (at 
   told_call : (o : Option Call) → told_by (own d r) (cross_call d taken f o r) ≡ []
   told_call (Some k) = refl
   told_call None = (elim (is_division_of d (division_of r.plan f.place)) as (λ (b : Bool). told_by (own d r) (cond b (Some (CallIn taken)) None) ≡ []) [ true ↦ refl | false ↦ refl ])
+
+-- in two rooms with equal shares a call that neither has kept is decided alike
+pub call_equal : (d p : ℕ) (f : CallForm) (at : ℕ) (r s : Room) → IsWellFormed r → IsWellFormed s
+    → own d r ≡ own d s → kept_call p f.serial r ≡ None → kept_call p f.serial s ≡ None
+    → division_of r.plan f.place ≡ Some d → take_call (new_call p f at) r ≡ take_call (new_call p f at) s
+call_equal d p f at r s w v same none nor placed =
+    sym (call_by_share d r w p f at none placed) ∙ ap (take_call (new_call p f at)) same
+    ∙ call_by_share d s v p f at nor (sym (ap (λ x. division_of x.plan f.place) same) ∙ placed)
 
 module _ (d : ℕ) (r : Room) (w : IsWellFormed r) (p : ℕ) (at : ℕ) where
   abbrev sent : Ask → Event

@@ -14,7 +14,7 @@ use Rattle.room_types.specs.declared.asks.Press.{Press}
 use Rattle.room_types.specs.declared.asks.Who.{Who}
 use Rattle.room_types.specs.declared.asks.Who.TheVariants.{Crew, Desk, Position}
 use Rattle.room_types.specs.declared.changes.Change.{Change}
-use Rattle.room_types.specs.declared.changes.Change.TheVariants.{DropAssignment, PutCall, PutReport, PutVehicle, Settle}
+use Rattle.room_types.specs.declared.changes.Change.TheVariants.{DropAssignment, PutCall, PutLoan, PutOffer, PutReport, PutVehicle, Settle}
 use Rattle.room_types.specs.declared.codes.Button.{Button}
 use Rattle.room_types.specs.declared.codes.Status.TheVariants.{Returning}
 use Rattle.room_types.specs.declared.refusals.Refusal.{Refusal}
@@ -29,7 +29,6 @@ use Rattle.room_types.specs.declared.tables.Turn.{Turn}
 use Rattle.room_types.specs.declared.tables.Vehicle.{Vehicle}
 use Rattle.room_model.proofs.Others.{held_is, keep_some}
 use Rattle.room_model.proofs.DecisionLaws.{by_refuse, by_report}
-use Rattle.room_model.proofs.OneEvent.{settles}
 use Rattle.room_model.proofs.Tests.{among_filter}
 use Rattle.room_model.specs.Calls.{call_in, call_kept, call_somewhere, call_taken, new_call}
 use Rattle.room_types.specs.Codes.{is_active}
@@ -55,26 +54,39 @@ abbrev pub AllOf : (Change → Type 0) → List Change → Type 0
 AllOf Q [] = Unit {0}
 AllOf Q (x ∷ xs) = Q x × AllOf Q xs
 
--- it puts no call and no report, and settles no vehicle
+-- it puts no call, report, offer or loan, and settles no vehicle
 abbrev pub is_silent : Change → Bool
 is_silent (PutCall x) = false
 is_silent (PutReport x) = false
+is_silent (PutOffer x) = false
+is_silent (PutLoan x) = false
 is_silent (Settle c d) = false
 is_silent x = true
 
--- the fact holds of what may be done to a room: a call is new, or goes to another incident; a
--- report is new, or is cleared; whatever is done to other rows
+-- the fact holds of what may be done to a room: a call is new and placed in its division, or goes
+-- to another incident; a report is new, or is cleared; whatever is done to other rows
 pub record Allows (r : Room) (Q : Change → Type 0) : Type 0 where
   pub silent : (x : Change) → is_silent x ≡ true → Q x
-  pub new_call : (x : Call) → kept_call x.position x.serial r ≡ None → Q (PutCall x)
+  pub new_call : (x : Call) → kept_call x.position x.serial r ≡ None
+      → division_of r.plan x.place ≡ Some x.division → Q (PutCall x)
   pub moved : (x : Call) → Among x r.calls → (m : ℕ) → Q (PutCall (record x { incident = m }))
   pub new_report : (x : Report) → kept_report x.callsign x.number r ≡ None → Q (PutReport x)
   pub cleared : (c : Callsign) (n : ℕ) (x : Report) → kept_report c n r ≡ Some x
       → Q (PutReport (record x { cleared = true }))
 
--- and of vehicles that are settled, where an offer is answered
-abbrev pub AllowsSettling : (Change → Type 0) → Type 0
-AllowsSettling Q = (c : Callsign) (d : ℕ) → Q (Settle c d)
+-- and of a vehicle that is offered, settled where its offer is answered, and lent
+pub record AllowsLending (Q : Change → Type 0) : Type 0 where
+  pub offered : (x : Offer) → Q (PutOffer x)
+  pub settled : (c : Callsign) (d : ℕ) → Q (Settle c d)
+  pub lent : (x : Loan) → Q (PutLoan x)
+
+-- the asks that do so
+abbrev pub lends : Ask → Bool
+lends (ask.Lend c to until) = true
+lends (ask.Decline c) = true
+lends (ask.Accept c) = true
+lends (ask.Recall c) = true
+lends a = false
 
 module _ (r : Room) (Q : Change → Type 0) (q : Allows r Q) where
   abbrev Holds : Verdict → Type 0
@@ -121,18 +133,18 @@ module _ (r : Room) (Q : Change → Type 0) (q : Allows r Q) where
   withdrawn_all None v = tt
   withdrawn_all (Some o) v = (q.silent _ refl, (q.silent _ refl, tt))
 
-  declined_all : AllowsSettling Q → (o : Option Offer) → Holds (declined o)
+  declined_all : AllowsLending Q → (o : Option Offer) → Holds (declined o)
   declined_all f None = tt
-  declined_all f (Some o) = (f _ _, (q.silent _ refl, tt))
+  declined_all f (Some o) = (f.settled _ _, (q.silent _ refl, tt))
 
-  accepted_all : AllowsSettling Q → (o : Option Offer) (at : ℕ) → Holds (accepted o at)
+  accepted_all : AllowsLending Q → (o : Option Offer) (at : ℕ) → Holds (accepted o at)
   accepted_all f None at = tt
-  accepted_all f (Some o) at = (f _ _, (q.silent _ refl, (q.silent _ refl, tt)))
+  accepted_all f (Some o) at = (f.settled _ _, (q.silent _ refl, (f.lent _, tt)))
 
-  recalled_all : (l : Option Loan) (v : Option Vehicle) → Holds (recall_lent l v)
-  recalled_all (Some l) v = (q.silent _ refl, tt)
-  recalled_all None (Some v) = tt
-  recalled_all None None = tt
+  recalled_all : AllowsLending Q → (l : Option Loan) (v : Option Vehicle) → Holds (recall_lent l v)
+  recalled_all f (Some l) v = (f.lent _, tt)
+  recalled_all f None (Some v) = tt
+  recalled_all f None None = tt
 
   cleared_all : (d : ℕ) (c : Callsign) (n : ℕ) (o : Option Report) → report_of d c n r ≡ o
       → Holds (clear_found o)
@@ -145,7 +157,7 @@ module _ (r : Room) (Q : Change → Type 0) (q : Allows r Q) where
   standby_all None has at v = (q.silent _ refl, tt)
   standby_all (Some n) has at v = refuse _ _ _ (refuse _ _ _ (q.silent _ refl, tt))
 
-  pub desk_all : (d : ℕ) (a : Ask) (at : ℕ) → (settles a ≡ true → AllowsSettling Q)
+  pub desk_all : (d : ℕ) (a : Ask) (at : ℕ) → (lends a ≡ true → AllowsLending Q)
       → Holds (desk_asks d a at r)
   unfolding show_incidents show_vehicles show_queue show_points show_loans show_offers show_times propose mobilise change_needs merge close stand_down standby duty off lend withdraw decline accept recall give_back clear
   desk_all d (ask.Propose n) at f = by_incident (incident_of d n r) (λ i. show (answer.Proposals (all_proposed d i at r))) (λ i. tt)
@@ -157,11 +169,11 @@ module _ (r : Room) (Q : Change → Type 0) (q : Allows r Q) where
   desk_all d (ask.Standby c p) at f = by_vehicle (held d c r) (lent d c r) (stands_by p (λ n. is_some (point_of d n r)) at) (λ v. refuse _ _ _ (standby_all p _ at v))
   desk_all d (ask.Duty c place until) at f = by_vehicle (held d c r) (lent d c r) (on_duty place until at) (λ v. refuse _ _ _ (refuse _ _ _ (q.silent _ refl, tt)))
   desk_all d (ask.Off c) at f = by_vehicle (held d c r) (lent d c r) off_duty (λ v. refuse _ _ _ (refuse _ _ _ (q.silent _ refl, tt)))
-  desk_all d (ask.Lend c to until) at f = by_vehicle (held d c r) (lent d c r) (offered r.plan d to until at) (λ v. refuse _ _ _ (refuse _ _ _ (refuse _ _ _ (refuse _ _ _ (refuse _ _ _ (q.silent _ refl, (q.silent _ refl, tt)))))))
+  desk_all d (ask.Lend c to until) at f = by_vehicle (held d c r) (lent d c r) (offered r.plan d to until at) (λ v. refuse _ _ _ (refuse _ _ _ (refuse _ _ _ (refuse _ _ _ (refuse _ _ _ (q.silent _ refl, ((f refl).offered _, tt)))))))
   desk_all d (ask.Withdraw c) at f = by_vehicle (held d c r) (lent d c r) (withdrawn (offered_by d c r)) (withdrawn_all (offered_by d c r))
   desk_all d (ask.Decline c) at f = declined_all (f refl) (offered_to d c r)
   desk_all d (ask.Accept c) at f = accepted_all (f refl) (offered_to d c r) at
-  desk_all d (ask.Recall c) at f = recalled_all (lent d c r) (held d c r)
+  desk_all d (ask.Recall c) at f = recalled_all (f refl) (lent d c r) (held d c r)
   desk_all d (ask.GiveBack c) at f = by_vehicle (held d c r) (lent d c r) (given_back d (borrowed d c r)) (λ v. refuse _ _ _ (refuse _ _ _ (q.silent _ refl, (q.silent _ refl, tt))))
   desk_all d (ask.Clear c n) at f = cleared_all d c n (report_of d c n r) refl
   desk_all d (ask.SetPoint n place cover) at f = (q.silent _ refl, tt)
@@ -169,27 +181,28 @@ module _ (r : Room) (Q : Change → Type 0) (q : Allows r Q) where
 
   -- ---- a call
   taken_all : (d : ℕ) (new : NewCall) (i : Option Incident) (v : Option Division)
-      → kept_call new.position new.serial r ≡ None → Holds (call_taken d new i v)
-  taken_all d new (Some i) v e = (q.silent _ refl, (q.new_call _ e, tt))
-  taken_all d new None None e = tt
-  taken_all d new None (Some v) e = refuse _ _ _ (q.silent _ refl, (q.silent _ refl, (q.new_call _ e, tt)))
+      → kept_call new.position new.serial r ≡ None → division_of r.plan new.place ≡ Some d
+      → Holds (call_taken d new i v)
+  taken_all d new (Some i) v e placed = (q.silent _ refl, (q.new_call _ e placed, tt))
+  taken_all d new None None e placed = tt
+  taken_all d new None (Some v) e placed = refuse _ _ _ (q.silent _ refl, (q.silent _ refl, (q.new_call _ e placed, tt)))
 
   pub call_in_all : (d : ℕ) (new : NewCall) → kept_call new.position new.serial r ≡ None
-      → Holds (call_in d new r)
+      → division_of r.plan new.place ≡ Some d → Holds (call_in d new r)
   unfolding call_in
-  call_in_all d new e = taken_all d new (link_target d new.place new.at r) (last_number d r) e
+  call_in_all d new e placed = taken_all d new (link_target d new.place new.at r) (last_number d r) e placed
 
   somewhere_all : (o : Option ℕ) (new : NewCall) → kept_call new.position new.serial r ≡ None
-      → Holds (call_somewhere o new r)
-  somewhere_all None new e = tt
-  somewhere_all (Some d) new e = call_in_all d new e
+      → division_of r.plan new.place ≡ o → Holds (call_somewhere o new r)
+  somewhere_all None new e placed = tt
+  somewhere_all (Some d) new e placed = call_in_all d new e placed
 
   call_all : (new : NewCall) (o : Option Call) → kept_call new.position new.serial r ≡ o
       → Holds (call_kept o new r)
   call_all new (Some k) e = refuse _ _ _ tt
-  call_all new None e = somewhere_all (division_of r.plan new.place) new e
+  call_all new None e = somewhere_all (division_of r.plan new.place) new e refl
 
-  position_all : (p : ℕ) (a : Ask) (at : ℕ) → Holds (position_asks p a at r)
+  pub position_all : (p : ℕ) (a : Ask) (at : ℕ) → Holds (position_asks p a at r)
   position_all p (ask.Call f) at = call_all (new_call p f at) (kept_call p f.serial r) refl
   position_all p a at = tt
 
@@ -241,18 +254,18 @@ module _ (r : Room) (Q : Change → Type 0) (q : Allows r Q) where
   crew_all c (ask.Report p) at = kept_all c p at (kept_report c p.number r) refl
   crew_all c a at = tt
 
-  who_all : AllowsSettling Q → (who : Who) (a : Ask) (at : ℕ)
+  who_all : AllowsLending Q → (who : Who) (a : Ask) (at : ℕ)
       → Holds (decided (record { who = who; ask = a; at = at }) r)
   who_all f (Desk d) a at = desk_all d a at (λ e. f)
   who_all f (Position p) a at = position_all p a at
   who_all f (Crew c) a at = crew_all c a at
 
-  pub event_all : AllowsSettling Q → (e : Event) → AllOf Q (changes_of (decided e r))
+  pub event_all : AllowsLending Q → (e : Event) → AllOf Q (changes_of (decided e r))
   event_all f e = who_all f e.who e.ask e.at
 
 -- ---- where no vehicle is settled, the changes are plain puts and drops
 pub plain_allowed : (r : Room) → Allows r IsPlain
-plain_allowed r = record { silent = plain_silent; new_call = λ x e. tt; moved = λ x a m. tt; new_report = λ x e. tt; cleared = λ c n x e. tt }
+plain_allowed r = record { silent = plain_silent; new_call = λ x e placed. tt; moved = λ x a m. tt; new_report = λ x e. tt; cleared = λ c n x e. tt }
   where
     plain_silent : (x : Change) → is_silent x ≡ true → IsPlain x
     plain_silent (Settle c d) e = cc

@@ -24,6 +24,7 @@ pub mod OfferLaws
 pub mod OffersMade
 pub mod OneEvent
 pub mod OneList
+pub mod OneStep
 pub mod OpenTurns
 pub mod Others
 pub mod OwnChanges
@@ -32,6 +33,7 @@ pub mod OwnRequests
 pub mod ProposalLaws
 pub mod QueueLaws
 pub mod RefusalLaws
+pub mod RefusedAgain
 pub mod RepeatLaws
 pub mod ReportsApart
 pub mod Runs
@@ -42,6 +44,7 @@ pub mod SliceLookUps
 pub mod StatusLaws
 pub mod Tests
 pub mod TurnChanges
+pub mod Unlent
 pub mod VehicleAgreements
 pub mod VehicleChanges
 pub mod VehicleRows

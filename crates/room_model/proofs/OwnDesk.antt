@@ -193,3 +193,8 @@ module _ (d : ℕ) (r : Room) (in_order : IsInOrder r) where
       ap (λ v. report_held v (open_turn d c (own d r)) (borrowed d c (own d r)) p at) (sees_own.same_held c)
       ∙ ap (λ t. report_held (held d c r) t (borrowed d c (own d r)) p at) (turn_own c)
       ∙ ap (λ l. report_held (held d c r) (open_turn d c r) l p at) (sees_own.same_borrowed c)
+
+-- in two rooms with equal shares a desk's request is decided alike
+pub desk_equal : (d : ℕ) (a : Ask) (at : ℕ) (r s : Room) → IsInOrder r → IsInOrder s
+    → own d r ≡ own d s → desk_asks d a at r ≡ desk_asks d a at s
+desk_equal d a at r s x y same = sym (desk_own d r x a at) ∙ ap (desk_asks d a at) same ∙ desk_own d s y a at

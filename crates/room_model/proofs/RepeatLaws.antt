@@ -33,7 +33,7 @@ use Rattle.room_types.specs.declared.tables.Loan.{Loan}
 use Rattle.room_types.specs.declared.tables.Report.{Report}
 use Rattle.room_types.specs.declared.tables.Turn.{Turn}
 use Rattle.room_types.specs.declared.tables.Vehicle.{Vehicle}
-use Rattle.room_model.proofs.Changes.{AllOf, Allows, AllowsSettling, event_all, is_silent}
+use Rattle.room_model.proofs.Changes.{AllOf, Allows, AllowsLending, event_all, is_silent}
 use Rattle.room_model.proofs.Handed.{put_found}
 use Rattle.room_model.proofs.Others.{held_is}
 use Rattle.room_model.proofs.DecisionLaws.{by_refuse, by_report}
@@ -58,7 +58,7 @@ use Rattle.room_types.specs.declared.refusals.Refusal.TheVariants as refusal
 module _ {R K F : Type 0} (cmp : K → K → Ordering) (key : R → K) (total : IsTotalOrder cmp)
     (exact : CmpEqualImpliesEq cmp) (with_field : R → F → R) where
   -- the row, but for the field, is at its key
-  abbrev IsThere : R → List R → Type 0
+  abbrev pub IsThere : R → List R → Type 0
   IsThere k xs = (f : F) × (row_at cmp key xs (key k) ≡ Some (with_field k f))
 
   -- a row of another key, or the row but for the field
@@ -122,26 +122,26 @@ module _ {R K F : Type 0} (cmp : K → K → Ordering) (key : R → K) (total : 
       apply_keeps r [] h there = there
       apply_keeps r (x ∷ cs) h there = apply_keeps (apply_one r x) cs h.1 (subst (IsThere k) (sym (only r x)) (one_keeps (put_of x) (rows r) h.0 there))
 
-      run_keeps : AllowsSettling (λ x. Spares k (put_of x))
+      run_keeps : AllowsLending (λ x. Spares k (put_of x))
           → ((r : Room) → IsInOrder r → IsThere k (rows r) → Allows r (λ x. Spares k (put_of x)))
           → (es : List Event) (r : Room) → IsInOrder r → IsThere k (rows r)
           → IsThere k (rows (room_run es r))
-      run_keeps settling allowed [] r order there = there
-      run_keeps settling allowed (e ∷ es) r order there = run_keeps settling allowed es (room_after e r) (in_order_apply r (changes_of (decided e r)) order) (apply_keeps r (changes_of (decided e r)) (event_all r (λ x. Spares k (put_of x)) (allowed r order there) settling e) there)
+      run_keeps lending allowed [] r order there = there
+      run_keeps lending allowed (e ∷ es) r order there = run_keeps lending allowed es (room_after e r) (in_order_apply r (changes_of (decided e r)) order) (apply_keeps r (changes_of (decided e r)) (event_all r (λ x. Spares k (put_of x)) (allowed r order there) lending e) there)
 
 not_false : (b : Bool) → not b ≡ false → b ≡ true
 not_false true e = refl
 not_false false e = cc
 
 -- ---- reports, but for the clearing
-abbrev with_cleared : Report → Bool → Report
+abbrev pub with_cleared : Report → Bool → Report
 with_cleared x b = record x { cleared = b }
 
 abbrev report_put : Change → Option Report
 report_put (PutReport x) = Some x
 report_put x = None
 
-abbrev ReportThere : Report → Room → Type 0
+abbrev pub ReportThere : Report → Room → Type 0
 ReportThere k r = IsThere numbered_cmp report_key numbered_total exact_numbered with_cleared k r.reports
 
 reports_only : (r : Room) (x : Change)
@@ -157,7 +157,7 @@ report_spared : (k : Report) (r : Room) → IsInOrder r → ReportThere k r → 
 unfolding kept_report
 report_spared k r order there = record {
   silent = silent_spared;
-  new_call = λ x e. tt;
+  new_call = λ x e placed. tt;
   moved = λ x a m. tt;
   new_report = λ x e. fresh_harmless numbered_cmp report_key numbered_total exact_numbered with_cleared k x r.reports e there;
   cleared = λ c n x e. found_harmless numbered_cmp report_key numbered_total exact_numbered with_cleared k x (record x { cleared = true }) true r.reports refl refl (subst (λ (z : Callsign × ℕ). row_at numbered_cmp report_key r.reports z ≡ Some x) (row_key numbered_cmp report_key numbered_total exact_numbered r.reports (c, n) x e) e) there (λ g. refl);
@@ -167,15 +167,20 @@ report_spared k r order there = record {
     silent_spared (PutReport x) e = cc
     silent_spared x e = tt
 
+-- whatever happens
+pub report_lasts : (k : Report) (es : List Event) (r : Room) → IsInOrder r → ReportThere k r
+    → ReportThere k (room_run es r)
+report_lasts k = run_keeps numbered_cmp report_key numbered_total exact_numbered with_cleared (λ r. r.reports) report_put reports_only k (record { offered = λ x. tt; settled = λ c d. tt; lent = λ x. tt }) (report_spared k)
+
 -- ---- calls, but for the incident that they belong to
-abbrev with_incident : Call → ℕ → Call
+abbrev pub with_incident : Call → ℕ → Call
 with_incident x n = record x { incident = n }
 
 abbrev call_put : Change → Option Call
 call_put (PutCall x) = Some x
 call_put x = None
 
-abbrev CallThere : Call → Room → Type 0
+abbrev pub CallThere : Call → Room → Type 0
 CallThere k r = IsThere pair_cmp call_key pairs_total exact_pair with_incident k r.calls
 
 calls_only : (r : Room) (x : Change)
@@ -191,7 +196,7 @@ call_spared : (k : Call) (r : Room) → IsInOrder r → CallThere k r → Allows
 unfolding kept_call
 call_spared k r order there = record {
   silent = silent_spared;
-  new_call = λ x e. fresh_harmless pair_cmp call_key pairs_total exact_pair with_incident k x r.calls e there;
+  new_call = λ x e placed. fresh_harmless pair_cmp call_key pairs_total exact_pair with_incident k x r.calls e there;
   moved = λ x a m. found_harmless pair_cmp call_key pairs_total exact_pair with_incident k x (record x { incident = m }) m r.calls refl refl (row_among pair_cmp call_key pairs_total r.calls x order.calls a) there (λ g. refl);
   new_report = λ x e. tt;
   cleared = λ c n x e. tt;
@@ -201,7 +206,11 @@ call_spared k r order there = record {
     silent_spared (PutCall x) e = cc
     silent_spared x e = tt
 
-ok_of : (x : Verdict) → is_ok (answer_of x) ≡ true → is_ok x ≡ true
+pub call_lasts : (k : Call) (es : List Event) (r : Room) → IsInOrder r → CallThere k r
+    → CallThere k (room_run es r)
+call_lasts k = run_keeps pair_cmp call_key pairs_total exact_pair with_incident (λ r. r.calls) call_put calls_only k (record { offered = λ x. tt; settled = λ c d. tt; lent = λ x. tt }) (call_spared k)
+
+pub ok_of : (x : Verdict) → is_ok (answer_of x) ≡ true → is_ok x ≡ true
 ok_of (Ok x) e = refl
 ok_of (Err x) e = cc
 
@@ -273,16 +282,16 @@ unfolding refuse_if
 told_if true e x h = refl
 told_if false e x h = cc
 
-refused_if : (b : Bool) (e : Refusal) (x : Verdict) → (b ≡ true → ⊥) → refuse_if (not b) e x ≡ Err e
+pub refused_if : (b : Bool) (e : Refusal) (x : Verdict) → (b ≡ true → ⊥) → refuse_if (not b) e x ≡ Err e
 unfolding refuse_if
 refused_if true e x h = absurd (h refl)
 refused_if false e x h = refl
 
-only_answers : (e : Event) (r : Room) (x : Verdict) (a : Result Answer Refusal) → decided e r ≡ x
+pub only_answers : (e : Event) (r : Room) (x : Verdict) (a : Result Answer Refusal) → decided e r ≡ x
     → changes_of x ≡ [] → answer_of x ≡ a → OnlyAnswers e r a
 only_answers e r x a same none told = (ap (λ y. apply r (changes_of y)) same ∙ ap (apply r) none, ap answer_of same ∙ told)
 
-report_later : (c : Callsign) (q : Press) (at : ℕ) (s : Room) (k : Report)
+pub report_later : (c : Callsign) (q : Press) (at : ℕ) (s : Room) (k : Report)
     → (c, q.number) ≡ report_key k → ReportThere k s
     → crew_asks c (ask.Report q) at s
     ≡ refuse_if (not (same_press k q)) refusal.NumberReused
@@ -300,7 +309,7 @@ exact_button Return Return e = refl
 exact_button Home Home e = refl
 exact_button a b e = cc
 
-exact_place : (p q : Place) → same_place p q ≡ true → p ≡ q
+pub exact_place : (p q : Place) → same_place p q ≡ true → p ≡ q
 exact_place p q e i = record { east = eqb-true p.east q.east (left_true _ _ e) i; north = eqb-true p.north q.north (right_true (p.east == q.east) _ e) i }
 
 -- two reports of one number and one content are one
@@ -326,7 +335,7 @@ module _ (c : Callsign) (p : Press) (at : ℕ) (r : Room) (es : List Event) (ord
   reported = was_reported c p at r order (kept_report c p.number r) refl (ok_of (crew_asks c (ask.Report p) at r) ok)
 
   report_stays : ReportThere reported.row after_report
-  report_stays = run_keeps numbered_cmp report_key numbered_total exact_numbered with_cleared (λ r. r.reports) report_put reports_only reported.row (λ c d. tt) (report_spared reported.row) es (room_after first_report r) (in_order_apply r (changes_of (decided first_report r)) order) reported.there
+  report_stays = report_lasts reported.row es (room_after first_report r) (in_order_apply r (changes_of (decided first_report r)) order) reported.there
 
   pub report_repeated : (later : ℕ)
       → OnlyAnswers (by_crew c (ask.Report p) later) after_report (answer_to first_report r)
@@ -390,7 +399,7 @@ module _ (p : ℕ) (f : CallForm) (at : ℕ) (r : Room) (order : IsInOrder r) wh
       let key : (p, f.serial) ≡ call_key k = row_key pair_cmp call_key pairs_total exact_pair r.calls (p, f.serial) k e in
       by_refuse IfTaken _ _ _ (λ ok. cc) (λ same ok. record { row = k; key = key; content = not_false (same_call k (new_call p f at)) same; told = refl; there = (k.incident, subst (λ (z : ℕ × ℕ). row_at pair_cmp call_key r.calls z ≡ Some k) key e) })
 
-call_later : (p : ℕ) (f : CallForm) (at : ℕ) (s : Room) (k : Call) → (p, f.serial) ≡ call_key k
+pub call_later : (p : ℕ) (f : CallForm) (at : ℕ) (s : Room) (k : Call) → (p, f.serial) ≡ call_key k
     → CallThere k s → take_call (new_call p f at) s
     ≡ refuse_if (not (same_call k (new_call p f at))) refusal.SerialReused
     (show (answer.Called k.division k.given k.linked))
@@ -437,7 +446,7 @@ module _ (p : ℕ) (f : CallForm) (at : ℕ) (r : Room) (es : List Event) (order
   taken = was_taken p f at r order (kept_call p f.serial r) refl (ok_of (take_call (new_call p f at) r) ok)
 
   call_stays : CallThere taken.row after_call
-  call_stays = run_keeps pair_cmp call_key pairs_total exact_pair with_incident (λ r. r.calls) call_put calls_only taken.row (λ c d. tt) (call_spared taken.row) es (room_after first_call r) (in_order_apply r (changes_of (decided first_call r)) order) taken.there
+  call_stays = call_lasts taken.row es (room_after first_call r) (in_order_apply r (changes_of (decided first_call r)) order) taken.there
 
   pub call_repeated : (later : ℕ) → OnlyAnswers (by_position p (ask.Call f) later) after_call
       (answer_to first_call r)

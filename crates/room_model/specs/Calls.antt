@@ -16,6 +16,7 @@ use Rattle.room_model.specs.Moments.{number_limit}
 use Rattle.room_model.specs.Queries.{kept_call, last_number, link_target}
 use Rattle.room_model.specs.Room.{Room}
 use Rattle.room_types.specs.declared.answers.Answer.TheVariants as answer
+use Rattle.room_types.specs.declared.refusals.Refusal.{Refusal}
 use Rattle.room_types.specs.declared.refusals.Refusal.TheVariants as refusal
 
 -- a call form, with its position and moment
@@ -98,6 +99,11 @@ abbrev pub call_kept : Option Call → NewCall → Room → Verdict
 call_kept (Some k) new r = refuse_if (not (same_call k new)) refusal.SerialReused
     (show (answer.Called k.division k.given k.linked))
 call_kept None new r = call_somewhere (division_of r.plan new.place) new r
+
+-- why a call from outside every division is refused again: its serial may be another call's by now
+abbrev pub outside_again : Option Call → Refusal
+outside_again None = refusal.OutsideArea
+outside_again (Some k) = refusal.SerialReused
 
 abbrev pub take_call : NewCall → Room → Verdict
 take_call new r = call_kept (kept_call new.position new.serial r) new r

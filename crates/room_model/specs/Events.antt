@@ -1,5 +1,5 @@
 -- Events: who sends them, which reach a room, and what holds of those of a run.
-use Rattle.std.specs.Prelude.{Bool, List, None, Option, Result, Some, [], false, is_err, true, ℕ, ◌||◌, ◌∷◌, ◌≡◌, ◌≤◌}
+use Rattle.std.specs.Prelude.{Bool, List, None, Option, Result, Some, [], false, is_err, not, true, ℕ, ◌||◌, ◌∷◌, ◌≡◌, ◌≤◌}
 use Rattle.room_types.specs.Texts.{Callsign}
 use Rattle.room_types.specs.declared.answers.Answer.{Answer}
 use Rattle.room_types.specs.declared.asks.Ask.{Ask}
@@ -42,6 +42,21 @@ IsLocal e r =
 abbrev pub AreLocal : List Event → Room → Type 0
 AreLocal [] r = Unit {0}
 AreLocal (e ∷ es) r = IsLocal e r × AreLocal es (room_after e r)
+
+-- nothing is lent, and nothing is offered
+abbrev pub IsUnlent : Room → Type 0
+IsUnlent r = (r.loans ≡ []) × (r.offers ≡ [])
+
+-- it asks to offer a vehicle to another division
+abbrev pub is_lend : Ask → Bool
+is_lend (ask.Lend c to until) = true
+is_lend a = false
+
+-- nobody offers a vehicle, but so that it is refused
+abbrev pub NobodyLends : List Event → Room → Type 0
+NobodyLends [] r = Unit {0}
+NobodyLends (e ∷ es) r =
+    (not (is_lend e.ask) || is_err (answer_to e r) ≡ true) × NobodyLends es (room_after e r)
 
 -- what a division is handed, without the events that hand it nothing
 abbrev pub received : List (Option Crossing) → List Crossing

@@ -13,11 +13,11 @@ ghost use Rattle.room_types.specs.declared.changes.Change.{Change};
 ghost use Rattle.room_types.specs.declared.tables.Vehicle.{Vehicle};
 ghost use Rattle.room_model.specs.Alone.{alone, share_by, told_alone, told_by};
 ghost use Rattle.room_model.specs.Crossing.{cross, crossings};
-ghost use Rattle.room_model.specs.Events.{AreAddressed, AreLocal, by_crew, by_desk, by_position, is_everyday, received};
+ghost use Rattle.room_model.specs.Events.{AreAddressed, AreLocal, IsUnlent, NobodyLends, by_crew, by_desk, by_position, is_everyday, received};
 ghost use Rattle.room_model.specs.Queries.{kept_call, kept_report, offer_at, vehicle_at};
 ghost use Rattle.room_model.specs.Room.{Room, IsInOrder, apply};
 ghost use Rattle.room_model.specs.Run.{is_desk, room_run, told};
-ghost use Rattle.room_model.specs.Shares.{ArePlain, own};
+ghost use Rattle.room_model.specs.Shares.{AgreeOn, ArePlain, own};
 ghost use Rattle.room_model.specs.Step.{answer_to, decided, room_after};
 ghost use Rattle.room_model.specs.WellFormed.{IsWellFormed};
 ghost use Rattle.room_model.specs.Working.{working};
@@ -66,6 +66,17 @@ pub fn without_loans_divisions_share_nothing()
         list_all is_everyday (crossings d es r) ≡ true }
 {}
 
+/// A room in which nothing is lent or offered, and where nobody offers a vehicle but so that it is
+/// refused, stays so, whatever else is asked; and nothing crosses in it.
+pub fn where_nobody_lends_nothing_crosses()
+    ensures stays { (es : List Event) (r : Room) →
+        IsWellFormed r → AreAddressed es r → IsUnlent r → NobodyLends es r →
+        IsUnlent (room_run es r) }
+    ensures crosses { (d : ℕ) (es : List Event) (r : Room) →
+        IsWellFormed r → AreAddressed es r → IsUnlent r → NobodyLends es r →
+        list_all is_everyday (crossings d es r) ≡ true }
+{}
+
 /// A desk's request is decided by its division's rows, and by the few of them that the request
 /// reads.
 pub fn desks_decide_by_their_rows()
@@ -75,6 +86,13 @@ pub fn desks_decide_by_their_rows()
     ensures working { (d : ℕ) (r : Room) (a : Ask) (at : ℕ) →
         IsWellFormed r →
         decided (by_desk d a at) (working d a at r) ≡ decided (by_desk d a at) r }
+{}
+
+/// An event is decided by the rows of who asks: in two rooms that agree on them it is decided alike.
+pub fn an_event_is_decided_by_its_rows()
+    ensures { (e : Event) (r s : Room) →
+        IsWellFormed r → IsWellFormed s → AgreeOn e.who e.ask r s →
+        decided e r ≡ decided e s }
 {}
 
 /// A call that is not kept is decided by the rows of the division that it is placed in, and by the

@@ -1,16 +1,18 @@
 //! What changes nothing: a refusal, and a message that is sent again.
-ghost use Rattle.std.specs.Prelude.{◌≡◌, ◌≢◌, ℕ, List, Err, is_ok, true};
+ghost use Rattle.std.specs.Prelude.{◌≡◌, ◌≢◌, ℕ, List, Err, IfErr, is_ok, true};
 ghost use Rattle.room_types.specs.Texts.{Callsign};
 ghost use Rattle.room_types.specs.declared.asks.Ask.TheVariants.{Call, Report};
 ghost use Rattle.room_types.specs.declared.asks.CallForm.{CallForm};
 ghost use Rattle.room_types.specs.declared.asks.Event.{Event};
 ghost use Rattle.room_types.specs.declared.asks.Press.{Press};
 ghost use Rattle.room_types.specs.declared.refusals.Refusal.{Refusal};
-ghost use Rattle.room_types.specs.declared.refusals.Refusal.TheVariants.{NumberReused, SerialReused};
+ghost use Rattle.room_types.specs.declared.refusals.Refusal.TheVariants.{NumberReused, OutsideArea, SerialReused};
+ghost use Rattle.room_model.specs.Calls.{outside_again};
 ghost use Rattle.room_model.specs.Events.{OnlyAnswers, by_crew, by_position};
+ghost use Rattle.room_model.specs.Queries.{kept_call};
 ghost use Rattle.room_model.specs.Room.{Room, IsInOrder};
 ghost use Rattle.room_model.specs.Run.{room_run};
-ghost use Rattle.room_model.specs.Step.{answer_to, decided, room_after};
+ghost use Rattle.room_model.specs.Step.{IsAddressed, answer_to, decided, room_after};
 
 /// A refused event leaves the room as it was.
 pub fn a_refusal_changes_nothing()
@@ -52,4 +54,43 @@ pub fn a_used_number_is_refused()
         OnlyAnswers (by_position p (Call g) later)
         (room_run es (room_after (by_position p (Call f) at) r))
         (Err SerialReused) }
+{}
+
+/// Whatever happened in between: a report or a call that was refused because its number or serial
+/// was another's is refused so again, and changes nothing.
+pub fn a_used_number_stays_refused()
+    ensures report { (c : Callsign) (p : Press) (at later : ℕ) (r : Room) (es : List Event) →
+        IsInOrder r → answer_to (by_crew c (Report p) at) r ≡ Err NumberReused →
+        OnlyAnswers (by_crew c (Report p) later)
+        (room_run es (room_after (by_crew c (Report p) at) r))
+        (Err NumberReused) }
+    ensures call { (p : ℕ) (f : CallForm) (at later : ℕ) (r : Room) (es : List Event) →
+        IsInOrder r → answer_to (by_position p (Call f) at) r ≡ Err SerialReused →
+        OnlyAnswers (by_position p (Call f) later)
+        (room_run es (room_after (by_position p (Call f) at) r))
+        (Err SerialReused) }
+{}
+
+/// A report of a vehicle that is there is refused for its number alone; so whatever happened in
+/// between, and whatever it was told, it is told that again, and changes nothing.
+pub fn a_repeated_report_is_told_its_first_answer()
+    ensures refused { (c : Callsign) (p : Press) (at : ℕ) (r : Room) →
+        IsAddressed (by_crew c (Report p) at) r →
+        IfErr (answer_to (by_crew c (Report p) at) r) (λ why. why ≡ NumberReused) }
+    ensures again { (c : Callsign) (p : Press) (at later : ℕ) (r : Room) (es : List Event) →
+        IsInOrder r → IsAddressed (by_crew c (Report p) at) r →
+        OnlyAnswers (by_crew c (Report p) later)
+        (room_run es (room_after (by_crew c (Report p) at) r))
+        (answer_to (by_crew c (Report p) at) r) }
+{}
+
+/// Whatever happened in between: a call that was refused because its place is in no division is
+/// refused again, and changes nothing: for its place, or for its serial where that was given to
+/// another call meanwhile.
+pub fn a_call_from_outside_stays_refused()
+    ensures { (p : ℕ) (f : CallForm) (at later : ℕ) (r : Room) (es : List Event) →
+        IsInOrder r → answer_to (by_position p (Call f) at) r ≡ Err OutsideArea →
+        let now = room_run es (room_after (by_position p (Call f) at) r) in
+        OnlyAnswers (by_position p (Call f) later) now
+        (Err (outside_again (kept_call p f.serial now))) }
 {}

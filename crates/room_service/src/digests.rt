@@ -1,11 +1,30 @@
 //! A room that tells the digest of its rows, by which it is known again.
-ghost use Rattle.std.specs.Prelude.{◌≡◌, ℕ, List, [], ◌∷◌, IfOk, IfErr, OnOk};
+ghost use Rattle.std.specs.Prelude.{◌≡◌, ℕ, List, [], ◌∷◌, Result, Ok, IfOk, IfErr, OnOk, OnErr, MatchResult};
+ghost use Rattle.std.specs.Fn.{FnOnceReturnsAt};
+ghost use Rattle.room_types.specs.declared.answers.Answer.{Answer as Told};
 ghost use Rattle.room_types.specs.declared.fleet.Terminal.{Terminal};
+ghost use Rattle.room_types.specs.declared.refusals.Refusal.{Refusal as Why};
+ghost use Rattle.room_types.specs.declared.refusals.Refusal.TheVariants.{Memory};
 ghost use Rattle.room_model.specs.Room.{Room as Held};
+ghost use Rattle.room_model.specs.Step.{IsAddressed};
+ghost use Rattle.room_service.specs.Digests.{IsMiss, digits_of};
 ghost use Rattle.room_service.specs.Rooms.{IsWant};
+ghost use Rattle.room_service.specs.declared.digests.Miss.TheVariants.{Another};
 
 use crate::rooms::Room;
+use room_types::answers::Answer;
+use room_types::asks::Event;
 use room_types::refusals::Refusal;
+use std::alloc::Global;
+
+/// Why a room did not come to a digest.
+#[derive(Clone, Copy)]
+pub enum Miss {
+    /// It would have come to another one.
+    Another,
+    /// Memory or storage is wanting.
+    Want(Refusal),
+}
 
 /// A room that tells the digest of its rows.
 pub trait Digested: Room {
@@ -28,4 +47,46 @@ pub trait Digested: Room {
             → (terminals : List Terminal) (room : Held) → Self.stands self.old terminals room
             → Self.leaves_one_of self.new terminals (room ∷ []) }
         ensures wants { IfErr result IsWant };
+
+    /// Acts on an event of a known terminal, as `act` does, where the room comes by it to the
+    /// digest of these digits. Where it would come to another one, it stays as it was, and that is
+    /// told.
+    fn act_towards<F: FnOnce(&Result<Answer, Refusal>) -> Result<Vec<u8>, Refusal>>(
+        &mut self,
+        alloc: Global,
+        event: &Event,
+        digits: &[u8; 64],
+        render: F,
+    ) -> Result<Vec<u8>, Miss>
+        requires ready { Self.is_ready self.old }
+        requires callable { F.IsAlwaysCallable render }
+        requires memory { (answer : Result Told Why) (r : _)
+            → FnOnceReturnsAt F.FnOnce render answer r → IfErr r (λ e. e ≡ Memory) }
+        ensures ready { Self.is_ready self.new }
+        ensures trusted { Self.is_trusted self.new → Self.is_trusted self.old }
+        ensures bytes { Self.is_trusted self.new
+            → IfOk result (λ bytes. (terminals : List Terminal) (room : Held)
+            → Self.stands self.old terminals room → IsAddressed event.now room
+            → FnOnceReturnsAt F.FnOnce render (Self.step event.now room).1 (Ok bytes)) }
+        ensures after { Self.is_trusted self.new
+            → OnOk result ((terminals : List Terminal) (room : Held)
+            → Self.stands self.old terminals room → IsAddressed event.now room
+            → Self.stands self.new terminals (Self.step event.now room).0
+            × (digits_of digest_of terminals (Self.step event.now room).0 ≡ digits.now)) }
+        ensures another { Self.is_trusted self.new → IfErr result (λ e. e ≡ Another
+            → (terminals : List Terminal) (room : Held) → Self.stands self.old terminals room
+            → IsAddressed event.now room
+            → ¬ (digits_of digest_of terminals (Self.step event.now room).0 ≡ digits.now)) }
+        ensures same { Self.is_trusted self.new
+            → OnErr result ((terminals : List Terminal) (room : Held)
+            → Self.stands self.old terminals room → Self.stands self.new terminals room) }
+        ensures kept { Self.is_trusted self.new
+            → MatchResult result (λ _. Self.is_kept self.new)
+            (λ e. e ≡ Another → Self.is_kept self.new) }
+        ensures left { Self.is_trusted self.new → OnErr result (Self.is_kept self.old
+            → (terminals : List Terminal) (room : Held) → Self.stands self.old terminals room
+            → IsAddressed event.now room
+            → Self.leaves_one_of self.new terminals (room ∷ (Self.step event.now room).0 ∷ [])) }
+        ensures wants { IfErr result IsMiss }
+        ensures failed { OnErr result (Self.has_failed self.new) };
 }

@@ -1,5 +1,5 @@
 //! What a connection is served with: a room that events act on, and who its terminals are.
-ghost use Rattle.std.specs.Prelude.{◌≡◌, List, [], ◌∷◌, Result, Ok, IfOk, IfErr, OnOk, OnErr};
+ghost use Rattle.std.specs.Prelude.{◌≡◌, ◌⊎◌, List, [], ◌∷◌, Result, Ok, IfOk, IfErr, OnOk, OnErr};
 ghost use Rattle.std.specs.Fn.{FnOnceReturnsAt};
 ghost use Rattle.room_types.specs.declared.answers.Answer.{Answer as Told};
 ghost use Rattle.room_types.specs.declared.fleet.Terminal.{Terminal};
@@ -33,6 +33,12 @@ pub trait Room {
     // A stop at this moment leaves one of these rooms, with these terminals.
     ghost leaves_one_of: { Self → List Terminal → List Held → Type 0 };
 
+    // No later call succeeds: the room has to be opened anew.
+    ghost is_shut: { Self → Type 0 };
+
+    // What holds of it where its last call was refused.
+    ghost has_failed: { Self → Type 0 };
+
     // What it does with an event of a known terminal.
     ghost step: { Step };
 
@@ -50,7 +56,8 @@ pub trait Room {
         ensures left { is_trusted self.new → is_kept self.old → (terminals : List Terminal)
             (room : Held) → stands self.old terminals room
             → leaves_one_of self.new terminals (room ∷ []) }
-        ensures wants { IfErr result IsWant };
+        ensures wants { IfErr result IsWant }
+        ensures failed { OnErr result (has_failed self.new) };
 
     /// Acts on an event of a known terminal. Gives what `render` makes of the answer, and `render`
     /// is called before anything is kept. An answer tells that the room after the event is kept. A
@@ -82,7 +89,8 @@ pub trait Room {
             → (terminals : List Terminal) (room : Held) → stands self.old terminals room
             → IsAddressed event.now room
             → leaves_one_of self.new terminals (room ∷ (step event.now room).0 ∷ [])) }
-        ensures wants { IfErr result IsWant };
+        ensures wants { IfErr result IsWant }
+        ensures failed { OnErr result (has_failed self.new) };
 
     // The terminals fit the room that it stands for.
     ghost fits: { (held : Self) (terminals : List Terminal) (room : Held)
@@ -91,4 +99,8 @@ pub trait Room {
     // Where what it stands for is kept, a stop leaves the room that this is.
     ghost leaves_it: { (held : Self) (terminals : List Terminal) (room : Held) → is_kept held
         → stands held terminals room → leaves_one_of held terminals (room ∷ []) };
+
+    // Between calls what it stands for is kept, unless it is shut.
+    ghost kept_or_shut: { (held : Self) → is_ready held → is_trusted held
+        → is_kept held ⊎ is_shut held };
 }

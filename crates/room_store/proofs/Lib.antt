@@ -5,3 +5,4 @@ pub mod KnownLaws
 pub mod StoreLaws
 pub mod EnrolledLaws
 pub mod CreationLaws
+pub mod Misses

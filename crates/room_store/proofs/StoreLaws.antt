@@ -1,6 +1,6 @@
 -- A store's room, before and after an event.
 use Rattle.std.proofs.Common.{Bool, Err, IsTrue, List, Ok, Result, [], ap, false, inl, inr, subst, sym, true, ◌∙◌, ◌∷◌, ◌≡◌}
-use Rattle.std.specs.Prelude.{All, OnOk, ◌↔◌}
+use Rattle.std.specs.Prelude.{All, OnErr, OnOk}
 use Rattle.sqlite.specs.Effect.{Database}
 use Rattle.sqlite.specs.Held.{state}
 use Rattle.sqlite.specs.State.{HasCleanDisk, State, Survives}
@@ -16,40 +16,27 @@ use Rattle.room_model.specs.Room.{Room}
 use Rattle.room_model.specs.Step.{IsAddressed, room_after}
 use Rattle.room_tables.specs.Stands.{House, Stands}
 use Rattle.room_tables_schema.specs.Connections.{HasRoomSchema}
-use Rattle.room_tables_schema.specs.Schema.{room_schema}
 use Rattle.room_store_writes.specs.Writing.{Commits, IsSettled, Leaves}
 use Rattle.room_store_cache.specs.Cache.{IsCacheOf}
 use Rattle.room_store.specs.Acting.{IsFor}
-use Rattle.room_store.specs.Keeping.{IsKept, IsOneOf, IsReady, IsRoom, LeavesOneOf}
+use Rattle.room_store.specs.Keeping.{IsKept, IsOneOf, IsReady, IsRoom, LeavesOneOf, ShowsRoom}
 use Rattle.room_store_writes.specs.Houses.{house_of}
 use Rattle.room_store.specs.declared.store.Store.{Store}
 
--- nothing is asked of what is not known
-pub never_known : {P : Type 0} {known : Bool} → known ≡ false → IsTrue known → P
-never_known none is = let never : false ≡ true = sym none ∙ is in cc
-
--- a store that was found sound may be called,
+-- a store may be called whose connection shows a room
 pub ready_sound : {S : Type 0} (g : Ghosts S) (held : Store S) → held.conn.in_transaction ≡ false
-    → held.is_sound ≡ true → HasRoomSchema g held.conn
-    → (IsTrue held.cache.fleet.is_known → HasCleanDisk (state g held.conn)
-    → IsTrue (state g held.conn).is_open) → IsReady g held
-ready_sound g held outside sound is is_open = record {
+    → held.is_sound ≡ true → (HasCleanDisk (state g held.conn) → ShowsRoom (state g held.conn))
+    → IsReady g held
+ready_sound g held outside sound shows = record {
   outside = outside;
-  schema = λ _ clean. is clean;
-  shut = λ unsound. let never : false ≡ true = sym unsound ∙ sound in cc;
-  is_open = is_open;
+  sound = λ _ clean. shows clean;
+  unsound = λ unsound. let never : false ≡ true = sym unsound ∙ sound in cc;
 }
 
--- and so may one whose file was tested
-pub ready_tested : {S : Type 0} (g : Ghosts S) (held : Store S) → held.conn.in_transaction ≡ false
-    → (IsTrue held.is_sound ↔ ((state g held.conn).now.schema ≡ room_schema))
-    → held.cache.fleet.is_known ≡ false → IsReady g held
-ready_tested g held outside tested none = record {
-  outside = outside;
-  schema = λ sound _. tested.0 sound;
-  shut = λ unsound is. let never : false ≡ true = sym unsound ∙ tested.1 is in cc;
-  is_open = never_known none;
-}
+-- and it sees a room's schema, where it is sound
+pub ready_schema : {S : Type 0} (g : Ghosts S) (held : Store S) → IsReady g held
+    → held.is_sound ≡ true → HasRoomSchema g held.conn
+ready_schema g held ready sound clean = (ready.sound sound clean).schema
 
 -- tables that were left stand for the room that they stood for
 pub room_left : {S : Type 0} (g : Ghosts S) (old new : Store S) (terminals : List Terminal)
@@ -100,6 +87,12 @@ pub event_survives : {S : Type 0} (g : Ghosts S) (old : Store S) (new : State) (
     → Stands db (house_of old.plan terminals) (room_after event room))
 event_survives g old new event =
     survives_weaker (state g old.conn) new _ _ (λ _ db left is_open terminals room is addressed. left (house_of old.plan terminals) room (for_room g old old event terminals room is addressed is_open))
+
+-- a failed call left two things
+pub err_both : {T E : Type 0} (r : Result T E) (P Q : Type 0) → OnErr r P → OnErr r Q
+    → OnErr r (P × Q)
+err_both (Ok done) P Q p q = tt
+err_both (Err error) P Q p q = (p, q)
 
 -- what is kept of a settled connection
 pub kept_settled : {S T E : Type 0} (g : Ghosts S) (held : Store S) (r : Result T E)

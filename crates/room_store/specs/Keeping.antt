@@ -1,7 +1,7 @@
 -- What a store keeps true between calls, and which room it stands for.
-use Rattle.std.specs.Prelude.{All, List, Some, [], false, IsTrue, ◌∷◌, ◌≡◌, ◌≢◌, ◌⊎◌}
+use Rattle.std.specs.Prelude.{All, List, Some, [], false, IsTrue, ◌∷◌, ◌≡◌, ◌⊎◌}
 use Rattle.sqlite.specs.Held.{state}
-use Rattle.sqlite.specs.State.{HasCleanDisk}
+use Rattle.sqlite.specs.State.{HasCleanDisk, State}
 use Rattle.sqlite_trees.specs.Tree.{Trees}
 use Rattle.sqlite_trees.specs.declared.store.Store.{Ghosts}
 use Rattle.room_types.specs.declared.fleet.Terminal.{Terminal}
@@ -11,18 +11,23 @@ use Rattle.room_model.specs.WellFormed.{IsWellFormed}
 use Rattle.room_tables_schema.specs.Schema.{room_schema}
 use Rattle.room_tables.specs.Stands.{House, Stands}
 use Rattle.room_store_writes.specs.Houses.{house_of}
-use Rattle.room_store_cache.specs.Cache.{IsCacheOf}
+use Rattle.room_store_writes.specs.Writing.{IsSettled}
+use Rattle.room_store_cache.specs.Cache.{IsCacheOf, KnowsNothing}
 use Rattle.room_store.specs.declared.store.Store.{Store}
 
--- It may be called: no transaction is open, a sound store's file is a room's, what an unsound one
--- shows is none, and while the fleet is known the connection is open.
+-- The connection shows a room: it is open, its tables are a room's, and they are as they were
+-- committed.
+pub record ShowsRoom (at : State) : Type 0 where
+  pub schema : at.now.schema ≡ room_schema
+  pub settled : IsSettled at
+
+-- It may be called: no transaction is open, a sound store's connection shows a room, and an unsound
+-- store knows nothing.
 pub record IsReady {S : Type 0} (g : Ghosts S) (held : Store S) : Type 0 where
   pub outside : held.conn.in_transaction ≡ false
-  pub schema : IsTrue held.is_sound → HasCleanDisk (state g held.conn)
-      → (state g held.conn).now.schema ≡ room_schema
-  pub shut : held.is_sound ≡ false → (state g held.conn).now.schema ≢ room_schema
-  pub is_open : IsTrue held.cache.fleet.is_known → HasCleanDisk (state g held.conn)
-      → IsTrue (state g held.conn).is_open
+  pub sound : IsTrue held.is_sound → HasCleanDisk (state g held.conn)
+      → ShowsRoom (state g held.conn)
+  pub unsound : held.is_sound ≡ false → KnowsNothing held.cache
 
 -- the terminal is one of these: that of its token
 abbrev pub IsOneOf : List Terminal → Terminal → Type 0

@@ -8,3 +8,5 @@ pub mod Creating
 pub mod Enrolling
 -- what a fault is told as
 pub mod Faults
+-- the digest that an event leads to
+pub mod Towards

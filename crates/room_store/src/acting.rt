@@ -4,6 +4,7 @@ ghost use Rattle.std.specs.Fn.{FnOnceReturnsAt};
 ghost use Rattle.sqlite.specs.Held.{state};
 ghost use Rattle.sqlite.specs.State.{HasCleanDisk, Survives};
 ghost use Rattle.room_tables_schema.specs.Connections.{HasRoomSchema};
+ghost use Rattle.room_tables_sql.specs.Outcomes.{ReadsOnly};
 ghost use Rattle.room_types.specs.declared.answers.Answer.{Answer as Told};
 ghost use Rattle.room_types.specs.declared.refusals.Refusal.{Refusal as Why};
 ghost use Rattle.room_types.specs.declared.refusals.Refusal.TheVariants.{Memory};
@@ -70,6 +71,56 @@ pub(crate) fn act_on<S: Alter, F: FnOnce(&Result<Answer, Refusal>) -> Result<Vec
 {
     // Outside a transaction the tables are as they were committed.
     let _ = conn.is_autocommit();
+    let prepared = match prepare(alloc, conn, plan, cache, event, render) {
+        Ok(prepared) => prepared,
+        Err(refusal) => return Err(refusal),
+    };
+    let Prepared { changes, bytes } = prepared;
+    if let Err(fault) = write(conn, changes.as_slice()) {
+        return Err(refusal_of(fault));
+    }
+    cache.follow(changes.as_slice());
+    Ok(bytes)
+}
+
+/// What an event changes, and what is told of it.
+#[derive(Drop)]
+pub(crate) struct Prepared {
+    pub(crate) changes: Listed<Change>,
+    pub(crate) bytes: Vec<u8>,
+}
+
+/// What an event changes, and what `render` makes of the machine's answer. Nothing is written. A
+/// refusal is of memory or of storage.
+pub(crate) fn prepare<S: Alter, F: FnOnce(&Result<Answer, Refusal>) -> Result<Vec<u8>, Refusal>>(
+    alloc: Global,
+    conn: &mut Connection<S>,
+    plan: &Plan,
+    cache: &mut Cache,
+    event: &Event,
+    render: F,
+) -> Result<Prepared, Refusal>
+    requires room { HasRoomSchema S.Store conn.old }
+    requires open { IsTrue cache.old.fleet.is_known → HasCleanDisk (state S.Store conn.old)
+        → IsTrue (state S.Store conn.old).is_open }
+    requires callable { F.IsAlwaysCallable render }
+    requires memory { (answer : Result Told Why) (r : _)
+        → FnOnceReturnsAt F.FnOnce render answer r → IfErr r (λ e. e ≡ Memory) }
+    ensures changes { HasCleanDisk (state S.Store conn.new)
+        → IfOk result (λ prepared. (house : House) (room : Room)
+        → IsFor (state S.Store conn.old).now.trees plan.now cache.old event.now house room
+        → prepared.changes ≡ changes_of (decided event.now room)) }
+    ensures bytes { HasCleanDisk (state S.Store conn.new)
+        → IfOk result (λ prepared. (house : House) (room : Room)
+        → IsFor (state S.Store conn.old).now.trees plan.now cache.old event.now house room
+        → FnOnceReturnsAt F.FnOnce render (answer_to event.now room) (Ok prepared.bytes)) }
+    ensures cache { HasCleanDisk (state S.Store conn.new)
+        → OnOk result ((house : House) (room : Room)
+        → IsFor (state S.Store conn.old).now.trees plan.now cache.old event.now house room
+        → IsCacheOf cache.new room) }
+    ensures reads { ReadsOnly S.Store conn.old conn.new result }
+    ensures wants { IfErr result IsWant }
+{
     let decision = match decide(alloc, conn, plan, cache, event) {
         Ok(decision) => decision,
         Err(fault) => return Err(refusal_of(fault)),
@@ -77,15 +128,10 @@ pub(crate) fn act_on<S: Alter, F: FnOnce(&Result<Answer, Refusal>) -> Result<Vec
     let (changes, answer) = parts(alloc, decision);
     let rendered = render(&answer);
     drop(answer);
-    let bytes = match rendered {
-        Ok(bytes) => bytes,
-        Err(refusal) => return Err(refusal),
-    };
-    if let Err(fault) = write(conn, changes.as_slice()) {
-        return Err(refusal_of(fault));
+    match rendered {
+        Ok(bytes) => Ok(Prepared { changes, bytes }),
+        Err(refusal) => Err(refusal),
     }
-    cache.follow(changes.as_slice());
-    Ok(bytes)
 }
 
 // The changes of a decision, and the answer.

@@ -1,5 +1,5 @@
 //! The digest of the room that a store keeps, by which it is known again.
-ghost use Rattle.std.specs.Prelude.{◌≡◌, List, [], ◌∷◌, IfOk, IfErr, OnOk};
+ghost use Rattle.std.specs.Prelude.{◌≡◌, List, [], ◌∷◌, Ok, IsTrue, IfOk, IfErr, OnOk};
 ghost use Rattle.sha2.specs.Sha256.{sha256};
 ghost use Rattle.sqlite.specs.Held.{state};
 ghost use Rattle.sqlite.specs.State.{HasCleanDisk};
@@ -11,16 +11,30 @@ ghost use Rattle.room_store.specs.Keeping.{IsKept, IsReady, IsRoom, LeavesOneOf}
 
 use crate::faults::refusal_of;
 use crate::store::Store;
-use room_service::digests::Digested;
+use room_service::digests::{Digested, Miss};
 use room_store_digest::digests::digest_in;
+use room_tables_schema::faults::Fault;
+use room_types::answers::Answer;
+use room_types::asks::Event;
 use room_types::refusals::Refusal;
 use sqlite::Alter;
+use std::alloc::Global;
 
 impl<S: Alter> Digested for Store<S> {
     ghost digest_of = { λ terminals room. sha256 (digest_text terminals room) };
 
     fn digest(&mut self) -> Result<[u8; 32], Refusal> {
         digest_of_room(self)
+    }
+
+    fn act_towards<F: FnOnce(&Result<Answer, Refusal>) -> Result<Vec<u8>, Refusal>>(
+        &mut self,
+        alloc: Global,
+        event: &Event,
+        digits: &[u8; 64],
+        render: F,
+    ) -> Result<Vec<u8>, Miss> {
+        Store::act_towards(self, alloc, event, digits, render)
     }
 }
 
@@ -49,12 +63,26 @@ pub fn digest_of_room<S: Alter>(store: &mut Store<S>) -> Result<[u8; 32], Refusa
     if !store.is_sound {
         return Err(Refusal::Storage);
     }
-    let _ = store.conn.is_autocommit();
-    match digest_in(&mut store.conn) {
-        Ok(digest) => Ok(digest),
-        Err(fault) => {
-            store.test_file();
-            Err(refusal_of(fault))
+    let digest = digest_in(&mut store.conn);
+    // The transaction that it was read in is undone, and that may have shut the connection.
+    store.test_file();
+    told(digest, store.is_sound)
+}
+
+// The digest that was read of a room whose file was then found sound.
+fn told(digest: Result<[u8; 32], Fault>, is_sound: bool) -> Result<[u8; 32], Refusal>
+    ensures read { IfOk result (λ x. digest ≡ Ok x) }
+    ensures sound { OnOk result (IsTrue is_sound) }
+    ensures wants { IfErr result IsWant }
+{
+    match digest {
+        Ok(digest) => {
+            if is_sound {
+                Ok(digest)
+            } else {
+                Err(Refusal::Storage)
+            }
         }
+        Err(fault) => Err(refusal_of(fault)),
     }
 }

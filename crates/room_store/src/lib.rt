@@ -12,3 +12,4 @@ pub mod migrating;
 pub mod opening;
 mod serving;
 pub mod store;
+mod towards;

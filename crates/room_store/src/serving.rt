@@ -1,10 +1,13 @@
 //! A store, as the room that the engine serves.
-ghost use Rattle.std.proofs.Common.{inl, subst, sym};
+ghost use Rattle.std.proofs.Common.{ap, false, inl, inr, subst, sym, ⊎_elim, ◌∙◌, ◌≡◌};
+ghost use Rattle.std.proofs.lemmas.Bool.{cases_Bool};
+ghost use Rattle.sqlite.specs.Effect.{Database};
 ghost use Rattle.sqlite.specs.Held.{state};
 ghost use Rattle.sqlite.specs.State.{HasCleanDisk};
 ghost use Rattle.room_service.specs.Rooms.{machine};
 ghost use Rattle.room_tables.specs.Stands.{Stands};
 ghost use Rattle.room_store_writes.specs.Houses.{house_of};
+ghost use Rattle.room_store_cache.specs.Cache.{KnowsNothing};
 ghost use Rattle.room_store.specs.Keeping.{IsKept, IsReady, IsRoom, LeavesOneOf};
 
 use crate::store::Store;
@@ -27,6 +30,10 @@ impl<S: Alter> Room for Store<S> {
 
     ghost leaves_one_of = { λ held terminals rooms. LeavesOneOf S.Store held terminals rooms };
 
+    ghost is_shut = { λ held. held.is_sound ≡ false };
+
+    ghost has_failed = { λ held. KnowsNothing held.cache };
+
     ghost step = { machine };
 
     fn who(&mut self, _: Global, token: &Token) -> Result<Option<Who>, Refusal> {
@@ -47,4 +54,13 @@ impl<S: Alter> Room for Store<S> {
     ghost leaves_it = { λ held terminals room kept is db left. inl
         (subst (λ trees. Stands trees (house_of held.plan terminals) room)
         (sym (kept.alone db left)) (is.tables kept.is_open)) };
+
+    // A stop of an open store leaves what was committed.
+    ghost kept_or_shut = { λ held ready clean. ⊎_elim
+        (λ sound. let settled = (ready.sound sound clean).settled in inl (record {
+          is_open = settled.is_open;
+          alone = λ db left. S.Store.settled held.conn.store db settled.is_open left
+              ∙ ap (λ (b : Database). b.trees) settled.committed;
+        }))
+        (λ unsound. inr unsound) (cases_Bool held.is_sound) };
 }

@@ -1,5 +1,5 @@
 //! A room that is kept in the tables of a connection.
-ghost use Rattle.std.specs.Prelude.{◌≡◌, ◌↔◌, List, Result, Ok, IsTrue, IfOk, IfErr, OnOk, OnErr, option_map};
+ghost use Rattle.std.specs.Prelude.{◌≡◌, false, List, Result, Ok, IsTrue, IfOk, IfErr, OnOk, OnErr, MatchResult, option_map};
 ghost use Rattle.std.specs.Fn.{FnOnceReturnsAt};
 ghost use Rattle.sqlite.specs.Held.{state};
 ghost use Rattle.sqlite.specs.State.{HasCleanDisk, Survives};
@@ -9,19 +9,26 @@ ghost use Rattle.room_types.specs.declared.fleet.Terminal.{Terminal as Known};
 ghost use Rattle.room_types.specs.declared.refusals.Refusal.{Refusal as Why};
 ghost use Rattle.room_types.specs.declared.refusals.Refusal.TheVariants.{Memory};
 ghost use Rattle.room_model.specs.Room.{Room};
+ghost use Rattle.room_model.specs.Shares.{AgreeOn};
 ghost use Rattle.room_model.specs.Step.{IsAddressed, answer_to, room_after};
-ghost use Rattle.room_tables_schema.specs.Schema.{room_schema};
+ghost use Rattle.room_model.specs.WellFormed.{IsWellFormed};
+ghost use Rattle.room_tables_schema.specs.Connections.{HasRoomSchema};
+ghost use Rattle.room_service.specs.Digests.{IsMiss};
 ghost use Rattle.room_service.specs.Rooms.{IsWant, who_at};
+ghost use Rattle.room_service.specs.declared.digests.Miss.TheVariants.{Another};
 ghost use Rattle.room_tables.specs.Stands.{Stands};
 ghost use Rattle.room_store_writes.specs.Writing.{IsSettled, Leaves};
-ghost use Rattle.room_store_cache.specs.Cache.{IsCacheOf, KnowsNothing};
-ghost use Rattle.room_store.specs.Keeping.{IsReady, IsRoom};
+ghost use Rattle.room_store_cache.specs.Cache.{KnowsNothing};
+ghost use Rattle.room_store.specs.Keeping.{IsReady, IsRoom, ShowsRoom};
+ghost use Rattle.room_store.specs.Towards.{digits_after};
 ghost use Rattle.room_store_writes.specs.Houses.{house_of};
 
 use crate::acting::{act_on, know_number};
 use crate::faults::refusal_of;
 use crate::knowing::{keep, place_of};
+use crate::towards::act_towards_on;
 use room_place::plans::Plan;
+use room_service::digests::Miss;
 use room_store_cache::cache::Cache;
 use room_tables::terminals::terminal_at;
 use room_tables_schema::testing::is_room;
@@ -35,9 +42,10 @@ use std::alloc::Global;
 
 /// A room in the tables of a connection.
 ///
-/// A failed call may have shut the connection, which then tells nothing of the tables any more. So
-/// after each failed call the store tests whether it still sees a room, and where it doesn't, every
-/// later call is refused as `Storage`.
+/// A failed call may have shut the connection for good, which then tells nothing of the tables any
+/// more. So after each failed call the store reads a row. It stays sound where it sees a room and
+/// can read; where not, every later call is refused as `Storage`, and the file has to be opened
+/// again.
 pub struct Store<S: Alter> {
     pub(crate) conn: Connection<S>,
     pub(crate) plan: Plan,
@@ -56,14 +64,14 @@ impl<S: Alter> Store<S> {
         &self.plan
     }
 
-    /// Whether a later call may succeed: exactly where the connection shows a room. A failed call
-    /// may have shut it for good; then every later call is refused as `Storage`, and the file has
-    /// to be opened again.
+    /// Whether a later call may succeed: the connection is open and shows a room, as it was
+    /// committed. A failed call may have shut it for good; then every later call is refused as
+    /// `Storage`, and the file has to be opened again.
     pub fn is_sound(&self) -> bool
         requires { IsReady S.Store self.now }
         ensures value { result ≡ self.now.is_sound }
         ensures usable { HasCleanDisk (state S.Store self.now.conn)
-            → (IsTrue result ↔ ((state S.Store self.now.conn).now.schema ≡ room_schema)) }
+            → IsTrue result → ShowsRoom (state S.Store self.now.conn) }
     {
         self.is_sound
     }
@@ -100,6 +108,8 @@ impl<S: Alter> Store<S> {
             → OnOk result (IsTrue (state S.Store self.old.conn).is_open
             → IsTrue (state S.Store self.new.conn).is_open) }
         ensures wants { IfErr result IsWant }
+        // After a failure nothing is known of the room any more, but terminals.
+        ensures failed { OnErr result (KnowsNothing self.new.cache) }
         ensures survives { Survives (state S.Store self.old.conn) (state S.Store self.new.conn)
             (λ _. ⊥) }
     {
@@ -139,13 +149,18 @@ impl<S: Alter> Store<S> {
         ensures ready { IsReady S.Store self.new }
         ensures plan { self.new.plan ≡ self.old.plan }
         ensures known { self.new.known ≡ self.old.known }
-        // After a failure it knows nothing, or what it knew.
-        ensures cache { OnErr result ((room : Room) → IsCacheOf self.old.cache room
-            → IsCacheOf self.new.cache room) }
+        // After a failure nothing is known of the room any more, but terminals.
+        ensures failed { OnErr result (KnowsNothing self.new.cache) }
         ensures bytes { HasCleanDisk (state S.Store self.new.conn)
             → IfOk result (λ bytes. (terminals : List Known) (room : Room)
             → IsRoom S.Store self.old terminals room → IsAddressed event.now room
             → FnOnceReturnsAt F.FnOnce render (answer_to event.now room) (Ok bytes)) }
+        // They are so of every room that agrees on the rows of who asks.
+        ensures apart { HasCleanDisk (state S.Store self.new.conn)
+            → IfOk result (λ bytes. (terminals : List Known) (room other : Room)
+            → IsRoom S.Store self.old terminals room → IsAddressed event.now room
+            → IsWellFormed other → AgreeOn event.now.who event.now.ask room other
+            → FnOnceReturnsAt F.FnOnce render (answer_to event.now other) (Ok bytes)) }
         ensures ok { HasCleanDisk (state S.Store self.new.conn)
             → OnOk result ((terminals : List Known) (room : Room)
             → IsRoom S.Store self.old terminals room → IsAddressed event.now room
@@ -186,19 +201,120 @@ impl<S: Alter> Store<S> {
         }
     }
 
-    // After a fault the connection may be shut, and then it shows another schema or none. What was
-    // known is read anew, which tells it too.
+    /// Acts on an addressed event, as `act` does, where the room comes by it to the digest of these
+    /// digits. Where it would come to another one, that is told, and the room is kept as it was.
+    pub fn act_towards<F: FnOnce(&Result<Answer, Refusal>) -> Result<Vec<u8>, Refusal>>(
+        &mut self,
+        alloc: Global,
+        event: &Event,
+        digits: &[u8; 64],
+        render: F,
+    ) -> Result<Vec<u8>, Miss>
+        requires ready { IsReady S.Store self.old }
+        requires callable { F.IsAlwaysCallable render }
+        requires memory { (answer : Result Told Why) (r : _)
+            → FnOnceReturnsAt F.FnOnce render answer r → IfErr r (λ e. e ≡ Memory) }
+        ensures ready { IsReady S.Store self.new }
+        ensures plan { self.new.plan ≡ self.old.plan }
+        ensures known { self.new.known ≡ self.old.known }
+        // After a failure nothing is known of the room any more, but terminals.
+        ensures failed { OnErr result (KnowsNothing self.new.cache) }
+        ensures bytes { HasCleanDisk (state S.Store self.new.conn)
+            → IfOk result (λ bytes. (terminals : List Known) (room : Room)
+            → IsRoom S.Store self.old terminals room → IsAddressed event.now room
+            → FnOnceReturnsAt F.FnOnce render (answer_to event.now room) (Ok bytes)) }
+        ensures ok { HasCleanDisk (state S.Store self.new.conn)
+            → OnOk result ((terminals : List Known) (room : Room)
+            → IsRoom S.Store self.old terminals room → IsAddressed event.now room
+            → IsRoom S.Store self.new terminals (room_after event.now room)
+            × (digits_after event.now terminals room ≡ digits.now)) }
+        ensures another { HasCleanDisk (state S.Store self.new.conn)
+            → IfErr result (λ miss. miss ≡ Another → (terminals : List Known) (room : Room)
+            → IsRoom S.Store self.old terminals room → IsAddressed event.now room
+            → ¬ (digits_after event.now terminals room ≡ digits.now)) }
+        ensures settled { HasCleanDisk (state S.Store self.new.conn)
+            → MatchResult result (λ _. IsSettled (state S.Store self.new.conn))
+            (λ miss. miss ≡ Another → IsSettled (state S.Store self.new.conn)) }
+        ensures err { HasCleanDisk (state S.Store self.new.conn)
+            → OnErr result (Leaves (state S.Store self.old.conn) (state S.Store self.new.conn)) }
+        ensures wants { IfErr result IsMiss }
+        // What a stop leaves is what it left before, or the room after the event.
+        ensures survives { Survives (state S.Store self.old.conn) (state S.Store self.new.conn)
+            (λ db. IsTrue (state S.Store self.old.conn).is_open
+            → (terminals : List Known) (room : Room) → IsRoom S.Store self.old terminals room
+            → IsAddressed event.now room
+            → Stands db (house_of self.old.plan terminals) (room_after event.now room)) }
+    {
+        if !self.is_sound {
+            return Err(Miss::Want(Refusal::Storage));
+        }
+        know_number(&event.ask);
+        match act_towards_on(
+            alloc,
+            &mut self.conn,
+            &self.plan,
+            &mut self.cache,
+            event,
+            digits,
+            render,
+        ) {
+            Ok(bytes) => Ok(bytes),
+            Err(miss) => {
+                self.test_file();
+                Err(self.after_test(miss))
+            }
+        }
+    }
+
+    // What is told of a miss once the file was tested: storage is wanting where it is shut.
+    fn after_test(&self, miss: Miss) -> Miss
+        ensures told { IsMiss miss → IsMiss result }
+        ensures same { result ≡ Another → miss ≡ Another }
+        ensures sound { result ≡ Another → IsTrue self.now.is_sound }
+    {
+        if self.is_sound {
+            miss
+        } else {
+            Miss::Want(Refusal::Storage)
+        }
+    }
+
+    // After a fault the connection may show no room any more, or may be shut, and a shut one still
+    // shows the schema that it had. So a row is read too. What was known is forgotten.
     pub(crate) fn test_file(&mut self)
-        ensures sound { IsTrue self.new.is_sound
-            ↔ ((state S.Store self.new.conn).now.schema ≡ room_schema) }
-        ensures conn { self.new.conn ≡ self.old.conn }
+        requires outside { self.old.conn.in_transaction ≡ false }
+        ensures ready { IsReady S.Store self.new }
         ensures plan { self.new.plan ≡ self.old.plan }
         ensures known { self.new.known ≡ self.old.known }
         ensures nothing { KnowsNothing self.new.cache }
+        ensures leaves { HasCleanDisk (state S.Store self.new.conn)
+            → Leaves (state S.Store self.old.conn) (state S.Store self.new.conn) }
+        ensures survives { Survives (state S.Store self.old.conn) (state S.Store self.new.conn)
+            (λ _. ⊥) }
     {
         self.cache.forget();
-        self.is_sound = is_room(self.conn.schema());
+        self.is_sound = is_room(self.conn.schema()) && can_read(&mut self.conn);
     }
+}
+
+// Whether a row can be read: that of a token, which need not be any terminal's. A shut connection
+// reads none.
+fn can_read<S: Alter>(conn: &mut Connection<S>) -> bool
+    requires room { HasRoomSchema S.Store conn.old }
+    requires outside { conn.old.in_transaction ≡ false }
+    ensures shows { IsTrue result → HasCleanDisk (state S.Store conn.new)
+        → ShowsRoom (state S.Store conn.new) }
+    ensures leaves { HasCleanDisk (state S.Store conn.new)
+        → Leaves (state S.Store conn.old) (state S.Store conn.new) }
+    ensures outside { conn.new.in_transaction ≡ false }
+    ensures survives { Survives (state S.Store conn.old) (state S.Store conn.new) (λ _. ⊥) }
+{
+    let Some(token) = Token::parse("00000000") else {
+        return false;
+    };
+    // Outside a transaction the tables are as they were committed.
+    let _ = conn.is_autocommit();
+    terminal_at(conn, &token).is_ok()
 }
 
 fn who_of(terminal: Option<Terminal>) -> Option<Who>

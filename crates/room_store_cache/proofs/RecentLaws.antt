@@ -12,16 +12,10 @@ use Rattle.room_types.specs.declared.asks.Ask.TheVariants.{Call}
 use Rattle.room_types.specs.declared.asks.CallForm.{CallForm}
 use Rattle.room_types.specs.declared.tables.Incident.{Incident}
 use Rattle.room_model.proofs.Tests.{filter_filter, left_true, right_true}
-use Rattle.room_model.specs.Room.{Room}
 use Rattle.room_model.specs.Working.{is_around, names_opening}
 use Rattle.room_tables.proofs.Streams.{put_end}
 use Rattle.room_store_cache.proofs.KeptLaws.{pass_put}
-use Rattle.room_store_cache.specs.Recent.{AreRecent, Reaches}
-use Rattle.room_store_cache.specs.declared.recents.Recents.{Recents}
-
--- an incident was opened from this moment on
-abbrev pub opened_since : ℕ → Incident → Bool
-opened_since from i = int_le (pos from) (pos i.opened)
+use Rattle.room_store_cache.specs.Recent.{opened_since}
 
 -- it is one of the division that the call may be linked to
 abbrev pub may_have : ℕ → CallForm → ℕ → Incident → Bool
@@ -62,10 +56,10 @@ linked_since : (first at opened : ℕ) → first ≤ at - 900 → nat_le (at - o
     → int_le (pos first) (pos opened) ≡ true
 linked_since first at opened before near = grind (arith, ints, nat_tests)
 
--- all that a call may be linked to is among what is known
-pub known_near : (known : Recents) (r : Room) (d : ℕ) (form : CallForm) (at : ℕ)
-    → Reaches known (at - 900) → AreRecent known r
-    → filter (may_have d form at) known.incidents ≡ filter (may_have d form at) r.incidents
-known_near known r d form at (first, is, before) are =
-    ap (filter (may_have d form at)) (rw is at are)
-    ∙ filter_filter (may_have d form at) (opened_since first) r.incidents (λ i yes. linked_since first at i.opened before (left_true _ (is_around i.place form.place) (right_true (i.division == d) _ yes)))
+-- all that a call may be linked to is among those of a half hour and what was opened after it
+pub known_near : (from : ℕ) (known all : List Incident) (d : ℕ) (form : CallForm) (at : ℕ)
+    → from ≤ at - 900 → known ≡ filter (opened_since from) all
+    → filter (may_have d form at) known ≡ filter (may_have d form at) all
+known_near from known all d form at before are =
+    ap (filter (may_have d form at)) are
+    ∙ filter_filter (may_have d form at) (opened_since from) all (λ i yes. linked_since from at i.opened before (left_true _ (is_around i.place form.place) (right_true (i.division == d) _ yes)))

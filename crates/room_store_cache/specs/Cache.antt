@@ -40,7 +40,7 @@ pub record KnowsNothing (cache : Cache) : Type 0 where
   pub fleet : cache.fleet.is_known ≡ false
   pub boards : cache.boards.kept.items ≡ []
   pub dossiers : cache.dossiers.kept.items ≡ []
-  pub recents : cache.recents.from ≡ None
+  pub recents : cache.recents.known ≡ None
 
 -- what is known is so in this room
 pub record IsCacheOf (cache : Cache) (room : Room) : Type 0 where

@@ -1,5 +1,5 @@
 //! What waits in a division: its active incidents and its uncleared exceptions.
-ghost use Rattle.std.specs.Prelude.{◌≡◌, [], IfSome};
+ghost use Rattle.std.specs.Prelude.{◌≡◌, ◌≢◌, [], All, AllPairs, IfNone, IfSome, map};
 ghost use Rattle.room_model.specs.Room.{IsInOrder, Room, apply_one};
 ghost use Rattle.room_store_cache.specs.Boards.{AreBoardsOf, IsBoardOf, is_exception, is_waiting};
 
@@ -21,10 +21,11 @@ pub struct Board {
     pub exceptions: Rows<Report>,
 }
 
-/// The boards of some divisions.
+/// The boards of some divisions, at most one of each.
 #[derive(Drop)]
 pub struct Boards {
     kept: Vec<Board>,
+    ghost apart: { AllPairs (λ c d. c ≢ d) (map (λ x. x.division) kept.items) },
 }
 
 impl Boards {
@@ -46,8 +47,9 @@ impl Boards {
 
     /// The board of a division, if it is kept.
     pub fn get(&self, division: DivisionNumber) -> Option<&Board>
-        ensures { (room : Room) → AreBoardsOf self.now.kept.items room
+        ensures so { (room : Room) → AreBoardsOf self.now.kept.items room
             → IfSome result (λ x. (x.now.division ≡ division) × IsBoardOf x.now room) }
+        ensures none { IfNone result (All (λ x. x.division ≢ division) self.now.kept.items) }
     {
         for board in &self.kept {
             if board.division == division {
@@ -57,12 +59,14 @@ impl Boards {
         None
     }
 
-    /// Keeps the board of a division that has none, where memory is not refused.
+    /// Keeps the board of a division, where none is kept and memory is not refused.
     pub fn keep(&mut self, board: Board)
         ensures { (room : Room) → AreBoardsOf self.old.kept.items room → IsBoardOf board room
             → AreBoardsOf self.new.kept.items room }
     {
-        let _ = self.kept.push(board);
+        if self.get(board.division).is_none() {
+            let _ = self.kept.push(board);
+        }
     }
 
     /// What is kept after a change of the room: nothing, where memory is refused.
@@ -76,6 +80,8 @@ impl Boards {
 
 impl View for Board {
     ghost is_so = { IsBoardOf };
+
+    ghost division_of = { λ x. x.division };
 
     fn follow(&mut self, change: &Change) -> Result<(), Fault> {
         match change {

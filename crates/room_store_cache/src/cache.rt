@@ -28,7 +28,7 @@ impl Cache {
             fleet: Fleet::new(alloc),
             boards: Boards::new(alloc),
             dossiers: Dossiers::new(alloc),
-            recents: Recents::new(alloc),
+            recents: Recents::new(),
         }
     }
 

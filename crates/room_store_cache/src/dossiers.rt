@@ -1,5 +1,5 @@
 //! Active incidents that desks named last, each with all its turns.
-ghost use Rattle.std.specs.Prelude.{◌≡◌, ◌==◌, ◌&&◌, [], IfSome};
+ghost use Rattle.std.specs.Prelude.{◌≡◌, ◌≤◌, ◌==◌, ◌&&◌, [], IfSome, vec_len};
 ghost use Rattle.room_model.specs.Room.{IsInOrder, Room, apply_one};
 ghost use Rattle.room_store_cache.specs.Dossiers.{AreDossiersOf, IsDossierOf};
 
@@ -25,11 +25,12 @@ pub struct Dossier {
     pub turns: Rows<Turn>,
 }
 
-/// Some dossiers of the room.
+/// Some dossiers of the room, 64 at most.
 #[derive(Drop)]
 pub struct Dossiers {
     // In the order in which they were kept.
     kept: Vec<Dossier>,
+    ghost few: { vec_len kept ≤ 64 },
 }
 
 impl Dossiers {
@@ -104,6 +105,8 @@ impl Dossiers {
 
 impl View for Dossier {
     ghost is_so = { IsDossierOf };
+
+    ghost division_of = { λ x. x.division };
 
     fn follow(&mut self, change: &Change) -> Result<(), Fault> {
         match change {

@@ -7,6 +7,7 @@ pub mod boards;
 pub mod cache;
 pub mod dossiers;
 pub mod fleets;
+pub mod half_hours;
 pub mod recents;
 pub mod rows;
 pub mod views;

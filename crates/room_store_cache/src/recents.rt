@@ -1,5 +1,5 @@
 //! The incidents opened from a moment on, and those of them that a call may be linked to.
-ghost use Rattle.std.specs.Prelude.{◌≡◌, ◌==◌, ◌&&◌, None, filter, IsTrue, IfErr, IfOk, OnOk};
+ghost use Rattle.std.specs.Prelude.{◌≡◌, ◌+◌, ◌≤◌, ◌==◌, ◌&&◌, None, filter, IsTrue, IfErr, IfOk, IfSome, OnOk};
 ghost use Rattle.sqlite.specs.Held.{state};
 ghost use Rattle.sqlite.specs.State.{HasCleanDisk};
 ghost use Rattle.room_tables.specs.Finding.{Finds};
@@ -7,12 +7,12 @@ ghost use Rattle.room_tables_schema.specs.Connections.{HasRoomSchema};
 ghost use Rattle.room_tables_schema.specs.declared.faults.Fault.TheVariants.{Memory};
 ghost use Rattle.room_tables_sql.specs.Outcomes.{ReadsOnly};
 ghost use Rattle.room_types.specs.declared.asks.Ask.TheVariants.{Call};
-ghost use Rattle.room_types.specs.declared.changes.Change.TheVariants.{PutIncident};
 ghost use Rattle.room_model.specs.Room.{IsInOrder, Room, apply_one};
 ghost use Rattle.room_model.specs.Working.{names_opening};
-ghost use Rattle.room_store_cache.specs.Recent.{AreRecent, Reaches};
+ghost use Rattle.room_store_cache.specs.Recent.{AreRecent};
 
-use crate::rows::{keep_if, put};
+use crate::half_hours::HalfHour;
+use crate::rows::put;
 use room_place::plans::DivisionNumber;
 use room_tables::incidents::incidents_since;
 use room_tables_schema::faults::Fault;
@@ -34,35 +34,31 @@ const LINKED_AROUND: u32 = 200;
 // the oldest.
 const KEPT_LONGER: u32 = 900;
 
-/// The incidents of all divisions that were opened from a moment on, as the tables have them; or
-/// none, where nothing is known.
+/// The incidents of all divisions that were opened from a moment on, as the tables have them, where
+/// that is one half hour; or nothing is known.
 #[derive(Drop)]
 pub struct Recents {
-    // A second of UTC since 1970.
-    from: Option<u32>,
-    incidents: Rows<Incident>,
+    known: Option<HalfHour>,
 }
 
 impl Recents {
     /// Nothing is known yet.
-    pub fn new(alloc: Global) -> Recents
-        ensures { result.from ≡ None }
+    pub fn new() -> Recents
+        ensures { result.known ≡ None }
     {
-        Recents {
-            from: None,
-            incidents: Rows::new(alloc),
-        }
+        Recents { known: None }
     }
 
     /// Nothing is known any more.
     pub fn forget(&mut self)
-        ensures { self.new.from ≡ None }
+        ensures { self.new.known ≡ None }
     {
-        self.from = None;
+        self.known = None;
     }
 
     /// The incidents of a division that a call may be linked to. Where not all of them are known,
-    /// the tables are read first. A refusal is of memory or of storage.
+    /// the tables are read first, and what they have is kept if it is of one half hour. It is of
+    /// more only where the clock was put back. A refusal is of memory or of storage.
     pub fn near<S: Alter>(
         &mut self,
         alloc: Global,
@@ -79,91 +75,55 @@ impl Recents {
             room.incidents) }
         ensures kept { Finds S.Store conn.old conn.new result (λ room x. AreRecent self.old room
             → AreRecent self.new room) }
+        ensures last { OnOk result (IfSome self.new.known (λ x. at ≤ x.from + 1800)) }
         ensures reads { ReadsOnly S.Store conn.old conn.new result }
     {
         let from = at.get().saturating_sub(LINKED_WITHIN);
-        self.know(alloc, conn, from)?;
-        self.around(alloc, division, form, at)
+        if let Some(known) = &self.known
+            && known.from <= from
+            && from - known.from <= KEPT_LONGER
+        {
+            return around(alloc, &known.incidents, division, form, at);
+        }
+        let since = incidents_since(alloc, conn, i64::from(from))?;
+        let near = around(alloc, &since, division, form, at);
+        self.known = HalfHour::new(from, since);
+        near
     }
 
-    /// What is known after a change of the room: nothing, where memory is refused.
+    /// What is known after a change of the room: nothing, where memory is refused, or where an
+    /// incident was opened after the half hour.
     pub fn follow(&mut self, change: &Change)
         ensures { (room : Room) → IsInOrder room → AreRecent self.old room
             → AreRecent self.new (apply_one room change.now) }
     {
-        if let Change::PutIncident(incident) = change {
-            self.put(incident);
+        if let Change::PutIncident(incident) = change
+            && let Some(known) = self.known.take()
+        {
+            self.known = known.with(incident);
         }
     }
+}
 
-    // Whether the incidents opened from a moment on are known, and not many more.
-    fn reaches(&self, from: u32) -> bool
-        ensures { IsTrue result → Reaches self.now from }
-    {
-        match self.from {
-            Some(first) => first <= from && from - first <= KEPT_LONGER,
-            None => false,
+// Those of a division that a call may be linked to. The one fault is `Memory`.
+fn around(
+    alloc: Global,
+    incidents: &Rows<Incident>,
+    division: DivisionNumber,
+    form: &CallForm,
+    at: Moment,
+) -> Result<Rows<Incident>, Fault>
+    ensures rows { IfOk result (λ rows. rows ≡ filter (λ i. i.division == division
+        && names_opening (Call form.now) at i) incidents.now) }
+    ensures memory { IfErr result (λ e. e ≡ Memory) }
+{
+    let mut near = Rows::new(alloc);
+    for incident in incidents.as_slice() {
+        if may_link(incident, division, form, at) {
+            put(&mut near, incident)?;
         }
     }
-
-    // Reads the incidents that were opened from a moment on, where they are not known.
-    fn know<S: Alter>(
-        &mut self,
-        alloc: Global,
-        conn: &mut Connection<S>,
-        from: u32,
-    ) -> Result<(), Fault>
-        requires room { HasRoomSchema S.Store conn.old }
-        requires open { HasCleanDisk (state S.Store conn.old)
-            → IsTrue (state S.Store conn.old).is_open }
-        ensures known { Finds S.Store conn.old conn.new result (λ room _. AreRecent self.old room
-            → AreRecent self.new room) }
-        ensures reaches { OnOk result (Reaches self.new from) }
-        ensures reads { ReadsOnly S.Store conn.old conn.new result }
-    {
-        if self.reaches(from) {
-            return Ok(());
-        }
-        self.incidents = incidents_since(alloc, conn, i64::from(from))?;
-        self.from = Some(from);
-        Ok(())
-    }
-
-    // Those of a division that a call may be linked to. The one fault is `Memory`.
-    fn around(
-        &self,
-        alloc: Global,
-        division: DivisionNumber,
-        form: &CallForm,
-        at: Moment,
-    ) -> Result<Rows<Incident>, Fault>
-        ensures rows { IfOk result (λ rows. rows ≡ filter (λ i. i.division == division
-            && names_opening (Call form.now) at i) self.now.incidents) }
-        ensures memory { IfErr result (λ e. e ≡ Memory) }
-    {
-        let mut near = Rows::new(alloc);
-        for incident in self.incidents.as_slice() {
-            if may_link(incident, division, form, at) {
-                put(&mut near, incident)?;
-            }
-        }
-        Ok(near)
-    }
-
-    // Puts an incident in its key's place, or takes out the one of its key where it was opened
-    // before.
-    fn put(&mut self, incident: &Incident)
-        ensures { (room : Room) → IsInOrder room → AreRecent self.old room
-            → AreRecent self.new (apply_one room (PutIncident incident.now)) }
-    {
-        let Some(from) = self.from else {
-            return;
-        };
-        let is_late = incident.opened.get() >= from;
-        if keep_if(is_late, &mut self.incidents, incident).is_err() {
-            self.from = None;
-        }
-    }
+    Ok(near)
 }
 
 // Whether an incident is the division's, and a call may be linked to it by its opening and its

@@ -10,3 +10,7 @@ pub mod WholeTables
 pub mod Told
 -- rooms whose texts are the same
 pub mod Rooms
+-- what is read and written in a transaction
+pub mod Inside
+-- why changes were undone
+pub mod Undoing

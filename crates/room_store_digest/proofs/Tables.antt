@@ -1,5 +1,5 @@
 -- Whole tables read, one after another.
-use Rattle.std.proofs.Common.{◌≡◌, ◌+◌, ◌<◌, ◌⊎◌, inl, inr, ℕ, List, [], ◌∷◌, Bool, true, Ok, refl, sym, subst, ap, ◌∙◌, arith, []}
+use Rattle.std.proofs.Common.{◌≡◌, ◌+◌, ◌<◌, ◌⊎◌, inl, inr, ℕ, List, [], ◌∷◌, Bool, true, Ok, Result, refl, sym, subst, ap, ◌∙◌, arith, []}
 use Rattle.std.specs.List.{flat_map}
 use Rattle.sha2.specs.declared.Sha256.{Sha256}
 use Rattle.sqlite.specs.Held.{Held, state}
@@ -10,9 +10,10 @@ use Rattle.sqlite_trees.proofs.ListLemmas.{all_of, filter_all}
 use Rattle.sqlite_value.specs.Order.{Row}
 use Rattle.room_tables_schema.specs.Connections.{HasRoomSchema}
 use Rattle.room_tables_schema.specs.Schema.{room_schema}
-use Rattle.room_tables_sql.specs.Outcomes.{ReadsOnly}
-use Rattle.room_tables_sql.proofs.ReadLaws.{Looked, and, looked, told}
+use Rattle.room_tables_sql.specs.Outcomes.{ReadsInside}
+use Rattle.room_tables_sql.proofs.ReadLaws.{told_inside}
 use Rattle.room_tables_sql.proofs.Selections.{selected}
+use Rattle.room_tables.proofs.Inside.{inside_then}
 use Rattle.room_store_digest.specs.Hashing.{Adds}
 use Rattle.room_store_digest.specs.Reading.{ReadEach, ReadsTable}
 use Rattle.room_store_digest.specs.Texts.{table_text}
@@ -27,6 +28,10 @@ shown_is text old new shown rows has shows it =
     selected room_schema text it.tree it.key it.more [] it.selects old new [] shown has shows rows every it.stands (λ r. refl) ∙ filter_all every rows (all_of _ (λ r. refl) rows)
 
 -- ---- what was read
+
+-- all was read as it was to be
+abbrev pub Looked : {S : Type 0} → Ghosts S → Held S → Held S → Type 0
+Looked g old new = ReadsInside {T = Unit {0}} {E = Unit {0}} g old new (Ok tt)
 
 -- after so many reads: there was none yet, or all was read as it was to be
 abbrev pub SoFar : {S : Type 0} → Ghosts S → Held S → ℕ → Held S → Type 0
@@ -45,15 +50,19 @@ module _ {S : Type 0} {g : Ghosts S} {a b : Held S} {reads : ℕ} where
   trees_stay (inr it) clean = ap (λ db. db.trees) (it.ok clean).0.now_is
 
   pub read_through : {T E : Type 0} {x : T} → 0 < reads → SoFar g a reads b
-      → ReadsOnly {T = T} {E = E} g a b (Ok x)
+      → ReadsInside {T = T} {E = E} g a b (Ok x)
   read_through some (inl none) = absurd (omega arith)
-  read_through some (inr it) = told it
+  read_through some (inr it) = told_inside (Ok _) it
 
-module _ {S : Type 0} {g : Ghosts S} {a b c : Held S} {reads : ℕ} where
-  pub one_more : {T E : Type 0} {x : T} → SoFar g a reads b
-      → ReadsOnly {T = T} {E = E} g b c (Ok x) → SoFar g a (reads + 1) c
-  one_more (inl none) next = inr (subst (λ h. Looked g h c) none.1 (looked next))
-  one_more (inr it) next = inr (and it next)
+module _ {S : Type 0} {g : Ghosts S} {a b c : Held S} {reads : ℕ} {T E : Type 0} where
+  -- the next read succeeds or fails
+  pub read_on : SoFar g a reads b → (r : Result T E) → ReadsInside g b c r → ReadsInside g a c r
+  read_on (inl none) r next = subst (λ h. ReadsInside g h c r) none.1 next
+  read_on (inr it) r next = inside_then it r next
+
+  pub one_more : {x : T} → SoFar g a reads b → ReadsInside {T = T} {E = E} g b c (Ok x)
+      → SoFar g a (reads + 1) c
+  one_more before next = inr (told_inside (Ok tt) (read_on before (Ok _) next))
 
 -- ---- what was added
 

@@ -4,3 +4,5 @@ pub mod Texts
 pub mod Hashing
 -- what the texts of SQL read
 pub mod Reading
+-- the digest that changes lead to
+pub mod Towards

@@ -1,14 +1,15 @@
 //! The digest of a room that is kept in tables.
-ghost use Rattle.std.specs.Prelude.{◌≡◌, ◌<◌, List, length, map, IfOk, OnOk};
+ghost use Rattle.std.specs.Prelude.{◌≡◌, ◌<◌, false, List, length, map, IfOk, OnOk};
 ghost use Rattle.std.specs.List.{AllByRecursion, flat_map};
 ghost use Rattle.sha2.specs.Sha256.{sha256};
 ghost use Rattle.sqlite.specs.Held.{state};
-ghost use Rattle.sqlite.specs.State.{HasCleanDisk};
+ghost use Rattle.sqlite.specs.State.{HasCleanDisk, Survives};
 ghost use Rattle.sqlite_value.specs.Order.{Row};
 ghost use Rattle.room_model.specs.Room.{Room};
 ghost use Rattle.room_tables_rows.specs.Stands.{House, Stands};
 ghost use Rattle.room_tables_schema.specs.Connections.{HasRoomSchema};
-ghost use Rattle.room_tables_sql.specs.Outcomes.{ReadsOnly};
+ghost use Rattle.room_tables_sql.specs.Outcomes.{ReadsInside};
+ghost use Rattle.room_store_writes.specs.Writing.{Leaves};
 ghost use Rattle.room_store_digest.specs.Hashing.{Adds};
 ghost use Rattle.room_store_digest.specs.Reading.{IsKnown, ReadEach, ReadsTable};
 ghost use Rattle.room_store_digest.specs.Texts.{digest_text, table_text};
@@ -27,9 +28,9 @@ use room_tables_rows::terminals::ALL_TERMINALS;
 use room_tables_rows::turns::ALL_TURNS;
 use room_tables_rows::vehicles::ALL_VEHICLES;
 use room_tables_schema::faults::Fault;
-use room_tables_sql::reading::select;
+use room_tables_sql::reading::select_inside;
 use sha2::{Digest, Sha256};
-use sqlite::{Alter, Connection};
+use sqlite::{Alter, Connection, Transaction};
 
 // Selects all rows of each table but `meta`, the tables in the order in which they are made.
 const WHOLE_TABLES: [&str; 12] = [
@@ -47,57 +48,82 @@ const WHOLE_TABLES: [&str; 12] = [
     ALL_OFFERS,
 ];
 
-/// The SHA-256 of all rows of a room, table by table, but that of its version and its zone, on
-/// which no other row depends. Two tables are never in memory at once.
+/// The SHA-256 of all rows of a room, read in a transaction that is undone. All stays as it was,
+/// but that a fault may have shut the connection.
 pub fn digest_in<S: Alter>(conn: &mut Connection<S>) -> Result<[u8; 32], Fault>
     requires room { HasRoomSchema S.Store conn.old }
+    requires outside { conn.old.in_transaction ≡ false }
     ensures digest { HasCleanDisk (state S.Store conn.new)
         → IfOk result (λ digest. (house : House) (room : Room)
         → Stands (state S.Store conn.old).now.trees house room
         → digest ≡ sha256 (digest_text house.terminals room)) }
-    ensures reads { ReadsOnly S.Store conn.old conn.new result }
+    ensures leaves { HasCleanDisk (state S.Store conn.new)
+        → Leaves (state S.Store conn.old) (state S.Store conn.new) }
+    ensures ended { conn.new.in_transaction ≡ false }
+    ensures survives { Survives (state S.Store conn.old) (state S.Store conn.new) (λ _. ⊥) }
+{
+    // Outside a transaction the tables are as they were committed.
+    let _ = conn.is_autocommit();
+    let mut tx = conn.transaction();
+    let digest = digest_inside(&mut tx);
+    tx.rollback();
+    digest
+}
+
+/// The SHA-256 of all rows of a room as a transaction sees them, table by table, but that of its
+/// version and its zone, on which no other row depends. Two tables are never in memory at once.
+pub fn digest_inside<S: Alter>(tx: &mut Transaction<'_, S>) -> Result<[u8; 32], Fault>
+    requires room { HasRoomSchema S.Store tx.old.conn.now }
+    ensures same_reference { tx.new.conn.ghost_name ≡ tx.old.conn.ghost_name }
+    ensures digest { HasCleanDisk (state S.Store tx.new.conn.now)
+        → IfOk result (λ digest. (house : House) (room : Room)
+        → Stands (state S.Store tx.old.conn.now).now.trees house room
+        → digest ≡ sha256 (digest_text house.terminals room)) }
+    ensures reads { ReadsInside S.Store tx.old.conn.now tx.new.conn.now result }
 {
     let mut hasher = Sha256::new();
-    add_tables(conn, &mut hasher, &WHOLE_TABLES)?;
+    add_tables(tx, &mut hasher, &WHOLE_TABLES)?;
     Ok(hasher.finalize())
 }
 
 // Adds the rows of several tables, by the texts that select them.
 fn add_tables<S: Alter>(
-    conn: &mut Connection<S>,
+    tx: &mut Transaction<'_, S>,
     hasher: &mut Sha256,
     texts: &[&str],
 ) -> Result<(), Fault>
-    requires room { HasRoomSchema S.Store conn.old }
+    requires room { HasRoomSchema S.Store tx.old.conn.now }
     requires known { AllByRecursion IsKnown (map (λ text. text.now) texts.now) }
     requires some { 0 < length texts.now }
-    ensures rows { HasCleanDisk (state S.Store conn.new)
+    ensures same_reference { tx.new.conn.ghost_name ≡ tx.old.conn.ghost_name }
+    ensures rows { HasCleanDisk (state S.Store tx.new.conn.now)
         → OnOk result ((tables : List (List Row))
-        → ReadEach (map (λ text. text.now) texts.now) (state S.Store conn.old).now.trees tables
+        → ReadEach (map (λ text. text.now) texts.now) (state S.Store tx.old.conn.now).now.trees tables
         → Adds hasher.old hasher.new (flat_map table_text tables)) }
-    ensures reads { ReadsOnly S.Store conn.old conn.new result }
+    ensures reads { ReadsInside S.Store tx.old.conn.now tx.new.conn.now result }
 {
     for text in texts {
-        add_table(conn, hasher, text)?;
+        add_table(tx, hasher, text)?;
     }
     Ok(())
 }
 
 // Adds the rows of a table, by the text that selects them.
 fn add_table<S: Alter>(
-    conn: &mut Connection<S>,
+    tx: &mut Transaction<'_, S>,
     hasher: &mut Sha256,
     text: &str,
 ) -> Result<(), Fault>
-    requires room { HasRoomSchema S.Store conn.old }
+    requires room { HasRoomSchema S.Store tx.old.conn.now }
     requires known { IsKnown text.now }
-    ensures rows { HasCleanDisk (state S.Store conn.new)
+    ensures same_reference { tx.new.conn.ghost_name ≡ tx.old.conn.ghost_name }
+    ensures rows { HasCleanDisk (state S.Store tx.new.conn.now)
         → OnOk result ((rows : List Row)
-        → ReadsTable text.now (state S.Store conn.old).now.trees rows
+        → ReadsTable text.now (state S.Store tx.old.conn.now).now.trees rows
         → Adds hasher.old hasher.new (table_text rows)) }
-    ensures reads { ReadsOnly S.Store conn.old conn.new result }
+    ensures reads { ReadsInside S.Store tx.old.conn.now tx.new.conn.now result }
 {
-    let shown = select(conn, text, &[])?;
+    let shown = select_inside(tx, text, &[])?;
     add_rows(hasher, shown.as_slice());
     Ok(())
 }

@@ -4,3 +4,4 @@
 pub mod digests;
 mod hashing;
 pub mod laws;
+pub mod towards;

@@ -1,6 +1,7 @@
 -- What is told of a file: how much its room has, or what is wrong with it.
-use Rattle.std.specs.Prelude.{List, Some, ◌≡◌}
+use Rattle.std.specs.Prelude.{List, Some, ◌≡◌, ◌⊎◌}
 use Rattle.sqlite.specs.Effect.{Database}
+use Rattle.sqlite.specs.State.{State}
 use Rattle.sqlite_trees.specs.Tree.{Trees}
 use Rattle.room_place.specs.Plans.{Layout}
 use Rattle.room_place.specs.declared.plans.Area.{Area}
@@ -19,8 +20,8 @@ use Rattle.room_store_check.specs.declared.summaries.Summary.{Summary}
 use Rattle.room_tables_schema.specs.Versions.{HasTables}
 use Rattle.room_tables.specs.Stands.{Stands}
 use Rattle.room_store_writes.specs.Houses.{house_of}
-use Rattle.room_store_opening.specs.Opening.{IsOldRoom}
-use Rattle.room_store_judging.specs.Holding.{HoldsRoom}
+use Rattle.room_store_opening.specs.Opening.{HidesVersion, IsOldRoom}
+use Rattle.room_store_judging.specs.Holding.{HasNoPlan}
 use Rattle.room_store_examining.specs.declared.examining.Wrong.{Wrong}
 use Rattle.room_store_examining.specs.declared.examining.Wrong.TheVariants as wrong
 use Rattle.room_store_judging.specs.declared.faults.TakeFault.{TakeFault}
@@ -67,14 +68,19 @@ Weighs plan rows terminals (wrong.Terminals x) = MisfitFor plan rows terminals x
 Weighs plan rows terminals wrong.Memory = Unit {0}
 Weighs plan rows terminals other = ⊥
 
--- What is told to be wrong holds of the file.
+-- What is told to be wrong holds of the file. But for want of memory, all that is told after the
+-- first two is told of a room's tables.
 abbrev pub Explains : Database → Wrong → Type 0
 Explains now wrong.OldRoom = IsOldRoom now
 Explains now wrong.Tables = ¬ HasTables now.schema
-Explains now wrong.NoPlan = ¬ HoldsRoom now.trees
-Explains now (wrong.Rows x) =
-    (plan : Layout) × HoldsRows now.trees plan (λ rows terminals. DisagreeIn plan.areas rows x)
-Explains now (wrong.Terminals x) = (plan : Layout)
-    × HoldsRows now.trees plan (λ rows terminals. MisfitFor plan.areas rows terminals x)
+Explains now wrong.NoPlan = HasTables now.schema × HasNoPlan now.trees
+Explains now (wrong.Rows x) = HasTables now.schema
+    × ((plan : Layout) × HoldsRows now.trees plan (λ rows terminals. DisagreeIn plan.areas rows x))
+Explains now (wrong.Terminals x) = HasTables now.schema × ((plan : Layout)
+    × HoldsRows now.trees plan (λ rows terminals. MisfitFor plan.areas rows terminals x))
 Explains now wrong.Memory = Unit {0}
-Explains now wrong.Storage = Unit {0}
+Explains now wrong.Storage = HasTables now.schema
+
+-- Or it is told as storage, where the database failed as it was asked for the file's version.
+abbrev pub ExplainsFile : State → State → Wrong → Type 0
+ExplainsFile old new x = Explains old.now x ⊎ ((x ≡ wrong.Storage) × HidesVersion old new)

@@ -5,7 +5,7 @@ ghost use Rattle.sqlite.specs.State.{HasCleanDisk};
 ghost use Rattle.room_store_opening.specs.Opening.{schema_of};
 ghost use Rattle.room_store_judging.specs.Holding.{WritesNothing};
 ghost use Rattle.room_store_opening.specs.declared.taking.Tables.TheVariants.{Unindexed, Whole};
-ghost use Rattle.room_store_examining.specs.Examined.{Explains, IsAmount, IsSummaryOf, Weighs};
+ghost use Rattle.room_store_examining.specs.Examined.{Explains, ExplainsFile, IsAmount, IsSummaryOf, Weighs};
 
 use room_place::plans::Plan;
 use room_store_check::disagreements::{Disagreement, TerminalFault};
@@ -79,7 +79,7 @@ pub fn examine<S: Alter>(alloc: Global, conn: &mut Connection<S>) -> Result<(Pla
     ensures room { HasCleanDisk (state S.Store conn.new)
         → IfOk result (λ x. IsSummaryOf (state S.Store conn.old).now.trees x.0 x.1) }
     ensures wrong { HasCleanDisk (state S.Store conn.new)
-        → IfErr result (Explains (state S.Store conn.old).now) }
+        → IfErr result (ExplainsFile (state S.Store conn.old) (state S.Store conn.new)) }
     ensures nothing { WritesNothing (state S.Store conn.old) (state S.Store conn.new) }
     ensures ended { conn.new.in_transaction ≡ false }
 {

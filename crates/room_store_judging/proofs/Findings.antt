@@ -1,13 +1,14 @@
 -- What was found of a file, and what a fault tells of it.
-use Rattle.std.proofs.Common.{Err, List, Ok, Result, ap, subst, ◌≡◌}
+use Rattle.std.proofs.Common.{Err, List, Ok, Result, ap, rules, subst, sym, true≢false, ◌∙◌, ◌≡◌}
 use Rattle.std.specs.Prelude.{IfErr, IfOk, OnOk}
 use Rattle.std.specs.Result.{IsErr, IsErrAnd}
 use Rattle.sqlite_trees.specs.Tree.{Trees}
 use Rattle.room_model.specs.Room.{Room}
 use Rattle.room_tables_schema.specs.declared.faults.Fault.{Fault}
 use Rattle.room_tables_schema.specs.declared.faults.Fault.TheVariants as faults
+use Rattle.room_tables.specs.Numbering.{AreAllNumbered}
 use Rattle.room_tables.specs.Stands.{House, Stands}
-use Rattle.room_store_judging.specs.Holding.{HasHouse, HasRows, HoldsRoom, take_fault}
+use Rattle.room_store_judging.specs.Holding.{HasHouse, HasRows, HoldsRoom, MakesNoPlan, take_fault}
 use Rattle.room_store_judging.specs.declared.faults.TakeFault.{TakeFault}
 use Rattle.room_store_judging.specs.declared.faults.TakeFault.TheVariants.{NotARoom}
 use Rattle.room_place.specs.Plans.{Layout}
@@ -16,7 +17,11 @@ use Rattle.room_types.specs.declared.slices.DivisionRows.{DivisionRows}
 use Rattle.room_model.specs.Enrol.{AreTerminals}
 use Rattle.room_model.specs.Slices.{room_of}
 use Rattle.room_model.specs.WellFormed.{IsWellFormed}
+use Rattle.room_tables_rows.proofs.Moves.{one_zone}
 use Rattle.room_tables_rows.proofs.OneRoom.{one_house, one_room}
+use Rattle.room_tables_rows.proofs.PlanLaws.{numbered-injective}
+use Rattle.room_tables_rows.proofs.RowLaws.{area_faithful}
+use Rattle.room_tables_sql.proofs.TypedTables.{stands_for_one}
 use Rattle.room_store_writes.specs.Houses.{house_of}
 
 -- what failed gave nothing
@@ -35,6 +40,12 @@ not_told (Ok x) fault P is = tt
 not_told (Err e) faults.Memory P is = λ none. cc
 not_told (Err e) faults.Storage P is = λ none. cc
 
+-- what holds of a fault holds where it is told
+pub told_on : {T E : Type 0} (r : Result T E) (fault : E) (P : E → Type 0)
+    → IsErrAnd r (λ e. e ≡ fault) → P fault → IfErr r P
+told_on (Ok x) fault P is h = tt
+told_on (Err e) fault P is h = subst P (sym is) h
+
 -- a room that some tables hold is the one that they were read as
 pub held_is : (trees : Trees) (plan : Layout) (terminals : List Terminal) (room : Room)
     → Stands trees (house_of plan terminals) room → HoldsRoom trees
@@ -44,6 +55,18 @@ held_is trees plan terminals room stands h =
     let house = one_house trees (house_of h.layout h.terminals) (house_of plan terminals) h.room room h.stands stands in
     let theirs : h.terminals ≡ terminals = ap (λ (x : House). x.terminals) house in
     (subst IsWellFormed same h.formed, subst (λ r. AreTerminals r terminals) same (subst (AreTerminals h.room) theirs h.fits))
+
+-- a room that tables hold numbers its rows
+pub held_numbered : (trees : Trees) → HoldsRoom trees → AreAllNumbered trees
+held_numbered trees holds = let h = holds.stands in search rules
+
+-- and its areas and its zone are a plan
+pub planless : (trees : Trees) → (AreAllNumbered trees → MakesNoPlan trees) → ¬ HoldsRoom trees
+planless trees none h =
+    let found = none (held_numbered trees h) in
+    let areas : found.areas ≡ h.layout.areas = numbered-injective 1 found.areas h.room.plan (stands_for_one _ _ _ _ _ _ _ _ area_faithful found.areas_are h.stands.areas).0 ∙ h.planned in
+    let zone : found.zone ≡ h.layout.zone = one_zone 2 trees found.zone h.layout.zone found.meta h.stands.meta in
+    true≢false (sym h.layout.sound ∙ rw (areas, zone) at found.no_plan)
 
 -- a house and rows that tables hold are the room that the tables stand for
 pub stands_with : (trees : Trees) (layout : Layout) (terminals : List Terminal) (x : DivisionRows)

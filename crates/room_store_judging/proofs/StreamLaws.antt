@@ -235,10 +235,6 @@ sound_told plan terminals judged formed fit well fits x h =
       λ sound. both_true formed fit (one.1 sound.0) (two.1 (fit_kept plan x terminals sound.1)),
     )
 
--- tables that hold a room number their rows
-pub held_numbered : (trees : Trees) → HoldsRoom trees → AreAllNumbered trees
-held_numbered trees holds = let h = holds.stands in search rules
-
 -- What was judged after the house was read. The tables are as they were, since the connection is
 -- open still.
 module _ (old mid : State) (same : IsTrue mid.is_open → mid.now ≡ old.now) (layout : Layout)

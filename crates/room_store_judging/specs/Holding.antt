@@ -1,10 +1,10 @@
 -- What a file holds that is read: a room, and of which plan.
-use Rattle.std.specs.Prelude.{List, OnErr, OnOk, Result, ℕ, ◌≡◌, ◌∷◌, []}
+use Rattle.std.specs.Prelude.{List, OnErr, OnOk, Result, [], false, ℕ, ◌≡◌, ◌∷◌, ◌⊎◌}
 use Rattle.sqlite.specs.Held.{Held, state}
 use Rattle.sqlite.specs.State.{HasCleanDisk, State, Survives}
 use Rattle.sqlite_trees.specs.Tree.{Trees}
 use Rattle.sqlite_trees.specs.declared.store.Store.{Ghosts}
-use Rattle.room_place.specs.Plans.{Layout}
+use Rattle.room_place.specs.Plans.{Layout, is_plan}
 use Rattle.room_place.specs.declared.plans.Area.{Area}
 use Rattle.room_types.specs.declared.fleet.Terminal.{Terminal}
 use Rattle.room_types.specs.declared.slices.DivisionRows.{DivisionRows}
@@ -28,6 +28,7 @@ use Rattle.room_tables_sql.specs.Outcomes.{ReadsInside}
 use Rattle.room_tables_schema.specs.Schema.{areas_table, assignments_table, calls_table, divisions_table, incidents_table, loans_table, meta_table, offers_table, points_table, reports_table, terminals_table, turns_table, vehicles_table}
 use Rattle.room_tables_schema.specs.declared.faults.Fault.{Fault}
 use Rattle.room_tables_schema.specs.declared.faults.Fault.TheVariants as fault
+use Rattle.room_tables.specs.Numbering.{AreAllNumbered}
 use Rattle.room_tables.specs.Stands.{House, Stands, StandsFor, numbered}
 use Rattle.room_store_writes.specs.Houses.{house_of}
 use Rattle.room_store_writes.specs.Writing.{Leaves}
@@ -47,6 +48,19 @@ pub record Holds (AreFor : House → Room → Type 0) : Type 0 where
 -- by the tables of a room
 abbrev pub HoldsRoom : Trees → Type 0
 HoldsRoom trees = Holds (Stands trees)
+
+-- The tables have areas and a zone that make no plan.
+pub record MakesNoPlan (trees : Trees) : Type 0 where
+  pub areas : List Area
+  pub zone : List ℕ
+  pub areas_are : StandsFor trees areas_table area_row (numbered 1 areas)
+  pub meta : StandsFor trees meta_table meta_row (zone ∷ [])
+  pub no_plan : is_plan areas zone ≡ false
+
+-- Some table doesn't give each of its rows a number of its own, or the areas and the zone make no
+-- plan.
+abbrev pub HasNoPlan : Trees → Type 0
+HasNoPlan trees = ¬ AreAllNumbered trees ⊎ MakesNoPlan trees
 
 -- The tables stand for a well-formed room of this plan, with terminals that fit it.
 abbrev pub IsPlanOf : Trees → Layout → Type 0

@@ -1,16 +1,16 @@
 //! All that the tables of a file hold, read inside a transaction.
-ghost use Rattle.std.specs.Prelude.{◌≡◌, ◌⊎◌, IfErr, IfOk, OnOk, string_bytes};
+ghost use Rattle.std.specs.Prelude.{◌≡◌, ◌⊎◌, false, IfErr, IfOk, OnOk, string_bytes};
 ghost use Rattle.sqlite.specs.Held.{state};
 ghost use Rattle.sqlite.specs.State.{HasCleanDisk};
 ghost use Rattle.room_tables_schema.specs.Connections.{HasRoomSchema};
 ghost use Rattle.room_tables_sql.specs.Tables.{AreNumbered};
 ghost use Rattle.room_tables_sql.specs.Outcomes.{ReadsInside};
-ghost use Rattle.room_place.specs.Plans.{Layout};
+ghost use Rattle.room_place.specs.Plans.{is_plan};
 ghost use Rattle.room_model.specs.Slices.{room_of};
 ghost use Rattle.room_tables.specs.Numbering.{AreAllNumbered};
 ghost use Rattle.room_tables.specs.Stands.{Stands, StandsFor};
 ghost use Rattle.room_store_writes.specs.Houses.{house_of};
-ghost use Rattle.room_store_judging.specs.Holding.{HasHouse, HasRows, HoldsRoom, ReadsNext};
+ghost use Rattle.room_store_judging.specs.Holding.{HasHouse, HasNoPlan, HasRows, MakesNoPlan, ReadsNext};
 ghost use Rattle.room_store_judging.specs.declared.faults.TakeFault.TheVariants.{Memory, NotARoom};
 
 use crate::faults::TakeFault;
@@ -39,8 +39,8 @@ pub struct RoomFile {
     pub rows: DivisionRows,
 }
 
-/// Reads the whole file. It is no room where a table doesn't number its rows, or where its areas or
-/// its zone make no plan.
+/// Reads the whole file. It is no room where a table doesn't give each of its rows a number of its
+/// own, or where its areas and its zone make no plan.
 pub fn read_whole<S: Alter>(
     alloc: Global,
     tx: &mut Transaction<'_, S>,
@@ -49,8 +49,8 @@ pub fn read_whole<S: Alter>(
     ensures stands { HasCleanDisk (state S.Store tx.new.conn.now)
         → IfOk result (λ x. Stands (state S.Store tx.old.conn.now).now.trees
         (house_of x.house.plan x.house.terminals.items) (room_of x.house.plan.areas x.rows)) }
-    ensures no_room { HasCleanDisk (state S.Store tx.new.conn.now)
-        → IfErr result (λ e. e ≡ NotARoom → ¬ HoldsRoom (state S.Store tx.old.conn.now).now.trees) }
+    ensures no_plan { HasCleanDisk (state S.Store tx.new.conn.now)
+        → IfErr result (λ e. e ≡ NotARoom → HasNoPlan (state S.Store tx.old.conn.now).now.trees) }
     ensures reads { ReadsInside S.Store tx.old.conn.now tx.new.conn.now result }
     ensures same_reference { tx.new.conn.ghost_name ≡ tx.old.conn.ghost_name }
 {
@@ -78,8 +78,10 @@ pub(crate) fn read_house<S: Alter>(
         → IfOk result (λ x. AreAllNumbered (state S.Store tx.old.conn.now).now.trees
         → HasHouse (state S.Store tx.old.conn.now).now.trees x.plan.areas x.plan.zone
         x.terminals.items) }
-    ensures no_room { HasCleanDisk (state S.Store tx.new.conn.now)
-        → IfErr result (λ e. e ≡ NotARoom → ¬ HoldsRoom (state S.Store tx.old.conn.now).now.trees) }
+    ensures no_plan { HasCleanDisk (state S.Store tx.new.conn.now)
+        → IfErr result (λ e. e ≡ NotARoom
+        → AreAllNumbered (state S.Store tx.old.conn.now).now.trees
+        → MakesNoPlan (state S.Store tx.old.conn.now).now.trees) }
     ensures reads { ReadsInside S.Store tx.old.conn.now tx.new.conn.now result }
     ensures same_reference { tx.new.conn.ghost_name ≡ tx.old.conn.ghost_name }
 {
@@ -98,8 +100,8 @@ fn planned_house(
 ) -> Result<House, TakeFault>
     ensures house { IfOk result (λ x. (x.plan.areas ≡ areas.items)
         × (x.plan.zone ≡ string_bytes zone) × (x.terminals.items ≡ terminals.items)) }
-    ensures no_plan { IfErr result (λ e. e ≡ NotARoom → (layout : Layout)
-        → layout.areas ≡ areas.items → layout.zone ≡ string_bytes zone → ⊥) }
+    ensures no_plan { IfErr result (λ e. e ≡ NotARoom
+        → is_plan areas.items (string_bytes zone) ≡ false) }
     ensures cause { IfErr result (λ e. (e ≡ Memory) ⊎ (e ≡ NotARoom)) }
 {
     match Plan::new(alloc, areas, zone.as_str()) {

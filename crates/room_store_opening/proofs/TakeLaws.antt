@@ -8,6 +8,7 @@ use Rattle.sqlite.specs.Effect.{Database}
 use Rattle.sqlite.specs.Held.{Held, state}
 use Rattle.sqlite.specs.State.{HasCleanDisk, State, Survives}
 use Rattle.sqlite_catalog.specs.Change.{KeepsRows}
+use Rattle.sqlite_schema.specs.declared.schema.Schema.{Schema}
 use Rattle.sqlite_schema.specs.declared.schema.Table.{Table}
 use Rattle.sqlite_trees.specs.Tree.{Trees}
 use Rattle.sqlite_trees.specs.declared.store.Store.{Ghosts}
@@ -17,16 +18,18 @@ use Rattle.room_tables_sql.specs.Outcomes.{CommitsNothing, ReadsInside}
 use Rattle.room_tables_schema.specs.Connections.{MayWrite}
 use Rattle.room_tables_schema.specs.Definitions.{AddsLast}
 use Rattle.room_tables_schema.specs.Schema.{room_tables}
-use Rattle.room_tables_schema.specs.Versions.{BeginsAsRoom, HasFirstTables}
+use Rattle.room_tables_schema.specs.Versions.{BeginsAsRoom, HasFirstTables, HasTables}
 use Rattle.room_tables_schema.specs.declared.faults.Fault.{Fault}
 use Rattle.room_tables_schema.specs.declared.faults.Fault.TheVariants as faults
 use Rattle.room_tables_rows.proofs.Moves.{moved_from, moves}
 use Rattle.room_tables_rows.proofs.Version.{tells_held}
+use Rattle.room_tables.specs.Failures.{IfStorage}
 use Rattle.room_tables.specs.Stands.{House, Stands}
 use Rattle.room_tables.specs.Writes.{Renews}
 use Rattle.room_store_writes.specs.Writing.{Leaves}
 use Rattle.room_store_opening.proofs.FileLaws.{rows_kept}
-use Rattle.room_store_opening.specs.Opening.{Becomes, HoldsBy, HoldsFirstRoom, IsMoved, IsRoomOf, MayBecome, StandsBy, Takes, migrate_fault, open_fault, schema_of}
+use Rattle.room_store_opening.specs.Opening.{Becomes, HasNoPlanBy, HoldsBy, HoldsFirstRoom, IsMoved, IsRoomOf, MayBecome, StandsBy, Takes, migrate_fault, open_fault, schema_of}
+use Rattle.room_store_judging.proofs.Findings.{planless}
 use Rattle.room_store_judging.specs.Holding.{Holds, HoldsRoom, take_fault}
 use Rattle.room_store_opening.specs.declared.migrating.MigrateFault.{MigrateFault}
 use Rattle.room_store_opening.specs.declared.migrating.MigrateFault.TheVariants as migrated
@@ -59,6 +62,11 @@ becomes_holds Whole old new same h = subst HoldsRoom (sym same) h
 becomes_holds Unindexed old new rows h = holds_more (rows_kept old new rows) h
 becomes_holds First old new moved h = holds_more (λ house room. (moved.stands house room).0) h
 becomes_holds FirstUnindexed old new moved h = holds_more (λ house room. (moved.stands house room).0) h
+
+-- so they hold no room where what they become makes no plan
+pub planless_by : (tables : Tables) (trees : Trees) → HasNoPlanBy tables trees
+    → ¬ HoldsBy tables trees
+planless_by tables trees (new, becomes, none) holds = planless new (λ all. elim none [ inl other ↦ absurd (other all) | inr no_plan ↦ no_plan ]) (becomes_holds tables trees new becomes holds)
 
 -- and what the others stand for, the first ones did
 keeps_back : (tables : List Table) (old new : Trees) → KeepsRows tables old new
@@ -150,6 +158,14 @@ none_opened (Ok x) fault is = tt
 none_opened (Err e) faults.Memory is = (λ old. cc, λ none. cc)
 none_opened (Err e) faults.Storage is = (λ old. cc, λ none. cc)
 
+-- a look at the version that failed is told for its cause
+pub hidden : {T : Type 0} (r : Result T OpenFault) (fault : Fault) (P : Type 0)
+    → IsErrAnd r (λ why. why ≡ open_fault (take_fault fault)) → IfStorage P fault
+    → IfErr r (λ e. e ≡ opened.Storage → P)
+hidden (Ok x) fault P is why = tt
+hidden (Err e) faults.Memory P is why = λ storage. cc
+hidden (Err e) faults.Storage P is why = λ storage. why
+
 -- ---- whole tables, which are looked at
 
 pub looked_takes : (tables : Tables) → tables ≡ Whole → (old new : State)
@@ -175,6 +191,11 @@ pub holds_new : (tables : Tables) (trees : Trees) → (tables ≡ Whole) ⊎ (ta
     → HoldsRoom trees → HoldsBy tables trees
 holds_new tables trees (inl is) h = rw is h
 holds_new tables trees (inr is) h = rw is h
+
+pub has_tables : (tables : Tables) (schema : Schema) → schema ≡ schema_of tables
+    → (tables ≡ Whole) ⊎ (tables ≡ Unindexed) → HasTables schema
+has_tables tables schema has (inl is) = inl (has ∙ ap schema_of is)
+has_tables tables schema has (inr is) = inr (has ∙ ap schema_of is)
 
 pub holds_first : (tables : Tables) (trees : Trees) → (tables ≡ First) ⊎ (tables ≡ FirstUnindexed)
     → HoldsFirstRoom trees → HoldsBy tables trees

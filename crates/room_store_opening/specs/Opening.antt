@@ -1,5 +1,5 @@
 -- What a file holds that is opened, or moved from the first version to this.
-use Rattle.std.specs.Prelude.{IsTrue, drop, ℕ, ◌↔◌, ◌≡◌, ◌≢◌}
+use Rattle.std.specs.Prelude.{IsTrue, [], drop, ℕ, ◌↔◌, ◌≡◌, ◌≢◌}
 use Rattle.sqlite.specs.Effect.{Database}
 use Rattle.sqlite.specs.State.{State}
 use Rattle.sqlite_catalog.specs.Change.{KeepsRows}
@@ -7,7 +7,9 @@ use Rattle.sqlite_schema.specs.declared.schema.Schema.{Schema}
 use Rattle.sqlite_trees.specs.Tree.{Trees}
 use Rattle.room_model.specs.Room.{Room}
 use Rattle.room_tables_schema.specs.Schema.{first_schema, first_tables, first_tables_schema, room_schema, room_tables, tables_schema}
+use Rattle.room_tables_rows.specs.declared.meta.TheConstants.{ALL_META}
 use Rattle.room_tables_schema.specs.Versions.{BeginsAsRoom, HasFirstTables}
+use Rattle.room_tables.specs.Failures.{FailsToRead}
 use Rattle.room_tables.specs.Stands.{House, Stands, StandsInFirst}
 use Rattle.room_tables.specs.Versions.{IsOfVersion}
 use Rattle.room_store_writes.specs.Writing.{IsSettled, Leaves}
@@ -19,7 +21,7 @@ use Rattle.room_store_judging.specs.declared.faults.TakeFault.{TakeFault}
 use Rattle.room_store_judging.specs.declared.faults.TakeFault.TheVariants.{Memory, NotARoom, Storage}
 use Rattle.room_store_opening.specs.declared.taking.Tables.{Tables}
 use Rattle.room_store_opening.specs.declared.taking.Tables.TheVariants.{First, FirstUnindexed, Unindexed, Whole}
-use Rattle.room_store_judging.specs.Holding.{Holds}
+use Rattle.room_store_judging.specs.Holding.{HasNoPlan, Holds}
 
 -- The file holds a room of a version, whatever its other tables are.
 abbrev pub IsRoomOf : ℕ → Database → Type 0
@@ -36,6 +38,11 @@ IsNewRoom = IsRoomOf 2
 -- by those of the first version
 abbrev pub HoldsFirstRoom : Trees → Type 0
 HoldsFirstRoom trees = Holds (StandsInFirst trees)
+
+-- The file begins as a room's does, and the database failed as it was asked for the version.
+pub record HidesVersion (old new : State) : Type 0 where
+  pub begins : BeginsAsRoom old.now.schema
+  pub fails : FailsToRead ALL_META.now [] old new (λ _. ⊥)
 
 -- Every table that the file had is there, with all the rows that it had.
 pub record KeepsAllRows (before after : Database) : Type 0 where
@@ -88,6 +95,10 @@ StandsBy FirstUnindexed = StandsInFirst
 
 abbrev pub HoldsBy : Tables → Trees → Type 0
 HoldsBy tables trees = Holds (StandsBy tables trees)
+
+-- what they become makes no plan
+abbrev pub HasNoPlanBy : Tables → Trees → Type 0
+HasNoPlanBy tables trees = (new : Trees) × Becomes tables trees new × HasNoPlan new
 
 -- A room's tables were made of those that the file had, and this is committed.
 pub record Takes (tables : Tables) (old new : State) : Type 0 where

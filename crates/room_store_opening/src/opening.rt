@@ -2,14 +2,16 @@
 ghost use Rattle.std.specs.Prelude.{◌≡◌, ◌≢◌, ◌⊎◌, ◌↔◌, IsTrue, IfErr, IfOk, IfNone, IfSome, OnErr, OnOk, false};
 ghost use Rattle.sqlite.specs.Held.{state};
 ghost use Rattle.sqlite.specs.State.{HasCleanDisk, Survives};
+ghost use Rattle.room_tables.specs.Failures.{IfStorage};
 ghost use Rattle.room_tables_schema.specs.Schema.{room_schema};
 ghost use Rattle.room_tables_schema.specs.Versions.{HasTables};
 ghost use Rattle.room_store_writes.specs.Writing.{IsSettled, Leaves};
-ghost use Rattle.room_store_opening.specs.Opening.{IsOldRoom, IsRoomOf, KeepsFile, MayBeIndexed, Opens, schema_of};
+ghost use Rattle.room_store_opening.specs.Opening.{HidesVersion, IsOldRoom, IsRoomOf, KeepsFile, MayBeIndexed, Opens, schema_of};
 ghost use Rattle.room_store_judging.specs.Holding.{HoldsRoom, IsPlanOf, WritesNothing};
 ghost use Rattle.room_store_opening.specs.declared.opening.OpenFault.TheVariants.{
   NotARoom,
   OldRoom,
+  Storage,
 };
 ghost use Rattle.room_store_opening.specs.declared.taking.Tables.TheVariants.{Unindexed, Whole};
 
@@ -91,6 +93,9 @@ pub fn open_in<S: Alter>(alloc: Global, conn: &mut Connection<S>) -> Result<Plan
     ensures no_room { HasCleanDisk (state S.Store conn.new)
         → IfErr result (λ e. e ≡ NotARoom → HasTables (state S.Store conn.old).now.schema
         → ¬ HoldsRoom (state S.Store conn.old).now.trees) }
+    ensures storage { HasCleanDisk (state S.Store conn.new)
+        → IfErr result (λ e. e ≡ Storage → HasTables (state S.Store conn.old).now.schema
+        ⊎ HidesVersion (state S.Store conn.old) (state S.Store conn.new)) }
     ensures untouched { IfErr result (λ e. (e ≡ OldRoom) ⊎ (e ≡ NotARoom)
         → WritesNothing (state S.Store conn.old) (state S.Store conn.new)) }
     ensures ended { conn.new.in_transaction ≡ false }
@@ -112,6 +117,8 @@ pub fn is_room_of<S: Alter>(conn: &mut Connection<S>, version: u32) -> Result<bo
         → OnOk result ((state S.Store conn.new).now ≡ (state S.Store conn.old).now) }
     ensures is_open { HasCleanDisk (state S.Store conn.new)
         → IfOk result (λ yes. IsTrue yes → IsTrue (state S.Store conn.new).is_open) }
+    ensures why { HasCleanDisk (state S.Store conn.new) → IfErr result
+        (IfStorage (HidesVersion (state S.Store conn.old) (state S.Store conn.new))) }
     ensures nothing { WritesNothing (state S.Store conn.old) (state S.Store conn.new) }
     ensures ended { conn.new.in_transaction ≡ false }
 {
@@ -136,6 +143,8 @@ fn open_tables<S: Alter>(alloc: Global, conn: &mut Connection<S>) -> Result<Plan
     ensures no_room { HasCleanDisk (state S.Store conn.new)
         → IfErr result (λ e. e ≡ NotARoom → HasTables (state S.Store conn.old).now.schema
         → ¬ HoldsRoom (state S.Store conn.old).now.trees) }
+    ensures storage { HasCleanDisk (state S.Store conn.new)
+        → IfErr result (λ e. e ≡ Storage → HasTables (state S.Store conn.old).now.schema) }
     ensures untouched { IfErr result (λ e. e ≡ NotARoom
         → WritesNothing (state S.Store conn.old) (state S.Store conn.new)) }
     ensures ended { conn.new.in_transaction ≡ false }

@@ -11,7 +11,7 @@ ghost use Rattle.room_tables_schema.specs.Schema.{first_schema, first_tables_sch
 ghost use Rattle.room_tables.specs.Stands.{Stands};
 ghost use Rattle.room_store_writes.specs.Houses.{house_of};
 ghost use Rattle.room_store_writes.specs.Writing.{Leaves};
-ghost use Rattle.room_store_opening.specs.Opening.{Becomes, HoldsBy, IsMoved, MayBecome, StandsBy, Takes, schema_of};
+ghost use Rattle.room_store_opening.specs.Opening.{Becomes, HasNoPlanBy, HoldsBy, IsMoved, MayBecome, StandsBy, Takes, schema_of};
 ghost use Rattle.room_store_judging.specs.Holding.{IsPlanOf, WritesNothing};
 ghost use Rattle.room_store_judging.specs.declared.faults.TakeFault.TheVariants.{NotARoom};
 
@@ -88,8 +88,8 @@ pub fn read_file<S: Alter>(
     ensures stands { HasCleanDisk (state S.Store conn.new)
         → IfOk result (λ x. StandsBy tables (state S.Store conn.old).now.trees
         (house_of x.house.plan x.house.terminals.items) (room_of x.house.plan.areas x.rows)) }
-    ensures no_room { HasCleanDisk (state S.Store conn.new)
-        → IfErr result (λ e. e ≡ NotARoom → ¬ HoldsBy tables (state S.Store conn.old).now.trees) }
+    ensures no_plan { HasCleanDisk (state S.Store conn.new)
+        → IfErr result (λ e. e ≡ NotARoom → HasNoPlanBy tables (state S.Store conn.old).now.trees) }
     ensures nothing { WritesNothing (state S.Store conn.old) (state S.Store conn.new) }
     ensures ended { conn.new.in_transaction ≡ false }
 {
@@ -229,9 +229,9 @@ fn read_as<S: Alter>(
     ensures is_open { HasCleanDisk (state S.Store tx.new.conn.now)
         → OnOk result (IsTrue (state S.Store tx.old.conn.now).is_open) }
     ensures inside { OnOk result (MayWrite S.Store tx.new.conn.now) }
-    ensures no_room { HasCleanDisk (state S.Store tx.new.conn.now)
+    ensures no_plan { HasCleanDisk (state S.Store tx.new.conn.now)
         → IfErr result (λ e. e ≡ NotARoom
-        → ¬ HoldsBy tables (state S.Store tx.old.conn.now).now.trees) }
+        → HasNoPlanBy tables (state S.Store tx.old.conn.now).now.trees) }
     ensures commits { CommitsNothing S.Store tx.old.conn.now tx.new.conn.now }
     ensures same_reference { tx.new.conn.ghost_name ≡ tx.old.conn.ghost_name }
 {

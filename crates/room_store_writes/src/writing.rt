@@ -1,6 +1,7 @@
 //! Changes of a room, made in its tables: all of them in one transaction, or none.
-ghost use Rattle.std.specs.Prelude.{◌≡◌, false, IsOk, IsTrue, OnOk, OnErr};
+ghost use Rattle.std.specs.Prelude.{◌≡◌, ◌⊎◌, false, Err, IfErr, IsOk, IsTrue, OnOk, OnErr};
 ghost use Rattle.sqlite.specs.Held.{state};
+ghost use Rattle.sqlite.specs.declared.error.Error.{Error as Failure};
 ghost use Rattle.sqlite.specs.State.{HasCleanDisk, IsRolledBack, Shows, Survives};
 ghost use Rattle.room_tables_schema.specs.Connections.{HasRoomSchema, MayWrite};
 ghost use Rattle.room_tables_sql.specs.Outcomes.{CommitsNothing};
@@ -12,7 +13,7 @@ ghost use Rattle.room_store_writes.specs.Writing.{Commits, IsSettled, Leaves, Ma
 use room_tables::changing::apply;
 use room_tables_schema::faults::Fault;
 use room_types::changes::Change;
-use sqlite::{Alter, Connection, Transaction};
+use sqlite::{Alter, Connection, Error, Transaction};
 
 /// Makes all changes, or none; where there are none it writes nothing. What a stop may leave is
 /// what it could before, or the room after all of them.
@@ -39,7 +40,7 @@ pub fn write<S: Alter>(conn: &mut Connection<S>, changes: &[Change]) -> Result<(
 }
 
 /// Ends a transaction: commits it where what was done in it went well, and undoes it where not.
-pub fn end<S: Alter>(tx: Transaction<'_, S>, done: Result<(), Fault>) -> Result<(), Fault>
+pub fn end<S: Alter, E: From<Error>>(tx: Transaction<'_, S>, done: Result<(), E>) -> Result<(), E>
     requires { HasCleanDisk (state S.Store tx.conn.now)
         → OnOk done (IsTrue (state S.Store tx.conn.now).in_transaction) }
     ensures well { OnOk result (IsOk done) }
@@ -49,6 +50,7 @@ pub fn end<S: Alter>(tx: Transaction<'_, S>, done: Result<(), Fault>) -> Result<
     ensures err { HasCleanDisk (state S.Store tx.exit.0.now)
         → OnErr result (IsRolledBack (state S.Store tx.entry.conn.now)
         (state S.Store tx.exit.0.now)) }
+    ensures why { IfErr result (λ e. (done ≡ Err e) ⊎ ((cause : Failure) × E.from_gives cause e)) }
     ensures ended { tx.exit.0.now.in_transaction ≡ false }
     ensures survives { Survives (state S.Store tx.entry.conn.now) (state S.Store tx.exit.0.now)
         (λ db. IsOk done × (db ≡ (state S.Store tx.entry.conn.now).now.trees)) }
@@ -65,8 +67,8 @@ pub fn end<S: Alter>(tx: Transaction<'_, S>, done: Result<(), Fault>) -> Result<
     }
 }
 
-// Makes the changes, up to the first that fails.
-fn put_each<S: Alter>(tx: &mut Transaction<'_, S>, changes: &[Change]) -> Result<(), Fault>
+/// Makes the changes in a transaction, up to the first that fails.
+pub fn put_each<S: Alter>(tx: &mut Transaction<'_, S>, changes: &[Change]) -> Result<(), Fault>
     requires inside { MayWrite S.Store tx.old.conn.now }
     ensures same_reference { tx.new.conn.ghost_name ≡ tx.old.conn.ghost_name }
     ensures ok { HasCleanDisk (state S.Store tx.new.conn.now)

@@ -14,6 +14,9 @@ returns-clause-talk g c =
     let zone = rw (c.unwrap-zone.ensures, c.zone.ensures, c.plan.ensures, c.in_ok-store.ensures.zone) at c.read.ensures.zone in (
       c.unwrap-zone.result,
       zone,
-      serves machine c.unwrap-zone.result _ _ _ (memory_is_clean c.serve-end.new.room.conn) _ _ _ IsExample
-          (λ terminals room begins. rw (begins.0, begins.1) c.in_ok-store.ensures.room) c.args.budget c.serve-end.result c.serve-end.ensures.talk,
+      (
+        c.serve-end.ensures.run.course,
+        serves machine c.unwrap-zone.result _ _ _ (memory_is_clean c.serve-end.new.room.conn) _ _ _ _ IsExample
+            (λ terminals room begins. rw (begins.0, begins.1) c.in_ok-store.ensures.room) c.serve-end.ensures.run.course c.args.budget c.serve-end.result c.serve-end.ensures.run.talk,
+      ),
     )

@@ -1,4 +1,4 @@
-use Rattle.std.proofs.Common.{refl, [], drop, inl}
+use Rattle.std.proofs.Common.{refl, [], drop, inl, None}
 use Rattle.dispatch_room_journal.specs.Entries.{room, answer}
 use Rattle.dispatch_room_replaying.specs.Faults.{broken, unasked, headless}
 use Rattle.dispatch_room_replaying.proofs.FaultLemmas.{unless_known, not_both, read_explains, read_due, wanting_explains, wanting_due}
@@ -44,12 +44,16 @@ returns-in-Ok-false-clause-next g c =
             text,
             refl,
             (
+              refl,
+              None,
               c.in-Room.digest,
-              drop c.in-Ok-Some.layout.end text,
-              front.begins,
-              λ trust terminals held stood.
-                  let says = c.in-Ok-false.ensures.says trust terminals held stood in
-                  (λ same. not_both _ c.in-Ok-false.field-0-test (says.1 same), c.is_at.ensures.same trust terminals held stood),
+              (drop c.in-Ok-Some.layout.end text, front.begins),
+              (
+                refl,
+                λ trust terminals held stood.
+                    let says = c.in-Ok-false.ensures.says trust terminals held stood in
+                    (λ same. not_both _ c.in-Ok-false.field-0-test (says.1 same), c.is_at.ensures.same trust terminals held stood),
+              ),
             ),
           ),
       (read.says.1, refl),

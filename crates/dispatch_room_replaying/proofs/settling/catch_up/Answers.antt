@@ -1,7 +1,7 @@
 use Rattle.std.proofs.Common.{refl, inl, inr}
 use Rattle.dispatch_room_journal.specs.Entries.{room}
 use Rattle.dispatch_room_replaying.proofs.FaultLemmas.{unless_after}
-use Rattle.dispatch_room_replaying.proofs.StepLemmas.{left_turn, caught_turn, stops_later}
+use Rattle.dispatch_room_replaying.proofs.StepLemmas.{left_turn, caught_turn, stops_open}
 use Rattle.dispatch_room_replaying.specs.Replays.{digits_of}
 use Rattle.dispatch_room_replaying.proofs.settling.catch_up.Goals as goal
 
@@ -13,17 +13,17 @@ returns-in-Ok-clause-turn g c = (
   room c.args.digest.now,
   tt,
   refl,
-  caught_turn _ _ _ _ _ c.play_open.ensures.trusted _ _ _ _ _ _ c.in-Ok-false.field-0 c.is_at.ensures.same c.in-Ok-false.ensures.says c.in-Ok-false.field-0-test c.in-Ok.ensures.turn,
+  caught_turn _ _ _ _ _ c.play_towards.ensures.trusted _ _ _ _ _ _ c.in-Ok-false.field-0 c.is_at.ensures.same c.in-Ok-false.ensures.says c.in-Ok-false.field-0-test c.in-Ok.ensures.plays,
 )
 
-pub returns-in-Err-play_open-clause-turn : goal.returns-in-Err-play_open-clause-turn
-returns-in-Err-play_open-clause-turn g c =
-    stops_later _ _ (digits_of g.M.Digested.digest_of) _ _ c.play_open.ensures.trusted _ _ _ _ _ _ _ c.is_at.ensures.same c.in-Err-play_open.ensures.turn
+pub returns-in-Err-play_towards-clause-turn : goal.returns-in-Err-play_towards-clause-turn
+returns-in-Err-play_towards-clause-turn g c =
+    stops_open _ _ (digits_of g.M.Digested.digest_of) _ _ c.play_towards.ensures.trusted _ _ _ _ _ _ c.in-Ok-false.field-0 c.in-Err-play_towards.fault c.is_at.ensures.same c.in-Ok-false.ensures.says c.in-Ok-false.field-0-test c.in-Err-play_towards.ensures.plays
 
 pub returns-in-Err-clause-turn : goal.returns-in-Err-clause-turn
-returns-in-Err-clause-turn g c = inl (c.is_at.ensures.same, inr c.in-Err.ensures.wants)
+returns-in-Err-clause-turn g c = inl (c.is_at.ensures.same, inl (inr c.in-Err.ensures.wants))
 
-pub returns-in-Err-play_open-clause-kept : goal.returns-in-Err-play_open-clause-kept
-returns-in-Err-play_open-clause-kept g c = λ trust.
-    unless_after c.in-Err-play_open.fault (g.M.Room.is_kept c.args.room.now) (g.M.Room.is_kept c.is_at.new.room) (g.M.Room.is_kept c.play_open.new.room)
-    (c.in-Ok-false.ensures.kept (c.play_open.ensures.trusted trust)) (c.in-Err-play_open.ensures.kept trust)
+pub returns-in-Err-play_towards-clause-kept : goal.returns-in-Err-play_towards-clause-kept
+returns-in-Err-play_towards-clause-kept g c = λ trust.
+    unless_after c.in-Err-play_towards.fault (g.M.Room.is_kept c.args.room.now) (g.M.Room.is_kept c.is_at.new.room) (g.M.Room.is_kept c.play_towards.new.room)
+    (c.in-Ok-false.ensures.kept (c.play_towards.ensures.trusted trust)) (c.in-Err-play_towards.ensures.kept trust)

@@ -21,4 +21,4 @@ returns-in-Ok-clause-turn g c =
     (λ same. not_both _ c.if-has_status.false (c.has_status.ensures.1 (ap status_in c.as_slice.ensures.value ∙ same)))
 
 pub returns-clause-turn : goal.returns-clause-turn
-returns-clause-turn g c = inl c.in-Err.ensures.plays
+returns-clause-turn g c = let refused = c.in-Err.ensures.plays in inl (refused.0, inl refused.1)

@@ -9,7 +9,7 @@ where_wanted false asked text same is = cc
 
 pub returns-in-Err-begins-clause-announces : goal.returns-in-Err-begins-clause-announces
 returns-in-Err-begins-clause-announces g c =
-    let kept = c.in-Err-begins.ensures in (
+    let kept = c.in-Err-begins.ensures.kept in (
       inr (inl refl),
       record { trusted = c.digest_of_room.ensures.trusted; same = c.digest_of_room.ensures.same },
       inr (

@@ -1,9 +1,18 @@
 use Rattle.std.proofs.Common.{◌≡◌, append-nil, inl, inr, refl, sym, ℕ, List, [], Bool, Option, Result, Ok, Err}
+use Rattle.std.specs.Prelude.{MatchResult, true}
 use Rattle.dispatch_room_endings.specs.declared.endings.Failure.{Failure}
+use Rattle.dispatch_room_endings.specs.declared.endings.Failure.TheVariants.{Journal}
 use Rattle.room_store.specs.declared.store.Store.{Store}
 use Rattle.sqlite_trees.specs.declared.store.Store.{Ghosts}
 use Rattle.dispatch_room_serving.specs.Rooms.{Announces, KeepsHead, LooksOnly}
 use Rattle.dispatch_room_serving.proofs.serving.begin_and_serve.Goals as goal
+
+-- the watcher has failed only where it had
+same_failed : (result : Result (Unit {0}) Failure)
+    → ((fault : Failure) → result ≡ Err fault → ⊥) → (old new : Bool)
+    → MatchResult result (λ _. new ≡ old) (λ fault. fault ≡ Journal → new ≡ true) → new ≡ old
+same_failed (Ok told) well old new is = is
+same_failed (Err fault) well old new is = absurd (well fault refl)
 
 module _ {S : Type 0} (g : Ghosts S) (wants : Bool) (begun : List ℕ → List ℕ) (old new : Store S) (kept keeps : Option (List ℕ)) where
   announced : (result : Result (Unit {0}) Failure) → ((fault : Failure) → result ≡ Err fault → ⊥) → Announces g wants begun old new kept keeps result
@@ -20,6 +29,7 @@ returns-in-Err-clause-attends g c = inl (record {
   fault = c.in-Err.fault;
   why = c.in-Err.ensures.announces.0;
   told = refl;
+  failed = c.in-Err.ensures.failed;
   unheard = (refl, refl, refl);
   looks = c.in-Err.ensures.announces.1;
   head = c.in-Err.ensures.announces.2;
@@ -33,5 +43,5 @@ returns-in-Ok-clause-attends g c =
       kept = g.N.Witness.held c.announce.new.watcher;
       looks = told.0;
       head = told.1;
-      serves = rw (c.begin.ensures.heard, c.begin.ensures.told) at c.serve_each.ensures.served;
+      serves = rw (c.begin.ensures.heard, c.begin.ensures.told, same_failed c.announce.result c.in_default.not-Err (g.N.Witness.has_failed c.args.watcher.now) (g.N.Witness.has_failed c.announce.new.watcher) c.announce.ensures.failed) at c.serve_each.ensures.served;
     })

@@ -6,6 +6,7 @@ use Rattle.room_model.specs.DayTimes.{show_times}
 use Rattle.room_model.specs.Decisions.{answer_of}
 use Rattle.room_model.specs.Room.{Room}
 use Rattle.room_store.specs.Keeping.{IsRoom}
+use Rattle.room_store.proofs.KnownLaws.{knows_nothing}
 use Rattle.room_store.proofs.StoreLaws.{room_left}
 use Rattle.dispatch_room_work.specs.DayReports.{report_in}
 use Rattle.dispatch_room_work.proofs.DayReportLemmas.{times_change_nothing, times_shown}
@@ -33,4 +34,4 @@ returns-in-Ok-clause-same g c clean terminals held is =
 
 pub returns-in-Err-clause-same : goal.returns-in-Err-clause-same
 returns-in-Err-clause-same g c clean terminals held is =
-    room_left g.S.Store c.args.room.now c.act.new.self terminals held (c.in-Err.ensures.err clean) c.act.ensures.plan (rw c.act.ensures.known is.known) (c.in-Err.ensures.cache held is.cache) is
+    room_left g.S.Store c.args.room.now c.act.new.self terminals held (c.in-Err.ensures.err clean) c.act.ensures.plan (rw c.act.ensures.known is.known) (knows_nothing c.act.new.self.cache held c.in-Err.ensures.failed) is

@@ -1,5 +1,15 @@
-use Rattle.std.proofs.Common.{Err, Ok, Result, inl, rules}
-use Rattle.std.specs.Prelude.{OnErr, OnOk}
+use Rattle.std.proofs.Common.{◌≡◌, ap, refl, sym, Bool, Err, List, Ok, Result, ℕ, inl, rules}
+use Rattle.std.specs.Prelude.{IfOk, MatchResult, OnErr, OnOk}
+use Rattle.room_types.specs.declared.fleet.Terminal.{Terminal}
+use Rattle.room_types.specs.declared.refusals.Refusal.{Refusal}
+use Rattle.room_model.specs.Room.{Room}
+use Rattle.room_http_answers.specs.Replies.{IsReply}
+use Rattle.room_http_time.specs.declared.zones.Zone.{Zone}
+use Rattle.room_service.specs.Rooms.{Step}
+use Rattle.room_http.specs.declared.arrivals.Arrived.{Arrived}
+use Rattle.room_http.specs.declared.arrivals.Arrived.TheVariants.{Refused}
+use Rattle.room_http.specs.Arrivals.{Arrival, IsShown, is_closing, is_head_only, message, refused}
+use Rattle.room_http.specs.Talk.{IsReplyTo}
 use Rattle.room_http.proofs.replies.reply.Goals as goal
 
 -- well or not, so much holds
@@ -14,6 +24,35 @@ pub returns-in-Err-clause-keeps : goal.returns-in-Err-clause-keeps
 returns-in-Err-clause-keeps g c =
     let looks = c.event_of.ensures.looks in
     let kept : g.M.Room.is_trusted c.event_of.new.room → g.M.Room.is_kept c.args.room.now → g.M.Room.is_kept c.event_of.new.room = search rules in record {
-      kept = λ trust. (either_way {Q = Unit {0}} c.refused.result (kept trust) tt).0;
-      left = λ trust. (either_way {P = Unit {0}} c.refused.result tt (λ was terminals room stood o shown. inl (looks.left trust was terminals room stood))).1;
+      kept = λ trust. (either_way {Q = Unit {0}} c.refused-in-Err.result (kept trust) tt).0;
+      left = λ trust. (either_way {P = Unit {0}} c.refused-in-Err.result tt (λ was terminals room stood o shown. inl (looks.left trust was terminals room stood))).1;
     }
+
+-- what is refused in the place of a message is told, and the room stays
+told : (step : Step) (zone : Zone) (terminals : List Terminal) (room : Room) (arrived : Arrived)
+    (r : Refusal) (without head_only closing : Bool) (at : ℕ) (bytes : List ℕ) (o : Arrival)
+    → arrived ≡ Refused r without → IsShown arrived o
+    → head_only ≡ is_head_only o → closing ≡ is_closing o
+    → IsReply (Err r) at head_only closing bytes
+    → IsReplyTo step zone terminals room (o, at) room bytes
+told step zone terminals room arrived r without head_only closing at bytes (message m) is shown headless closes says = absurd (rw is at shown)
+told step zone terminals room arrived r without head_only closing at bytes (refused s other) is shown headless closes says =
+    let same = rw is at shown in (Err r, ap Err same.0, refl, rw (headless, closes) at says)
+
+if_told : {T E Q : Type 0} {P R : T → Type 0} (r : Result T E) → IfOk r P
+    → ((x : T) → P x → R x) → Q → MatchResult r R (λ _. Q)
+if_told (Ok x) p then q = then x p
+if_told (Err e) p then q = q
+
+pub returns-in-Refused-clause-reply : goal.returns-in-Refused-clause-reply
+returns-in-Refused-clause-reply g c = record {
+  trusted = λ trust. trust;
+  wants = search rules;
+  says = λ trust terminals room stood. if_told c.refused.result c.refused.ensures.ok
+      (λ bytes says o shown. (
+        room,
+        told g.M.Room.step c.args.zone.now terminals room c.args.arrived.now c.in-Refused.refusal c.in-Refused.head_only _ _ c.args.at bytes.items o c.in-Refused.is shown
+            (c.head_only-head_only.ensures o shown) (c.is_closing-closing.ensures o shown) says,
+        stood,
+      )) stood;
+}

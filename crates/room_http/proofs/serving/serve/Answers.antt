@@ -1,12 +1,12 @@
-use Rattle.std.proofs.Common.{◌≡◌, ◌∙◌, ◌<◌, refl, arith, sym, length, ◌-◌, [], None, false}
+use Rattle.std.proofs.Common.{◌≡◌, ◌∙◌, ◌<◌, refl, arith, sym, length, ◌-◌, [], ◌∷◌, ◌++◌, None, false}
+use Rattle.std.specs.Prelude.{⊤}
 use Rattle.std.specs.Io.KnownBytes.{prepend_known}
-use Rattle.room_http.specs.declared.serving.ServeEnd.TheVariants.{Closed}
+use Rattle.room_http.specs.declared.serving.ServeEnd.TheVariants.{Closed, Memory}
 use Rattle.room_http.specs.Reads.{kept_after}
 use Rattle.room_http.specs.Serving.{Finish}
 use Rattle.room_http.proofs.KeptLemmas.{Noted-breaks, Noted-closes, Noted-ends, Noted-kept, Noted-more, Noted-none}
-use Rattle.room_http.proofs.ServeLemmas.{Going-none, Going-kept, Going-more, closes, ends, ends_missing_none, stops, stops_missing_none}
-use Rattle.room_http.proofs.ServedLaws.{none_served, promised}
-use Rattle.room_http_messages.proofs.StreamLemmas.{Appends-none}
+use Rattle.room_http.proofs.ServeLemmas.{Going-ends, Going-none, Going-kept, Going-more, closes, ends, ends_missing_none, stops, stops_missing_none}
+use Rattle.room_http.proofs.ServedLaws.{one_course}
 use Rattle.room_http.proofs.StreamLemmas.{CountsBy-none, Passes, Keeps-prepend, read_goes_on, read_passes, read_whole, reads_by, shown_bounded}
 use Rattle.room_http.proofs.serving.serve.Given.{Over}
 use Rattle.room_http.proofs.serving.serve.Goals.{In-Ok-arrived}
@@ -16,8 +16,12 @@ pub messages-init : goal.messages-init
 messages-init g c =
     let none : c.args.budget - c.args.budget ≡ 0 = omega arith in
     record {
-      going = ([], Going-kept _ _ _ _ _ _ _ _ _ _ _ (Going-none g.M.Room.step c.args.zone.now _ _ _ _ (λ terminals room standing. (standing, λ was. g.met.M.Room.leaves_it _ terminals room was standing))) (Keeps-prepend _ _ c.in-Ok-new.ensures));
-      noted = ([], Noted-kept _ _ _ _ _ _ _ _ _ _ _ _ _ (Noted-none g.N.Witness.came g.N.Witness.told g.M.Room.step c.args.zone.now _ _ _ _) (Keeps-prepend _ _ c.in-Ok-new.ensures));
+      run = (
+        [],
+        [],
+        Going-kept _ _ _ _ _ _ _ _ _ _ _ (Going-none g.M.Room.step c.args.zone.now _ _ _ _ (λ terminals room standing. (standing, λ was. g.met.M.Room.leaves_it _ terminals room was standing))) (Keeps-prepend _ _ c.in-Ok-new.ensures),
+        Noted-kept _ _ _ _ _ _ _ _ _ _ _ _ _ _ (Noted-none g.N.Witness.came g.N.Witness.told g.M.Room.step c.args.zone.now _ _ _ _) (Keeps-prepend _ _ c.in-Ok-new.ensures),
+      );
       trusted = λ trust. trust;
       kept = λ trust was. was;
       spent = omega arith;
@@ -25,6 +29,7 @@ messages-init g c =
       reader = c.requires.reader;
       writer = c.requires.writer;
       ready = c.requires.ready;
+      unfailed = refl;
     }
 
 pub arrived-requires : goal.arrived-requires
@@ -42,12 +47,6 @@ returns-in-Err-answer-clause-reads g c = (_, omega arith, reads_by _ _ _ _ _ _ c
 pub returns-then-is_closing-clause-reads : goal.returns-then-is_closing-clause-reads
 returns-then-is_closing-clause-reads g c = (_, omega arith, reads_by _ _ _ _ _ _ c.messages.invariant.spent c.read_message-read.ensures.read.spent c.messages.invariant.reads c.read_message-read.ensures.read.count)
 
-pub returns-in-Err-clause-talk : goal.returns-in-Err-clause-talk
-returns-in-Err-clause-talk g c =
-    let read = c.read_message-read in
-    let count = reads_by _ _ _ _ _ _ c.messages.invariant.spent read.ensures.read.spent c.messages.invariant.reads read.ensures.read.count in
-    stops _ _ _ _ _ _ _ _ _ c.messages.invariant.going.0 c.messages.invariant.going.1 read.new.inbox _ read.ensures.read.same read.new.budget _ _ _ _ _ _ c.args.budget count read.result c.in-Err.end read.ensures.says c.in-Err.ensures.err
-
 -- what was read passes, once it was answered
 passed : (g : Over) (c : In-Ok-arrived g) → Passes (prepend_known c.read_message-read.new.inbox (g.R.Source.left c.read_message-read.new.reader))
     (prepend_known (kept_after c.read_message-read.new.inbox c.read_message-read.result) (g.R.Source.left c.read_message-read.new.reader)) c.in-Ok-arrived.ensures.ok.0
@@ -56,56 +55,55 @@ passed g c =
     let shown = c.in-Ok-arrived.ensures.ok in
     read_passes read.new.inbox (g.R.Source.left read.new.reader) read.new.budget _ _ read.result shown.0 read.ensures.says shown.1
 
-pub returns-in-Err-answer-clause-talk : goal.returns-in-Err-answer-clause-talk
-returns-in-Err-answer-clause-talk g c =
+pub returns-in-Err-clause-run : goal.returns-in-Err-clause-run
+returns-in-Err-clause-run g c =
     let read = c.read_message-read in
-    let shown = c.in-Ok-arrived.ensures.ok in
-    let passes = passed g (goal.at.returns-in-Err-answer-clause-talk g c).In-Ok-arrived in
-    ends _ _ _ _ _ _ _ (g.M.Room.leaves_one_of c.messages.room) _ _ _ _ c.messages.invariant.going.0 c.messages.invariant.going.1 read.ensures.read.same _ _ _ _ (g.M.Room.leaves_one_of c.answer.new.room) c.in-Err-answer.ensures.trusted (λ trust. c.messages.invariant.kept (c.in-Err-answer.ensures.trusted trust))
-    _ shown.0 passes c.args.budget _ (c.in-Err-answer.ensures.answers shown.0 shown.2)
+    let run = c.messages.invariant.run in
+    let count = reads_by _ _ _ _ _ _ c.messages.invariant.spent read.ensures.read.spent c.messages.invariant.reads read.ensures.read.count in
+    one_course _ _ _ _ _ _ _ _ _ (g.met.M.Room.fits _) _ _ _ c.args.budget c.in-Err.end
+    (stops _ _ _ _ _ _ _ _ _ run.0 run.2 read.new.inbox _ read.ensures.read.same read.new.budget _ _ _ _ _ _ _ _ run.1 c.args.budget count read.result c.in-Err.end read.ensures.says c.in-Err.ensures.err)
+    (Noted-ends _ _ _ _ _ _ _ _ _ _ _ _ _ (Noted-kept _ _ _ _ _ _ _ _ _ _ _ _ _ _ run.3 read.ensures.read.same))
 
-pub returns-then-is_closing-clause-talk : goal.returns-then-is_closing-clause-talk
-returns-then-is_closing-clause-talk g c =
+pub returns-in-Err-answer-clause-run : goal.returns-in-Err-answer-clause-run
+returns-in-Err-answer-clause-run g c =
     let read = c.read_message-read in
+    let run = c.messages.invariant.run in
     let shown = c.in-Ok-arrived.ensures.ok in
-    let passes = passed g (goal.at.returns-then-is_closing-clause-talk g c).In-Ok-arrived in
-    closes _ _ _ _ _ _ _ (g.M.Room.leaves_one_of c.messages.room) _ _ _ _ c.messages.invariant.going.0 c.messages.invariant.going.1 read.ensures.read.same _ _ _ _ (g.M.Room.leaves_one_of c.answer.new.room) c.in_default-answer.ensures.trusted (λ trust. c.messages.invariant.kept (c.in_default-answer.ensures.trusted trust))
-    _ shown.0 passes c.args.budget (c.in_default-answer.ensures.answers shown.0 shown.2) (sym (c.is_closing.ensures shown.0 shown.2) ∙ c.if-is_closing.true)
+    let passes = passed g (goal.at.returns-in-Err-answer-clause-run g c).In-Ok-arrived in
+    let answers = c.in-Err-answer.ensures.answers shown.0 shown.2 in
+    one_course _ _ _ _ _ _ _ _ _ (g.met.M.Room.fits _) _ _ _ c.args.budget c.in-Err-answer.end
+    (ends _ _ _ _ _ _ _ (g.M.Room.leaves_one_of c.messages.room) _ _ _ _ run.0 run.2 read.ensures.read.same _ _ _ _ _ (g.M.Room.leaves_one_of c.answer.new.room) c.in-Err-answer.ensures.trusted (λ trust. c.messages.invariant.kept (c.in-Err-answer.ensures.trusted trust))
+    _ shown.0 passes run.1 c.args.budget answers.0 c.in-Err-answer.end answers.1)
+    (Noted-breaks _ _ _ _ _ _ _ (prepend_known read.new.inbox (g.R.Source.left read.new.reader)) _ _ _ _ _ (g.M.Room.stands c.answer.new.room) c.in-Err-answer.ensures.trusted run.0 run.1 run.3 read.ensures.read.same _ _ shown.0 passes answers.0 c.in-Err-answer.end answers.2)
+
+pub returns-then-is_closing-clause-run : goal.returns-then-is_closing-clause-run
+returns-then-is_closing-clause-run g c =
+    let read = c.read_message-read in
+    let run = c.messages.invariant.run in
+    let shown = c.in-Ok-arrived.ensures.ok in
+    let passes = passed g (goal.at.returns-then-is_closing-clause-run g c).In-Ok-arrived in
+    let answers = c.in_default-answer.ensures.answers shown.0 shown.2 in
+    one_course _ _ _ _ _ _ _ _ _ (g.met.M.Room.fits _) _ _ _ c.args.budget Closed
+    (closes _ _ _ _ _ _ _ (g.M.Room.leaves_one_of c.messages.room) _ _ _ _ run.0 run.2 read.ensures.read.same _ _ _ _ _ (g.M.Room.leaves_one_of c.answer.new.room) c.in_default-answer.ensures.trusted (λ trust. c.messages.invariant.kept (c.in_default-answer.ensures.trusted trust))
+    _ shown.0 passes (run.1 ++ answers.2.0 ∷ []) c.args.budget answers.0 answers.1 (sym (c.is_closing.ensures shown.0 shown.2) ∙ c.if-is_closing.true))
+    (Noted-closes _ _ _ _ _ _ _ (prepend_known read.new.inbox (g.R.Source.left read.new.reader)) _ _ _ _ _ (g.M.Room.stands c.answer.new.room) c.in_default-answer.ensures.trusted run.0 run.1 run.3 read.ensures.read.same _ _ shown.0 passes answers.0 answers.2)
 
 pub returns-in-Err-clause-none_missed : goal.returns-in-Err-clause-none_missed
 returns-in-Err-clause-none_missed g c =
     let read = c.read_message-read in
-    stops_missing_none _ _ _ _ _ _ _ _ _ c.messages.invariant.going.0 c.messages.invariant.going.1 read.new.inbox _ read.ensures.read.same read.new.budget _ _ read.result c.in-Err.end read.ensures.says c.in-Err.ensures.err
+    stops_missing_none _ _ _ _ _ _ _ _ _ c.messages.invariant.run.0 c.messages.invariant.run.2 read.new.inbox _ read.ensures.read.same read.new.budget _ _ read.result c.in-Err.end read.ensures.says c.in-Err.ensures.err
 
 pub returns-in-Err-answer-clause-none_missed : goal.returns-in-Err-answer-clause-none_missed
 returns-in-Err-answer-clause-none_missed g c = ends_missing_none _ _ _ _ _ c.in-Err-answer.ensures.ends
 
-pub returns-in-Err-clause-promised : goal.returns-in-Err-clause-promised
-returns-in-Err-clause-promised g c = promised _ _ _ _ _ _ _ _ (g.met.M.Room.fits _) _ c.args.budget c.in-Err.end (returns-in-Err-clause-talk g c)
+pub returns-in-Err-clause-failed : goal.returns-in-Err-clause-failed
+returns-in-Err-clause-failed g c others = c.messages.invariant.unfailed
 
-pub returns-in-Err-answer-clause-promised : goal.returns-in-Err-answer-clause-promised
-returns-in-Err-answer-clause-promised g c = promised _ _ _ _ _ _ _ _ (g.met.M.Room.fits _) _ _ _ (returns-in-Err-answer-clause-talk g c)
+pub returns-in-Err-answer-clause-failed : goal.returns-in-Err-answer-clause-failed
+returns-in-Err-answer-clause-failed g c others = c.in-Err-answer.ensures.failed (λ is. others (cc)) ∙ c.messages.invariant.unfailed
 
-pub returns-then-is_closing-clause-promised : goal.returns-then-is_closing-clause-promised
-returns-then-is_closing-clause-promised g c = promised _ _ _ _ _ _ _ _ (g.met.M.Room.fits _) _ c.args.budget Closed (returns-then-is_closing-clause-talk g c)
-
-pub returns-in-Err-clause-witnessed : goal.returns-in-Err-clause-witnessed
-returns-in-Err-clause-witnessed g c =
-    Noted-ends _ _ _ _ _ _ _ _ _ _ _ _ (Noted-kept _ _ _ _ _ _ _ _ _ _ _ _ _ c.messages.invariant.noted.1 c.read_message-read.ensures.read.same)
-
-pub returns-in-Err-answer-clause-witnessed : goal.returns-in-Err-answer-clause-witnessed
-returns-in-Err-answer-clause-witnessed g c =
-    let read = c.read_message-read in
-    let shown = c.in-Ok-arrived.ensures.ok in
-    let passes = passed g (goal.at.returns-in-Err-answer-clause-witnessed g c).In-Ok-arrived in
-    Noted-breaks _ _ _ _ _ _ _ (prepend_known read.new.inbox (g.R.Source.left read.new.reader)) _ _ _ _ _ (g.M.Room.stands c.answer.new.room) c.in-Err-answer.ensures.trusted _ c.messages.invariant.noted.1 read.ensures.read.same _ _ shown.0 passes _ (c.in-Err-answer.ensures.witnessed shown.0 shown.2)
-
-pub returns-then-is_closing-clause-witnessed : goal.returns-then-is_closing-clause-witnessed
-returns-then-is_closing-clause-witnessed g c =
-    let read = c.read_message-read in
-    let shown = c.in-Ok-arrived.ensures.ok in
-    let passes = passed g (goal.at.returns-then-is_closing-clause-witnessed g c).In-Ok-arrived in
-    Noted-closes _ _ _ _ _ _ _ _ _ _ _ _ _ (g.M.Room.stands c.answer.new.room) c.in_default-answer.ensures.trusted _ c.messages.invariant.noted.1 read.ensures.read.same _ _ shown.0 passes (c.in_default-answer.ensures.witnessed shown.0 shown.2)
+pub returns-then-is_closing-clause-failed : goal.returns-then-is_closing-clause-failed
+returns-then-is_closing-clause-failed g c others = c.in_default-answer.ensures.failed (λ is. absurd (cc)) ∙ c.messages.invariant.unfailed
 
 pub messages-preserved : goal.messages-preserved
 messages-preserved g c =
@@ -116,6 +114,7 @@ messages-preserved g c =
     let passes = passed g (goal.at.messages-preserved g c).In-Ok-arrived in
     let goes = sym (c.is_closing.ensures shown.0 shown.2) ∙ c.if-is_closing.false in
     let answers = c.in_default-answer.ensures.answers shown.0 shown.2 in
+    let run = c.messages.invariant.run in
     let after : Passes (prepend_known kept left) (prepend_known c.pass.new.inbox left) shown.0 = rw c.pass.ensures passes in
     let new : Finish = record {
       reads = None;
@@ -125,19 +124,24 @@ messages-preserved g c =
       read_ended = false;
       write_failed = g.W.Sink.has_failed c.answer.new.writer;
       was_none = g.C.Clock.was_none c.answer.new.clock;
+      witness_failed = g.N.Witness.has_failed c.answer.new.witness;
     } in
     record {
-      going = Going-more _ _ _ _ _ _ _ (g.M.Room.leaves_one_of c.messages.room) _ _ _ _ c.messages.invariant.going.0 c.messages.invariant.going.1 read.ensures.read.same new _ _ (g.M.Room.stands c.answer.new.room) (g.M.Room.leaves_one_of c.answer.new.room) c.in_default-answer.ensures.trusted
-          (λ trust. c.messages.invariant.kept (c.in_default-answer.ensures.trusted trust)) _ shown.0 after answers goes;
-      noted = Noted-more _ _ _ _ _ _ _ _ _ _ _ _ _ (g.M.Room.stands c.answer.new.room) c.in_default-answer.ensures.trusted _ c.messages.invariant.noted.1 read.ensures.read.same _ _ shown.0 after
-          (c.in_default-answer.ensures.witnessed shown.0 shown.2) goes;
+      run = (
+        run.0 ++ (shown.0, answers.0) ∷ [],
+        run.1 ++ answers.2.0 ∷ [],
+        Going-more _ _ _ _ _ _ _ (g.M.Room.leaves_one_of c.messages.room) _ _ _ _ run.0 run.2 read.ensures.read.same new _ _ (g.M.Room.has_failed c.answer.new.room) (g.M.Room.stands c.answer.new.room) (g.M.Room.leaves_one_of c.answer.new.room) c.in_default-answer.ensures.trusted
+            (λ trust. c.messages.invariant.kept (c.in_default-answer.ensures.trusted trust)) _ shown.0 after answers.0 answers.1 goes,
+        Noted-more _ _ _ _ _ _ _ _ _ _ _ _ _ (g.M.Room.stands c.answer.new.room) c.in_default-answer.ensures.trusted run.0 run.1 run.3 read.ensures.read.same _ _ shown.0 after answers.0 answers.2 goes,
+      );
       trusted = λ trust. c.messages.invariant.trusted (c.in_default-answer.ensures.trusted trust);
       kept = λ trust was. c.in_default-answer.ensures.kept trust (c.messages.invariant.kept (c.in_default-answer.ensures.trusted trust) was);
       spent = omega (arith, c.messages.invariant.spent, read.ensures.read.spent);
       reads = reads_by _ _ _ _ _ _ c.messages.invariant.spent read.ensures.read.spent c.messages.invariant.reads read.ensures.read.count;
       reader = (read_goes_on kept left read.new.budget _ _ read.result shown.0 read.ensures.says shown.1 goes).0;
-      writer = answers.2;
+      writer = answers.1.1;
       ready = c.in_default-answer.ensures.ready;
+      unfailed = c.in_default-answer.ensures.failed (λ is. absurd (cc)) ∙ c.messages.invariant.unfailed;
     }
 
 pub messages-smaller : goal.messages-smaller
@@ -148,14 +152,17 @@ messages-smaller g c =
     let fewer : length c.pass.new.inbox < length read.new.inbox = rw c.pass.ensures (read_goes_on read.new.inbox (g.R.Source.left read.new.reader) read.new.budget _ _ read.result shown.0 read.ensures.says shown.1 goes).1 in
     omega (arith, fewer, read.ensures.read.room)
 
-pub returns-in_default-clause-promised : goal.returns-in_default-clause-promised
-returns-in_default-clause-promised g c same = none_served _ _ _ _ _ _ _ (g.met.M.Room.fits _) (g.met.M.Room.leaves_it _) ((λ stream known. (stream, refl)), ([], Appends-none _))
+-- nothing was read
+pub returns-in_default-clause-run : goal.returns-in_default-clause-run
+returns-in_default-clause-run g c =
+    let going = Going-none g.M.Room.step c.args.zone.now _ _ _ _ (λ terminals room standing. (standing, λ was. g.met.M.Room.leaves_it _ terminals room was standing)) in
+    one_course _ _ _ _ _ (Unit {0}) _ _ _ (g.met.M.Room.fits _) (record { outs = []; answers = []; last = None }) _ _ c.args.budget Memory
+    (refl, (refl, Going-ends _ _ _ _ _ _ _ _ _ _ _ _ _ _ _ _ (λ rest. ⊤) going (λ rest known. tt)), CountsBy-none _)
+    (Noted-ends _ _ _ _ _ _ _ _ _ _ _ _ _ (Noted-none g.N.Witness.came g.N.Witness.told g.M.Room.step c.args.zone.now _ _ _ _))
 
-pub returns-in_default-new-clause-promised : goal.returns-in_default-new-clause-promised
-returns-in_default-new-clause-promised g c same = none_served _ _ _ _ _ _ _ (g.met.M.Room.fits _) (g.met.M.Room.leaves_it _) ((λ stream known. (stream, refl)), ([], Appends-none _))
-
-pub returns-in_default-clause-witnessed : goal.returns-in_default-clause-witnessed
-returns-in_default-clause-witnessed g c = Noted-ends _ _ _ _ _ _ _ _ _ _ _ _ (Noted-none g.N.Witness.came g.N.Witness.told g.M.Room.step c.args.zone.now _ _ _ _)
-
-pub returns-in_default-new-clause-witnessed : goal.returns-in_default-new-clause-witnessed
-returns-in_default-new-clause-witnessed g c = Noted-ends _ _ _ _ _ _ _ _ _ _ _ _ (Noted-none g.N.Witness.came g.N.Witness.told g.M.Room.step c.args.zone.now _ _ _ _)
+pub returns-in_default-new-clause-run : goal.returns-in_default-new-clause-run
+returns-in_default-new-clause-run g c =
+    let going = Going-none g.M.Room.step c.args.zone.now _ _ _ _ (λ terminals room standing. (standing, λ was. g.met.M.Room.leaves_it _ terminals room was standing)) in
+    one_course _ _ _ _ _ (Unit {0}) _ _ _ (g.met.M.Room.fits _) (record { outs = []; answers = []; last = None }) _ _ c.args.budget Memory
+    (refl, (refl, Going-ends _ _ _ _ _ _ _ _ _ _ _ _ _ _ _ _ (λ rest. ⊤) going (λ rest known. tt)), CountsBy-none _)
+    (Noted-ends _ _ _ _ _ _ _ _ _ _ _ _ _ (Noted-none g.N.Witness.came g.N.Witness.told g.M.Room.step c.args.zone.now _ _ _ _))

@@ -1,4 +1,4 @@
-use Rattle.std.proofs.Common.{◌≡◌, ◌≤◌, false, ◌+◌, ◌-◌, ◌*◌, length, List}
+use Rattle.std.proofs.Common.{◌≡◌, ◌≤◌, false, ◌+◌, ◌-◌, ◌*◌, length, List, ℕ}
 use Rattle.std.specs.Io.KnownBytes.{prepend_known}
 use Rattle.room_http_messages.specs.declared.limits.TheConstants.{INBOX_ROOM}
 use Rattle.room_http_messages.specs.Streams.{CountsBy}
@@ -9,15 +9,15 @@ use Rattle.room_http.proofs.serving.serve.Given as goal
 
 abbrev pub invariant-messages : goal.invariant-messages
 invariant-messages g l = record {
-  going : (outs : List Timed) × Going g.M.Room.step l.zone
+  run : (outs : List Timed) × (answers : List (List ℕ)) × Going g.M.Room.step l.zone
       (record { left = g.R.Source.left l.initial.reader; reads = g.R.Source.reads l.initial.reader; held = g.W.Sink.held l.initial.writer; given = g.C.Clock.given l.initial.clock })
       (prepend_known l.inbox (g.R.Source.left l.reader)) (g.W.Sink.held l.writer) (g.C.Clock.given l.clock)
-      (g.M.Room.is_trusted l.room) (g.M.Room.stands l.initial.room) (Stays (g.M.Room.is_kept l.initial.room) (g.M.Room.stands l.room) (g.M.Room.leaves_one_of l.room)) outs;
-  noted : (outs : List Timed) × Noted g.N.Witness.came g.N.Witness.told g.M.Room.step l.zone (g.R.Source.left l.initial.reader)
+      (g.M.Room.is_trusted l.room) (g.M.Room.stands l.initial.room) (Stays (g.M.Room.is_kept l.initial.room) (g.M.Room.stands l.room) (g.M.Room.leaves_one_of l.room)) outs
+      × Noted g.N.Witness.came g.N.Witness.told g.M.Room.step l.zone (g.R.Source.left l.initial.reader)
       (record { given = g.C.Clock.given l.initial.clock; kept = g.N.Witness.held l.initial.witness; held = g.W.Sink.held l.initial.writer })
       (prepend_known l.inbox (g.R.Source.left l.reader))
       (record { given = g.C.Clock.given l.clock; kept = g.N.Witness.held l.witness; held = g.W.Sink.held l.writer })
-      (g.M.Room.is_trusted l.room) (g.M.Room.stands l.initial.room) (g.M.Room.stands l.room) outs;
+      (g.M.Room.is_trusted l.room) (g.M.Room.stands l.initial.room) (g.M.Room.stands l.room) outs answers;
   trusted : g.M.Room.is_trusted l.room → g.M.Room.is_trusted l.initial.room;
   kept : g.M.Room.is_trusted l.room → g.M.Room.is_kept l.initial.room → g.M.Room.is_kept l.room;
   spent : l.left ≤ l.budget;
@@ -25,6 +25,7 @@ invariant-messages g l = record {
   reader : g.R.Source.has_failed l.reader ≡ false;
   writer : g.W.Sink.has_failed l.writer ≡ false;
   ready : g.M.Room.is_ready l.room;
+  unfailed : g.N.Witness.has_failed l.witness ≡ g.N.Witness.has_failed l.initial.witness;
 }
 
 abbrev pub decreases-messages : goal.decreases-messages

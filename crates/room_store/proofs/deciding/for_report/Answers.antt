@@ -30,7 +30,7 @@ returns-in-Some-build-clause-decided g c clean = IfOk-weaker c.machines.result _
     let p = c.args.press.now in
     let new : kept_report v.callsign p.number room ≡ None = c.in_ok-found.ensures.row clean_second house room h formed there ∙ c.in_default.is in
     let rows = c.in_ok-rows.ensures.rows clean house room in_second formed fleet there in
-    let decides = rw c.in-Some-build.ensures.rows at c.decide_report.ensures room formed in
+    let decides = rw c.in-Some-build.ensures.rows at c.decide_report.ensures.decides room formed in
     let named = subst (λ k. AreCrewRows k room c.in_ok-rows.rows → kept_report k p.number room ≡ None → Decides (take_report k p c.args.at room) c.decide_report.result) (ap (λ (w : Vehicle). w.callsign) rows.0) decides in
     is (take_report v.callsign p c.args.at room) (named rows.1 new)) c.machines.ensures.decided
 

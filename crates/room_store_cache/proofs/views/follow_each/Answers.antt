@@ -1,5 +1,6 @@
 -- One more view has followed, and those after it stay.
-use Rattle.std.proofs.Common.{length, length-set, sym, ◌<◌, ◌∙◌}
+use Rattle.std.proofs.Common.{ap, length, length-set, sym, ◌<◌, ◌∙◌}
+use Rattle.std.proofs.Math.Seq.{map-set_same}
 use Rattle.room_model.specs.Room.{apply_one}
 use Rattle.room_store_cache.proofs.KeptLaws.{one_follows, others_stay}
 use Rattle.room_store_cache.proofs.RecentLaws.{where_ok}
@@ -14,6 +15,7 @@ loop-at-preserved g c =
     let made = where_ok c.follow.result (sym c.is_err.ensures.value ∙ c.if-is_err.false) c.follow.ensures.so in
     record {
       as_many = length-set xs at _ ∙ kept.as_many;
+      same = map-set_same g.V.View.division_of xs at _ _ (c.follow.ensures.division ∙ ap g.V.View.division_of c.index_mut.ensures.value) ∙ kept.same;
       made = λ room in_order are. one_follows (λ x. g.V.View.is_so x room) (λ x. g.V.View.is_so x (apply_one room c.args.change.now)) xs at _ _ _ inside c.loop-at-test.true c.index_mut.ensures.value (made room in_order) (kept.left room are) (kept.made room in_order are);
       left = λ room are. others_stay (λ x. g.V.View.is_so x room) xs at _ _ (kept.left room are);
     }

@@ -1,4 +1,4 @@
-use Rattle.std.proofs.Common.{arith, map, subst}
+use Rattle.std.proofs.Common.{arith, map, subst, ◌∙◌}
 use Rattle.std.proofs.lemmas.List.{at_drop_more}
 use Rattle.std.specs.List.{AllByRecursion, flat_map}
 use Rattle.sqlite.specs.Held.{state}
@@ -18,11 +18,12 @@ add_table-requires-clause-known g c =
 
 pub loop-text-preserved : goal.loop-text-preserved
 loop-text-preserved g c =
-    let old = state g.S.Store c.args.conn.now in
+    let old = state g.S.Store c.args.tx.now.conn.now in
     let before = c.loop-text.invariant in
-    let early = λ (clean : HasCleanDisk (state g.S.Store c.add_table.new.conn)). let e : HasCleanDisk (state g.S.Store c.loop-text.conn) = omega (arith, c.add_table.ensures.reads.survives.clean) in e in
+    let early = λ (clean : HasCleanDisk (state g.S.Store c.add_table.new.tx.conn.now)). let e : HasCleanDisk (state g.S.Store c.loop-text.tx.conn.now) = omega (arith, c.add_table.ensures.reads.survives.clean) in e in
     let here = at_drop_more (map (λ text. text.now)) c.args.texts.now c.loop-text.text-index _ c.loop-text-test.true in
     record {
+      same = c.add_table.ensures.same_reference ∙ before.same;
       so_far = one_more before.so_far c.in_ok-add_table.ensures.reads;
       known = (subst (AllByRecursion IsKnown) here before.known).1;
       added = λ clean tables reads.

@@ -1,13 +1,45 @@
-use Rattle.std.proofs.Common.{[]}
-use Rattle.room_store_digest.specs.Texts.{digest_text, tables_of}
-use Rattle.room_store_digest.proofs.WholeTables.{whole_known, whole_read}
+use Rattle.std.proofs.Common.{arith, rules, ◌≡◌}
+use Rattle.std.specs.Prelude.{IfOk}
+use Rattle.sha2.specs.Sha256.{sha256}
+use Rattle.sqlite.specs.Held.{state}
+use Rattle.sqlite.specs.State.{HasCleanDisk, Survives}
+use Rattle.sqlite.proofs.Callers.{survives_begin}
+use Rattle.room_model.specs.Room.{Room}
+use Rattle.room_tables_rows.specs.Stands.{House, Stands}
+use Rattle.room_tables_sql.proofs.ReadLaws.{still}
+use Rattle.room_store_writes.specs.Writing.{Leaves}
+use Rattle.room_store_writes.proofs.CommitLaws.{undone_leaves}
+use Rattle.room_store_digest.specs.Texts.{digest_text}
+use Rattle.room_store_digest.proofs.Inside.{outside, reads_commit}
 use Rattle.room_store_digest.proofs.digests.digest_in.Goals as goal
 
-pub add_tables-requires-clause-known : goal.add_tables-requires-clause-known
-add_tables-requires-clause-known g c = whole_known
-
 pub returns-clause-digest : goal.returns-clause-digest
-unfolding digest_text
-returns-clause-digest g c clean house room h =
-    let all = (c.in_ok-add_tables.ensures.rows clean (tables_of house.terminals room) (whole_read _ house room h)).holds [] c.new-hasher.ensures in
-    c.finalize.ensures _ all
+returns-clause-digest g c =
+    let old = state g.S.Store c.args.conn.now in
+    let last = state g.S.Store c.digest_inside-digest.new.tx.conn.now in
+    let end = state g.S.Store c.rollback.new.self.0 in
+    let begun = c.transaction-tx.ensures.begun in
+    let all : HasCleanDisk end → IfOk c.digest_inside-digest.result (λ digest. (house : House) (room : Room) → Stands old.now.trees house room → digest ≡ sha256 (digest_text house.terminals room)) = λ clean.
+    let early : HasCleanDisk last = omega (arith, c.rollback.ensures.survives.clean) in
+    rw begun at c.digest_inside-digest.ensures.digest early in
+    search rules
+
+pub returns-clause-leaves : goal.returns-clause-leaves
+returns-clause-leaves g c =
+    let old = c.args.conn.now in
+    let last = c.digest_inside-digest.new.tx.conn.now in
+    let end = c.rollback.new.self.0 in
+    let commits = rw c.transaction-tx.ensures.begun at (reads_commit c.digest_inside-digest.result c.digest_inside-digest.ensures.reads) in
+    let all : HasCleanDisk (state g.S.Store end) → Leaves (state g.S.Store old) (state g.S.Store end) = λ clean.
+    let early : HasCleanDisk (state g.S.Store last) = omega (arith, c.rollback.ensures.survives.clean) in
+    undone_leaves g.S.Store old last end (commits.kept early) (c.rollback.ensures.undone clean) (outside c.is_autocommit.result _ c.requires.outside c.is_autocommit.ensures.value c.is_autocommit.ensures.settled) in
+    search rules
+
+pub returns-clause-survives : goal.returns-clause-survives
+returns-clause-survives g c =
+    let old = c.args.conn.now in
+    let last = c.digest_inside-digest.new.tx.conn.now in
+    let end = c.rollback.new.self.0 in
+    let commits = rw c.transaction-tx.ensures.begun at (reads_commit c.digest_inside-digest.result c.digest_inside-digest.ensures.reads) in
+    let all : Survives (state g.S.Store old) (state g.S.Store end) (λ _. ⊥) = still (survives_begin g.S.Store old (state g.S.Store last) (λ _. ⊥) commits.survives) c.rollback.ensures.survives in
+    search rules

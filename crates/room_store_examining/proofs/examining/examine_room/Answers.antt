@@ -1,7 +1,7 @@
 use Rattle.std.proofs.lemmas.Result.{IfErr-weaker, IfOk-weaker}
 use Rattle.sqlite.specs.Held.{state}
-use Rattle.room_store_opening.proofs.TakeLaws.{holds_new}
-use Rattle.room_store_examining.proofs.ExaminedLaws.{read_fault, stands_new, weighed}
+use Rattle.room_store_opening.proofs.TakeLaws.{has_tables}
+use Rattle.room_store_examining.proofs.ExaminedLaws.{no_plan_new, read_fault, stands_new, weighed}
 use Rattle.room_store_examining.proofs.examining.examine_room.Goals as goal
 
 pub returns-in-Ok-clause-room : goal.returns-in-Ok-clause-room
@@ -16,9 +16,9 @@ returns-in-Ok-clause-wrong g c clean =
     let whole = c.in-Ok.whole in
     let now = (state g.S.Store c.args.conn.now).now in
     let stands = stands_new c.args.tables now.trees _ _ c.requires.new (c.in-Ok.ensures.stands clean) in
-    IfErr-weaker c.judge.result _ _ (weighed now whole.house.plan whole.rows whole.house.terminals.items stands) c.judge.ensures.wrong
+    IfErr-weaker c.judge.result _ _ (weighed now (has_tables c.args.tables now.schema c.requires.tables c.requires.new) whole.house.plan whole.rows whole.house.terminals.items stands) c.judge.ensures.wrong
 
 pub returns-in-Err-clause-wrong : goal.returns-in-Err-clause-wrong
 returns-in-Err-clause-wrong g c clean =
     let now = (state g.S.Store c.args.conn.now).now in
-    rw c.from.ensures (read_fault now c.in-Err.fault (λ is holds. c.in-Err.ensures.no_room clean is (holds_new c.args.tables now.trees c.requires.new holds)))
+    rw c.from.ensures (read_fault now (has_tables c.args.tables now.schema c.requires.tables c.requires.new) c.in-Err.fault (λ is. no_plan_new c.args.tables now.trees c.requires.new (c.in-Err.ensures.no_plan clean is)))

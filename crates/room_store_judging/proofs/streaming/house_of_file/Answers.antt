@@ -1,4 +1,5 @@
 use Rattle.std.proofs.Common.{arith, rules, ◌≡◌}
+use Rattle.std.proofs.lemmas.Result.{IfErr-weaker}
 use Rattle.std.specs.Prelude.{IfErr, IfOk}
 use Rattle.sqlite.specs.Held.{state}
 use Rattle.sqlite.specs.State.{HasCleanDisk}
@@ -6,6 +7,7 @@ use Rattle.sqlite.proofs.Callers.{survives_begin}
 use Rattle.room_tables.specs.Numbering.{AreAllNumbered}
 use Rattle.room_tables_sql.proofs.ReadLaws.{still}
 use Rattle.room_store_writes.proofs.CommitLaws.{undone_leaves}
+use Rattle.room_store_judging.proofs.Findings.{planless}
 use Rattle.room_store_judging.proofs.StreamLaws.{reads_commit}
 use Rattle.room_store_judging.specs.Holding.{HasHouse, HoldsRoom, WritesNothing}
 use Rattle.room_store_judging.specs.declared.faults.TakeFault.TheVariants.{NotARoom}
@@ -30,8 +32,8 @@ returns-clause-no_room g c =
     let begun = c.transaction-tx.ensures.begun in
     let all : HasCleanDisk end → IfErr c.read_house-house.result (λ e. e ≡ NotARoom → ¬ HoldsRoom old.now.trees) = λ clean.
     let early : HasCleanDisk last = omega (arith, c.rollback.ensures.survives.clean) in
-    rw begun at c.read_house-house.ensures.no_room early in
-    search rules
+    IfErr-weaker c.read_house-house.result _ _ (λ e none is. planless old.now.trees (none is)) (rw begun at c.read_house-house.ensures.no_plan early) in
+    λ clean. all (search rules)
 
 pub returns-clause-nothing : goal.returns-clause-nothing
 returns-clause-nothing g c =

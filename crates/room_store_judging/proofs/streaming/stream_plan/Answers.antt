@@ -3,7 +3,8 @@ use Rattle.std.proofs.lemmas.Result.{IfErr-weaker, IfOk-weaker}
 use Rattle.sqlite.specs.Effect.{Database}
 use Rattle.sqlite.specs.Held.{state}
 use Rattle.sqlite.specs.State.{HasCleanDisk}
-use Rattle.room_store_judging.proofs.StreamLaws.{held_numbered, is_no_room, is_plan, nothing_then}
+use Rattle.room_store_judging.proofs.Findings.{held_numbered}
+use Rattle.room_store_judging.proofs.StreamLaws.{is_no_room, is_plan, nothing_then}
 use Rattle.room_store_judging.specs.Holding.{HoldsRoom}
 use Rattle.room_store_judging.proofs.streaming.stream_plan.Goals as goal
 

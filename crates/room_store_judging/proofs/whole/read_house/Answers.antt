@@ -11,10 +11,7 @@ use Rattle.room_tables_schema.specs.Schema.{areas_table, meta_table, terminals_t
 use Rattle.room_tables_sql.specs.Tables.{AreNumbered}
 use Rattle.room_tables.specs.Stands.{StandsFor, numbered}
 use Rattle.room_tables.proofs.Inside.{inside_then}
-use Rattle.room_tables.proofs.RoomReads.{kept}
-use Rattle.room_tables_rows.proofs.Moves.{one_zone}
 use Rattle.room_tables_sql.proofs.ReadLaws.{fails_inside, told_inside}
-use Rattle.room_store_writes.specs.Houses.{house_of}
 use Rattle.room_store_judging.proofs.Findings.{none_found, not_told}
 use Rattle.room_store_judging.proofs.whole.read_house.Goals as goal
 
@@ -36,27 +33,27 @@ returns-clause-found g c clean =
       terminals_are = subst (StandsFor first.now.trees terminals_table terminal_row) (sym is.2) (c.in_ok-terminals.ensures.found clean_second all.1.1.0);
     }) c.planned_house.ensures.house
 
-pub returns-clause-no_room : goal.returns-clause-no_room
-returns-clause-no_room g c clean =
-    let first = state g.S.Store c.args.tx.now.conn.now in
-    let second = state g.S.Store c.all_terminals.new.tx.conn.now in
+pub returns-clause-no_plan : goal.returns-clause-no_plan
+returns-clause-no_plan g c clean =
     let third = state g.S.Store c.zone.new.tx.conn.now in
     let clean_third : HasCleanDisk third = omega (arith, c.all_areas.ensures.reads.survives.clean) in
-    let clean_second : HasCleanDisk second = omega (arith, clean_third, c.zone.ensures.reads.survives.clean) in
-    IfErr-weaker c.planned_house.result _ _ (λ e none is holds.
-    let house = house_of holds.layout holds.terminals in
-    let in_second = kept first second (c.in_ok-terminals.ensures.reads.ok clean_second) house holds.room holds.stands in
-    let in_third = kept second third (c.in_ok-zone.ensures.reads.ok clean_third) house holds.room in_second in
-    let zone = one_zone 2 second.now.trees _ house.zone (c.in_ok-zone.ensures.found clean_third) in_second.meta in
-    let areas = c.in_ok-areas.ensures.areas clean house holds.room in_third ∙ holds.planned in
-    none is holds.layout (sym areas) (sym zone)) c.planned_house.ensures.no_plan
+    let clean_second : HasCleanDisk (state g.S.Store c.all_terminals.new.tx.conn.now) = omega (arith, clean_third, c.zone.ensures.reads.survives.clean) in
+    let to_second = (c.in_ok-terminals.ensures.reads.ok clean_second).0.now_is in
+    let to_third = (c.in_ok-zone.ensures.reads.ok clean_third).0.now_is ∙ to_second in
+    IfErr-weaker c.planned_house.result _ _ (λ e none is all. record {
+      areas = c.in_ok-areas.areas.items;
+      zone = string_bytes c.in_ok-zone.zone;
+      areas_are = subst (λ (db : Database). AreNumbered (db.trees areas_table.tree) → StandsFor db.trees areas_table area_row (numbered 1 c.in_ok-areas.areas.items)) to_third (c.in_ok-areas.ensures.found clean) all.1.0;
+      meta = subst (λ (db : Database). StandsFor db.trees meta_table meta_row (string_bytes c.in_ok-zone.zone ∷ [])) to_second (c.in_ok-zone.ensures.found clean_third);
+      no_plan = none is;
+    }) c.planned_house.ensures.no_plan
 
 pub returns-in_err-terminals : goal.returns-in_err-terminals
 returns-in_err-terminals g c =
     let failed = c.from_residual.ensures in
     record {
       found = λ clean. none_found _ _ failed.0;
-      no_room = λ clean. not_told _ c.in_err-terminals.field-0.0 _ failed.1;
+      no_plan = λ clean. not_told _ c.in_err-terminals.field-0.0 _ failed.1;
       reads = fails_inside failed.0 c.in_err-terminals.ensures.reads;
       same_reference = c.all_terminals.ensures.same_reference;
     }
@@ -66,7 +63,7 @@ returns-in_err-zone g c =
     let failed = c.from_residual-in_err-zone.ensures in
     record {
       found = λ clean. none_found _ _ failed.0;
-      no_room = λ clean. not_told _ c.in_err-zone.field-0.0 _ failed.1;
+      no_plan = λ clean. not_told _ c.in_err-zone.field-0.0 _ failed.1;
       reads = inside_then c.in_ok-terminals.ensures.reads _ (fails_inside failed.0 c.in_err-zone.ensures.reads);
       same_reference = c.zone.ensures.same_reference ∙ c.all_terminals.ensures.same_reference;
     }
@@ -76,7 +73,7 @@ returns-in_err-areas g c =
     let failed = c.from_residual-in_err-areas.ensures in
     record {
       found = λ clean. none_found _ _ failed.0;
-      no_room = λ clean. not_told _ c.in_err-areas.field-0.0 _ failed.1;
+      no_plan = λ clean. not_told _ c.in_err-areas.field-0.0 _ failed.1;
       reads = inside_then c.in_ok-terminals.ensures.reads _ (inside_then c.in_ok-zone.ensures.reads _ (fails_inside failed.0 c.in_err-areas.ensures.reads));
       same_reference = c.all_areas.ensures.same_reference ∙ c.zone.ensures.same_reference ∙ c.all_terminals.ensures.same_reference;
     }

@@ -1,12 +1,13 @@
-use Rattle.std.proofs.Common.{arith, subst, ◌∙◌}
+use Rattle.std.proofs.Common.{arith, inl, inr, subst, sym, true≢false, ◌∙◌, ◌≡◌}
 use Rattle.sqlite.specs.Effect.{Database}
 use Rattle.sqlite.specs.Held.{state}
 use Rattle.sqlite.specs.State.{HasCleanDisk}
 use Rattle.room_tables.specs.Numbering.{AreAllNumbered}
 use Rattle.room_tables.proofs.Inside.{inside_then}
 use Rattle.room_tables_sql.proofs.ReadLaws.{fails_inside, told_inside}
-use Rattle.room_store_judging.proofs.Findings.{none_found, not_told, stands_with}
-use Rattle.room_store_judging.specs.Holding.{HasHouse, HasRows}
+use Rattle.room_store_judging.proofs.Findings.{none_found, not_told, stands_with, told_on}
+use Rattle.room_store_judging.specs.Holding.{HasHouse, HasRows, MakesNoPlan}
+use Rattle.room_store_judging.specs.declared.faults.TakeFault.TheVariants.{NotARoom}
 use Rattle.room_store_judging.proofs.whole.read_whole.Goals as goal
 
 pub returns-clause-stands : goal.returns-clause-stands
@@ -27,13 +28,26 @@ returns-clause-stands g c clean =
 pub returns-in_err-are_numbered : goal.returns-in_err-are_numbered
 returns-in_err-are_numbered g c = record {
   stands = λ clean. none_found _ _ c.from_residual.ensures.0;
-  no_room = λ clean. not_told _ c.in_err-are_numbered.field-0.0 _ c.from_residual.ensures.1;
+  no_plan = λ clean. not_told _ c.in_err-are_numbered.field-0.0 _ c.from_residual.ensures.1;
   reads = fails_inside c.from_residual.ensures.0 c.in_err-are_numbered.ensures.reads;
   same_reference = c.are_numbered.ensures.same_reference;
 }
 
 pub returns-then-not-branch-clause-reads : goal.returns-then-not-branch-clause-reads
 returns-then-not-branch-clause-reads g c = told_inside _ c.in_ok-are_numbered.ensures.reads
+
+pub returns-then-not-branch-clause-no_plan : goal.returns-then-not-branch-clause-no_plan
+returns-then-not-branch-clause-no_plan g c clean is =
+    inl (λ all. true≢false (sym ((c.in_ok-are_numbered.ensures.numbered clean).1 all) ∙ c.if-not-branch.true))
+
+pub returns-in_err-house-clause-no_plan : goal.returns-in_err-house-clause-no_plan
+returns-in_err-house-clause-no_plan g c clean =
+    let second = state g.S.Store c.are_numbered.new.tx.conn.now in
+    let clean_second : HasCleanDisk second = omega (arith, c.read_house.ensures.reads.survives.clean) in
+    let same = (c.in_ok-are_numbered.ensures.reads.ok clean_second).0.now_is in
+    let all = (c.in_ok-are_numbered.ensures.numbered clean_second).0 c.if-not-branch.false in
+    let none = subst (λ (db : Database). c.in_err-house.field-0.0 ≡ NotARoom → AreAllNumbered db.trees → MakesNoPlan db.trees) same (c.in_err-house.ensures.no_plan clean) in
+    told_on c.from_residual-in_err-house.result c.in_err-house.field-0.0 _ c.from_residual-in_err-house.ensures.1 (λ is. inr (none is all))
 
 pub returns-in_err-house-clause-reads : goal.returns-in_err-house-clause-reads
 returns-in_err-house-clause-reads g c = inside_then c.in_ok-are_numbered.ensures.reads _ (fails_inside c.from_residual-in_err-house.ensures.0 c.in_err-house.ensures.reads)
@@ -43,7 +57,7 @@ returns-in_err-rows g c =
     let failed = c.from_residual-in_err-rows.ensures in
     record {
       stands = λ clean. none_found _ _ failed.0;
-      no_room = λ clean. not_told _ c.in_err-rows.field-0.0 _ failed.1;
+      no_plan = λ clean. not_told _ c.in_err-rows.field-0.0 _ failed.1;
       reads = inside_then c.in_ok-are_numbered.ensures.reads _ (inside_then c.in_ok-house.ensures.reads _ (fails_inside failed.0 c.in_err-rows.ensures.reads));
       same_reference = c.read_rows.ensures.same_reference ∙ c.read_house.ensures.same_reference ∙ c.are_numbered.ensures.same_reference;
     }

@@ -9,7 +9,7 @@ use Rattle.room_tables_schema.specs.Versions.{HasTables}
 use Rattle.room_store_writes.proofs.CommitLaws.{on_ok, ok_then}
 use Rattle.room_store_opening.proofs.FileLaws.{left_left, left_then_opens}
 use Rattle.room_store_judging.proofs.StreamLaws.{nothing_then}
-use Rattle.room_store_opening.proofs.TakeLaws.{any_fault, both_errs, none_opened, survives_less}
+use Rattle.room_store_opening.proofs.TakeLaws.{any_fault, both_errs, hidden, none_opened, survives_less}
 use Rattle.room_store_judging.proofs.Findings.{none_found, none_ok}
 use Rattle.room_store_opening.specs.Opening.{IsOldRoom, MayBeIndexed}
 use Rattle.room_store_judging.specs.Holding.{HoldsRoom}
@@ -52,6 +52,11 @@ returns-clause-no_room g c clean =
     let same = sym (c.in_ok-is_room_of.ensures.ok early) in
     IfErr-weaker c.open_tables.result _ _ (λ e none is tables holds. none is (subst (λ (db : Database). HasTables db.schema) same tables) (subst (λ (db : Database). HoldsRoom db.trees) same holds)) (c.open_tables.ensures.no_room clean)
 
+pub returns-clause-storage : goal.returns-clause-storage
+returns-clause-storage g c clean =
+    let early : HasCleanDisk (state g.S.Store c.is_room_of.new.conn) = omega (arith, c.open_tables.ensures.survives.clean) in
+    IfErr-weaker c.open_tables.result _ _ (λ e has is. inl (subst (λ (db : Database). HasTables db.schema) (c.in_ok-is_room_of.ensures.ok early) (has is))) (c.open_tables.ensures.storage clean)
+
 pub returns-clause-untouched : goal.returns-clause-untouched
 returns-clause-untouched g c =
     both_errs c.open_tables.result _ _ _ c.open_tables.ensures.this_version c.open_tables.ensures.untouched (λ e other none is. elim is [
@@ -81,6 +86,7 @@ returns-in_err-is_room_of g c =
       not_old = λ clean. none_ok _ _ failed.0;
       old_room = λ clean. IfErr-weaker c.from_residual.result _ _ (λ e other. (λ is. absurd (other.0 is), λ is. absurd (other.1 is))) (none_opened _ c.in_err-is_room_of.field-0.0 failed.1);
       no_room = λ clean. IfErr-weaker c.from_residual.result _ _ (λ e other is. absurd (other.1 is)) (none_opened _ c.in_err-is_room_of.field-0.0 failed.1);
+      storage = λ clean. IfErr-weaker c.from_residual.result _ _ (λ e hides is. inr (hides is)) (hidden c.from_residual.result c.in_err-is_room_of.field-0.0 _ failed.1 (c.in_err-is_room_of.ensures.why clean));
       untouched = any_fault c.from_residual.result _ (λ e _. looked);
       ended = c.is_room_of.ensures.ended;
       survives = survives_less old (state g.S.Store c.is_room_of.new.conn) (λ _. ⊥) (MayBeIndexed old.now) (λ db none. absurd none) looked.survives;
@@ -99,6 +105,7 @@ returns-then-branch g c =
       not_old = λ clean. tt;
       old_room = λ clean. (λ is. (c.in_ok-is_room_of.ensures.told clean).0 c.if-branch.true, λ is. cc);
       no_room = λ clean is. cc;
+      storage = λ clean is. cc;
       untouched = λ is. looked;
       ended = c.is_room_of.ensures.ended;
       survives = survives_less old (state g.S.Store c.is_room_of.new.conn) (λ _. ⊥) (MayBeIndexed old.now) (λ db none. absurd none) looked.survives;

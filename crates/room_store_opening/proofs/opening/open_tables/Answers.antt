@@ -1,7 +1,7 @@
 use Rattle.std.proofs.Common.{IsTrue, inr, rules, sym, ◌∙◌, ◌≡◌}
 use Rattle.sqlite.specs.Held.{state}
 use Rattle.room_store_opening.proofs.FileLaws.{may_be_indexed, takes_opens}
-use Rattle.room_store_opening.proofs.TakeLaws.{holds_new, survives_less, told_open}
+use Rattle.room_store_opening.proofs.TakeLaws.{has_tables, holds_new, survives_less, told_open}
 use Rattle.room_store_opening.specs.Opening.{MayBeIndexed, schema_of}
 use Rattle.room_store_opening.proofs.opening.open_tables.Goals as goal
 
@@ -16,6 +16,12 @@ pub returns-in-Err-clause-no_room : goal.returns-in-Err-clause-no_room
 returns-in-Err-clause-no_room g c clean is has holds =
     let none = told_open c.in-Err.fault (sym c.from.ensures ∙ is) in
     c.in-Err.ensures.no_room clean none (holds_new c.in-Some.tables _ c.in-Some.ensures.tables.1 holds)
+
+pub returns-in-Err-clause-storage : goal.returns-in-Err-clause-storage
+returns-in-Err-clause-storage g c clean is =
+    let old = state g.S.Store c.args.conn.now in
+    let has : old.now.schema ≡ schema_of c.in-Some.tables = search rules in
+    has_tables c.in-Some.tables old.now.schema has c.in-Some.ensures.tables.1
 
 pub returns-in-Err-clause-untouched : goal.returns-in-Err-clause-untouched
 returns-in-Err-clause-untouched g c is = c.in-Err.ensures.untouched (told_open c.in-Err.fault (sym c.from.ensures ∙ is))

@@ -4,7 +4,7 @@ use Rattle.sqlite.specs.Held.{state}
 use Rattle.room_model.specs.Slices.{room_of}
 use Rattle.room_store_writes.proofs.CommitLaws.{on_ok}
 use Rattle.room_store_judging.proofs.Findings.{held_is}
-use Rattle.room_store_opening.proofs.TakeLaws.{becomes_holds}
+use Rattle.room_store_opening.proofs.TakeLaws.{becomes_holds, planless_by}
 use Rattle.room_store_opening.proofs.taking.find_room.Goals as goal
 
 pub returns-in-Ok-clause-room : goal.returns-in-Ok-clause-room
@@ -29,3 +29,7 @@ returns-in-Ok-clause-no_room g c clean =
     IfErr-weaker c.sound_plan.result _ _ (λ e none is holds.
     let there = becomes_holds c.args.tables old.now.trees new.now.trees (c.in-Ok.ensures.becomes clean) holds in
     none is (held_is new.now.trees whole.house.plan whole.house.terminals.items (room_of whole.house.plan.areas whole.rows) (c.in-Ok.ensures.stands clean) there)) c.sound_plan.ensures.no_room
+
+pub returns-in-Err-clause-no_room : goal.returns-in-Err-clause-no_room
+returns-in-Err-clause-no_room g c clean is =
+    planless_by c.args.tables (state g.S.Store c.args.tx.now.conn.now).now.trees (c.in-Err.ensures.no_plan clean is)

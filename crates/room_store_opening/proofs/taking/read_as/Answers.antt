@@ -8,7 +8,7 @@ use Rattle.room_tables.proofs.RoomReads.{kept}
 use Rattle.room_tables_sql.proofs.WriteLaws.{commits_more}
 use Rattle.room_store_writes.proofs.CommitLaws.{ok_then}
 use Rattle.room_store_writes.specs.Houses.{house_of}
-use Rattle.room_store_opening.proofs.TakeLaws.{becomes_holds, may_write_on, ok_holds}
+use Rattle.room_store_opening.proofs.TakeLaws.{may_write_on, ok_holds}
 use Rattle.room_store_judging.proofs.StreamLaws.{reads_commit}
 use Rattle.room_store_opening.specs.Opening.{Becomes}
 use Rattle.room_store_opening.proofs.taking.read_as.Goals as goal
@@ -34,12 +34,11 @@ pub returns-clause-inside : goal.returns-clause-inside
 returns-clause-inside g c =
     may_write_on g.S.Store c.make_lacking.new.tx.conn.now c.read_whole.new.tx.conn.now c.read_whole.result c.in_ok-make_lacking.ensures.inside c.read_whole.ensures.reads
 
-pub returns-clause-no_room : goal.returns-clause-no_room
-returns-clause-no_room g c clean =
-    let old = state g.S.Store c.args.tx.now.conn.now in
+pub returns-clause-no_plan : goal.returns-clause-no_plan
+returns-clause-no_plan g c clean =
     let mid = state g.S.Store c.make_lacking.new.tx.conn.now in
     let early : HasCleanDisk mid = omega (arith, c.read_whole.ensures.reads.survives.clean) in
-    IfErr-weaker c.read_whole.result _ _ (λ e none is holds. none is (becomes_holds c.args.tables old.now.trees mid.now.trees (c.in_ok-make_lacking.ensures.becomes early) holds)) (c.read_whole.ensures.no_room clean)
+    IfErr-weaker c.read_whole.result _ _ (λ e none is. (mid.now.trees, c.in_ok-make_lacking.ensures.becomes early, none is)) (c.read_whole.ensures.no_plan clean)
 
 pub returns-clause-commits : goal.returns-clause-commits
 returns-clause-commits g c = commits_more c.make_lacking.ensures.commits (reads_commit c.read_whole.result c.read_whole.ensures.reads)

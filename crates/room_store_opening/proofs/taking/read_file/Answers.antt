@@ -8,7 +8,7 @@ use Rattle.room_tables_sql.proofs.ReadLaws.{still}
 use Rattle.room_store_writes.proofs.CommitLaws.{undone_leaves}
 use Rattle.room_store_writes.specs.Houses.{house_of}
 use Rattle.room_store_opening.proofs.TakeLaws.{becomes_back, ok_holds}
-use Rattle.room_store_opening.specs.Opening.{HoldsBy, StandsBy}
+use Rattle.room_store_opening.specs.Opening.{HasNoPlanBy, StandsBy}
 use Rattle.room_store_judging.specs.Holding.{WritesNothing}
 use Rattle.room_store_judging.specs.declared.faults.TakeFault.TheVariants.{NotARoom}
 use Rattle.room_store_opening.proofs.taking.read_file.Goals as goal
@@ -24,15 +24,15 @@ returns-clause-stands g c =
     ok_holds c.read_as-found.result _ _ _ (rw begun at c.read_as-found.ensures.becomes early) (c.read_as-found.ensures.stands early) (λ x becomes stands. becomes_back c.args.tables old.now.trees last.now.trees becomes _ _ stands) in
     search rules
 
-pub returns-clause-no_room : goal.returns-clause-no_room
-returns-clause-no_room g c =
+pub returns-clause-no_plan : goal.returns-clause-no_plan
+returns-clause-no_plan g c =
     let old = state g.S.Store c.args.conn.now in
     let last = state g.S.Store c.read_as-found.new.tx.conn.now in
     let end = state g.S.Store c.rollback.new.self.0 in
     let begun = c.transaction-tx.ensures.begun in
-    let all : HasCleanDisk end → IfErr c.read_as-found.result (λ e. e ≡ NotARoom → ¬ HoldsBy c.args.tables old.now.trees) = λ clean.
+    let all : HasCleanDisk end → IfErr c.read_as-found.result (λ e. e ≡ NotARoom → HasNoPlanBy c.args.tables old.now.trees) = λ clean.
     let early : HasCleanDisk last = omega (arith, c.rollback.ensures.survives.clean) in
-    rw begun at c.read_as-found.ensures.no_room early in
+    rw begun at c.read_as-found.ensures.no_plan early in
     search rules
 
 pub returns-clause-nothing : goal.returns-clause-nothing

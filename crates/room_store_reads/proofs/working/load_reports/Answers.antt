@@ -11,7 +11,7 @@ pub returns-in-Some-clause-rows : goal.returns-in-Some-clause-rows
 returns-in-Some-clause-rows g c clean =
     let read = sym c.reads_exceptions.ensures ∙ c.if-reads_exceptions.true in
     IfOk-weaker c.own_rows.result _ _ (λ x own house room h in_order are.
-    let kept = rw c.in-Some.is at c.get.ensures room are.boards in
+    let kept = rw c.in-Some.is at c.get.ensures.so room are.boards in
     let exceptions = rw kept.0 at kept.1.exceptions in
     rw exceptions at own ∙ filter_owned (owns_report c.args.division) is_exception room.reports ∙ filter_as _ _ room.reports (λ y. ap (λ b. (y.division == c.args.division) && b) (shown_report c.args.ask.now y read))) c.own_rows.ensures.rows
 

@@ -4,11 +4,6 @@ use Rattle.dispatch_room_sockets.proofs.readers.SocketReaderSource.read.Goals as
 pub returns-in_default-clause-count : goal.returns-in_default-clause-count
 returns-in_default-clause-count g c = known_count-more _ _ c.saturating_add-self.ensures
 
-pub returns-then-not-is_empty-clause-count : goal.returns-then-not-is_empty-clause-count
-returns-then-not-is_empty-clause-count g c = known_count-more _ _ c.saturating_add-self.ensures
-
-pub returns-else-count-eq0-clause-count : goal.returns-else-count-eq0-clause-count
-returns-else-count-eq0-clause-count g c = known_count-more _ _ c.saturating_add-self.ensures
-
-pub returns-in-Err-clause-count : goal.returns-in-Err-clause-count
-returns-in-Err-clause-count g c = known_count-more _ _ c.saturating_add-self.ensures
+pub returns-clause-count : goal.returns-clause-count
+returns-clause-count g c =
+    rw c.note.ensures.kept.1 (known_count-more _ _ c.saturating_add-self.ensures)

@@ -1,17 +1,12 @@
-use Rattle.std.proofs.Common.{Err, Ok, OnErr, Result}
 use Rattle.std.proofs.lemmas.Result.{on_err_weaker}
-use Rattle.room_store.proofs.StoreLaws.{acted_left, kept_settled, room_left}
+use Rattle.room_store.proofs.KnownLaws.{knows_nothing}
+use Rattle.room_store.proofs.StoreLaws.{acted_left, err_both, kept_settled, room_left}
 use Rattle.room_tables_sql.proofs.ReadLaws.{any_err}
 use Rattle.room_store.proofs.serving.StoreRoom.act.Goals as goal
 
-err_both : {T E : Type 0} (r : Result T E) (P Q : Type 0) → OnErr r P → OnErr r Q
-    → OnErr r (P × Q)
-err_both (Ok done) P Q p q = tt
-err_both (Err error) P Q p q = (p, q)
-
 pub returns-clause-same : goal.returns-clause-same
 returns-clause-same g c clean =
-    on_err_weaker c.act.result (λ both terminals room is. room_left g.S.Store c.args.self.now c.act.new.self terminals room both.0 c.act.ensures.plan (rw c.act.ensures.known is.known) (both.1 room is.cache) is) (err_both c.act.result _ _ (c.act.ensures.err clean) c.act.ensures.cache)
+    on_err_weaker c.act.result (λ both terminals room is. room_left g.S.Store c.args.self.now c.act.new.self terminals room both.0 c.act.ensures.plan (rw c.act.ensures.known is.known) (knows_nothing c.act.new.self.cache room both.1) is) (err_both c.act.result _ _ (c.act.ensures.err clean) c.act.ensures.failed)
 
 pub returns-clause-kept : goal.returns-clause-kept
 returns-clause-kept g c clean = kept_settled g.S.Store c.act.new.self c.act.result (c.act.ensures.settled clean) (c.act.ensures.alone clean)

@@ -4,7 +4,7 @@ use Rattle.room_tables.specs.Stands.{Stands}
 use Rattle.room_store_writes.specs.Filling.{in_order, new_room}
 use Rattle.room_store.proofs.CreationLaws.{new_room_formed, new_terminals_fit}
 use Rattle.room_store.proofs.KnownLaws.{knows_none, knows_nothing}
-use Rattle.room_store.proofs.StoreLaws.{never_known, ready_sound, settled_kept}
+use Rattle.room_store.proofs.StoreLaws.{ready_sound, settled_kept}
 use Rattle.room_store.proofs.LookLaws.{left_same, outside}
 use Rattle.room_store_writes.proofs.CommitLaws.{unchanged_survives}
 use Rattle.room_store.proofs.store.Store.create.Goals as goal
@@ -39,7 +39,7 @@ create_in-requires-clause-committed g c = outside c.is_autocommit.result _ c.req
 
 pub returns-in-Ok-create_in-clause-ready : goal.returns-in-Ok-create_in-clause-ready
 returns-in-Ok-create_in-clause-ready g c =
-    ready_sound g.S.Store (record { conn = c.create_in.new.conn; plan = c.in-Ok.own; known = c.new.result; cache = c.new-in-Ok-create_in.result; is_sound = true }) c.create_in.ensures.ended refl (λ clean. (c.in-Ok-create_in.ensures.ok clean).schema) (never_known c.new-in-Ok-create_in.ensures.fleet)
+    ready_sound g.S.Store (record { conn = c.create_in.new.conn; plan = c.in-Ok.own; known = c.new.result; cache = c.new-in-Ok-create_in.result; is_sound = true }) c.create_in.ensures.ended refl (λ clean. record { schema = (c.in-Ok-create_in.ensures.ok clean).schema; settled = (c.in-Ok-create_in.ensures.ok clean).settled })
 
 pub returns-in-Ok-create_in-clause-settled : goal.returns-in-Ok-create_in-clause-settled
 returns-in-Ok-create_in-clause-settled g c clean = (c.in-Ok-create_in.ensures.ok clean).settled

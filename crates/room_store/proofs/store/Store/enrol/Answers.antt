@@ -1,10 +1,11 @@
-use Rattle.std.proofs.Common.{refl}
+use Rattle.std.proofs.Common.{arith, refl}
 use Rattle.sqlite.specs.Held.{state}
+use Rattle.sqlite.specs.State.{HasCleanDisk}
 use Rattle.room_store_writes.specs.Houses.{house_of}
 use Rattle.room_store.proofs.EnrolledLaws.{in_plan, room_after_row, store_survives}
 use Rattle.room_store.proofs.KnownLaws.{knows_nothing}
-use Rattle.room_store.proofs.LookLaws.{left_same}
-use Rattle.room_store.proofs.StoreLaws.{never_known, ready_sound, ready_tested, settled_kept}
+use Rattle.room_store.proofs.LookLaws.{left_same, left_then, survives_read}
+use Rattle.room_store.proofs.StoreLaws.{ready_schema, ready_sound, settled_kept}
 use Rattle.room_store_writes.proofs.CommitLaws.{unchanged_survives}
 use Rattle.room_store.proofs.store.Store.enrol.Goals as goal
 
@@ -28,7 +29,7 @@ returns-in-Ok-clause-survives g c = store_survives g.S.Store c.args.self.now (st
 
 pub returns-in-Err-clause-survives : goal.returns-in-Err-clause-survives
 returns-in-Err-clause-survives g c =
-    rw c.test_file.ensures.conn (store_survives g.S.Store c.args.self.now (state g.S.Store c.add_fate.new.conn) c.args.row.now c.add_fate.ensures.survives)
+    survives_read _ _ _ _ (store_survives g.S.Store c.args.self.now (state g.S.Store c.add_fate.new.conn) c.args.row.now c.add_fate.ensures.survives) c.test_file.ensures.survives
 
 pub returns-then-not-self-clause-err : goal.returns-then-not-self-clause-err
 returns-then-not-self-clause-err g c clean = left_same _
@@ -37,7 +38,7 @@ pub returns-then-not-self-clause-survives : goal.returns-then-not-self-clause-su
 returns-then-not-self-clause-survives g c = unchanged_survives g.S.Store c.args.self.now.conn _
 
 pub returns-in-Ok-clause-ready : goal.returns-in-Ok-clause-ready
-returns-in-Ok-clause-ready g c = ready_sound g.S.Store (record c.args.self.now { conn = c.add_fate.new.conn; cache = c.forget.new.self }) c.add_fate.ensures.ended c.if-not-self.false (λ clean. (c.in-Ok.ensures.ok clean).schema) (never_known c.forget.ensures.fleet)
+returns-in-Ok-clause-ready g c = ready_sound g.S.Store (record c.args.self.now { conn = c.add_fate.new.conn; cache = c.forget.new.self }) c.add_fate.ensures.ended c.if-not-self.false (λ clean. record { schema = (c.in-Ok.ensures.ok clean).schema; settled = (c.in-Ok.ensures.ok clean).settled })
 
 pub returns-in-Ok-clause-settled : goal.returns-in-Ok-clause-settled
 returns-in-Ok-clause-settled g c clean = (c.in-Ok.ensures.ok clean).settled
@@ -46,8 +47,10 @@ pub returns-in-Ok-clause-alone : goal.returns-in-Ok-clause-alone
 returns-in-Ok-clause-alone g c clean =
     (settled_kept g.S.Store (record c.args.self.now { conn = c.add_fate.new.conn; cache = c.forget.new.self }) (g.met.S.Store.settled c.add_fate.new.conn.store) (c.in-Ok.ensures.ok clean).settled).alone
 
-pub returns-in-Err-clause-ready : goal.returns-in-Err-clause-ready
-returns-in-Err-clause-ready g c = ready_tested g.S.Store c.test_file.new.self (rw c.test_file.ensures.conn c.add_fate.ensures.ended) c.test_file.ensures.sound c.test_file.ensures.nothing.fleet
+pub add_fate-requires-clause-room : goal.add_fate-requires-clause-room
+add_fate-requires-clause-room g c = ready_schema g.S.Store c.args.self.now c.requires.ready c.if-not-self.false
 
 pub returns-in-Err-clause-err : goal.returns-in-Err-clause-err
-returns-in-Err-clause-err g c clean = rw c.test_file.ensures.conn (c.in-Err.ensures.err (rw c.test_file.ensures.conn at clean))
+returns-in-Err-clause-err g c clean =
+    let early : HasCleanDisk (state g.S.Store c.add_fate.new.conn) = omega (arith, c.test_file.ensures.survives.clean) in
+    left_then _ _ _ (c.in-Err.ensures.err early) (c.test_file.ensures.leaves clean)

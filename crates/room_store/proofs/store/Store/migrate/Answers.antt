@@ -1,7 +1,7 @@
 use Rattle.std.proofs.Common.{refl, true}
 use Rattle.room_store_writes.specs.Houses.{house_of}
 use Rattle.room_store.proofs.KnownLaws.{knows_none, knows_nothing}
-use Rattle.room_store.proofs.StoreLaws.{never_known, ready_sound, settled_kept}
+use Rattle.room_store.proofs.StoreLaws.{ready_sound, settled_kept}
 use Rattle.room_store.proofs.store.Store.migrate.Goals as goal
 
 pub returns-in-Ok-clause-room : goal.returns-in-Ok-clause-room
@@ -21,7 +21,7 @@ returns-in-Ok-clause-kept g c clean = settled_kept g.S.Store (record { conn = c.
 
 pub returns-in-Ok-clause-ready : goal.returns-in-Ok-clause-ready
 returns-in-Ok-clause-ready g c =
-    ready_sound g.S.Store (record { conn = c.migrate_in.new.conn; plan = c.in-Ok.plan; known = c.new.result; cache = c.new-in-Ok.result; is_sound = true }) c.migrate_in.ensures.ended refl (λ clean. (c.in-Ok.ensures.moves clean).schema) (never_known c.new-in-Ok.ensures.fleet)
+    ready_sound g.S.Store (record { conn = c.migrate_in.new.conn; plan = c.in-Ok.plan; known = c.new.result; cache = c.new-in-Ok.result; is_sound = true }) c.migrate_in.ensures.ended refl (λ clean. record { schema = (c.in-Ok.ensures.moves clean).schema; settled = (c.in-Ok.ensures.moves clean).settled })
 
 pub returns-in-Ok-clause-survives : goal.returns-in-Ok-clause-survives
 returns-in-Ok-clause-survives g c = c.migrate_in.ensures.survives

@@ -1,13 +1,13 @@
 use Rattle.std.proofs.Common.{refl, true}
 use Rattle.room_store.proofs.KnownLaws.{knows_none, knows_nothing}
-use Rattle.room_store.proofs.StoreLaws.{never_known, ready_sound, settled_kept}
+use Rattle.room_store.proofs.StoreLaws.{ready_sound, settled_kept}
 use Rattle.room_store.proofs.store.Store.open.Goals as goal
 
 pub returns-in-Ok-clause-kept : goal.returns-in-Ok-clause-kept
 returns-in-Ok-clause-kept g c clean = settled_kept g.S.Store (record { conn = c.open_in.new.conn; plan = c.in-Ok.plan; known = c.new.result; cache = c.new-in-Ok.result; is_sound = true }) (g.met.S.Store.settled c.open_in.new.conn.store) (c.in-Ok.ensures.settled clean)
 
 pub returns-in-Ok-clause-ready : goal.returns-in-Ok-clause-ready
-returns-in-Ok-clause-ready g c = ready_sound g.S.Store (record { conn = c.open_in.new.conn; plan = c.in-Ok.plan; known = c.new.result; cache = c.new-in-Ok.result; is_sound = true }) c.open_in.ensures.ended refl c.in-Ok.ensures.schema (never_known c.new-in-Ok.ensures.fleet)
+returns-in-Ok-clause-ready g c = ready_sound g.S.Store (record { conn = c.open_in.new.conn; plan = c.in-Ok.plan; known = c.new.result; cache = c.new-in-Ok.result; is_sound = true }) c.open_in.ensures.ended refl (λ clean. record { schema = c.in-Ok.ensures.schema clean; settled = c.in-Ok.ensures.settled clean })
 
 pub returns-in-Ok-clause-room : goal.returns-in-Ok-clause-room
 returns-in-Ok-clause-room g c clean =

@@ -14,7 +14,7 @@ use Rattle.room_store_reads.proofs.parts.IncidentParted.load_part.Goals as goal
 pub returns-in-Some-clause-rows : goal.returns-in-Some-clause-rows
 returns-in-Some-clause-rows g c clean =
     IfOk-weaker c.own_rows.result _ _ (λ x own house room h are keyed.
-    let kept = rw c.in-Some.is at c.get.ensures room are.boards in
+    let kept = rw c.in-Some.is at c.get.ensures.so room are.boards in
     let incidents = rw kept.0 at kept.1.incidents in
     rw c.in-Active.is (rw incidents at own ∙ filter_owned (λ i. i.division == c.args.division) (λ i. is_active i.state) room.incidents)) c.own_rows.ensures.rows
 

@@ -1,0 +1,154 @@
+-- What each command does in the database of a room's file, over any storage.
+use Rattle.std.specs.Global.{Global}
+use Rattle.std.specs.Io.KnownBytes.{Appends}
+use Rattle.std.specs.Prelude.{Bool, Err, IfOk, List, Ok, OnOk, Option, Result, Vec, codes, decimal, false, true, ℕ, ◌++◌, ◌≡◌}
+use Rattle.sha2.specs.Sha256.{sha256}
+use Rattle.jiff.specs.Placed.{IsPosixZone}
+use Rattle.sqlite.specs.Held.{Held, state}
+use Rattle.sqlite.specs.State.{HasCleanDisk}
+use Rattle.sqlite_trees.specs.declared.store.Store.{Ghosts}
+use Rattle.room_types.specs.declared.fleet.Terminal.{Terminal}
+use Rattle.room_model.specs.Room.{Room}
+use Rattle.room_http_time.specs.Days.{zone_of}
+use Rattle.room_http_time.specs.declared.zones.Zone.{Zone}
+use Rattle.room_service.specs.Rooms.{Step, machine}
+use Rattle.room_store.specs.Keeping.{IsRoom}
+use Rattle.room_store.specs.declared.store.Store.{Store}
+use Rattle.room_store_digest.specs.Texts.{digest_text}
+use Rattle.room_store_judging.specs.Holding.{WritesNothing}
+use Rattle.dispatch_room_disk.specs.RoomFiles.{Saying}
+use Rattle.dispatch_room_endings.specs.declared.endings.Done.{Done}
+use Rattle.dispatch_room_endings.specs.declared.endings.Done.TheVariants.{Whole}
+use Rattle.dispatch_room_endings.specs.declared.endings.Failure.{Failure}
+use Rattle.dispatch_room_endings.specs.declared.endings.Failure.TheVariants.{Network}
+use Rattle.dispatch_room_files.specs.declared.fleets.FleetLine.{FleetLine}
+use Rattle.dispatch_room_files.specs.declared.plans.PlanFile.{PlanFile}
+use Rattle.dispatch_room_journal.specs.Records.{answer_text, message_text, room_text}
+use Rattle.dispatch_room_opening.specs.Opened.{OpensRoom}
+use Rattle.dispatch_room_replaying.specs.Frames.{AnswersEach}
+use Rattle.dispatch_room_replaying.specs.Replays.{DigestOf, digits_of}
+use Rattle.dispatch_room_replaying.specs.Replays as replay
+use Rattle.dispatch_room_replaying.specs.declared.faults.Stopped.{Stopped}
+use Rattle.dispatch_room_replaying.specs.declared.replaying.Replayed.{Replayed}
+use Rattle.dispatch_room_words.specs.declared.tasks.Replay.{Replay as How}
+use Rattle.dispatch_room_commands.specs.Ends.{failure_of}
+use Rattle.dispatch_room_serving.specs.Calls.{Opening}
+use Rattle.dispatch_room_serving.specs.Rooms.{ServesRoom}
+use Rattle.dispatch_room_work.specs.Checked as checked
+use Rattle.dispatch_room_work.specs.Created as created
+use Rattle.dispatch_room_work.specs.DayReports.{HasReported}
+use Rattle.dispatch_room_work.specs.Imported as imported
+use Rattle.dispatch_room_work.specs.Migrated.{IsMigrated}
+
+-- the room of a plan is created, and told
+abbrev pub Creates : PlanFile → Saying Done
+Creates plan = λ S g old new before after done.
+    created.IsCreated g old new plan × created.IsTold plan before after done
+
+-- the good rows of a fleet are enrolled, and what became of each line is told
+abbrev pub Enrols : List FleetLine → Saying Done
+Enrols lines = λ S g old new before after done.
+    (HasCleanDisk (state g new) → imported.HasImportedIn g old new lines before after done)
+    × IfOk done (imported.IsTold lines before after)
+
+-- the room is moved from the first version to this one, and nothing is written yet
+abbrev pub Moves : Saying (Unit {0})
+Moves = λ S g old new before after done. IsMigrated g old new done × (after ≡ before)
+
+-- how much the room has is told, or what is wrong with its file; the file stays as it is
+abbrev pub Examines : Saying Done
+Examines = λ S g old new before after done.
+    checked.HasChecked g old new before after done
+    × OnOk done (checked.IsTold before after) × WritesNothing (state g old) (state g new)
+
+-- a division's day is reported, and nothing is written yet; the room stays as it is
+abbrev pub Reports : ℕ → List ℕ → Saying (Vec ℕ Global)
+Reports division day = λ S g old new before after done.
+    (HasCleanDisk (state g new) → HasReported g old new division day done) × (after ≡ before)
+
+-- The room was served to so many calls, and a journal kept of it or none. What is known of the calls,
+-- of the moments and of the journal's file is told by who gives them.
+pub record IsServed {S : Type 0} (g : Ghosts S) (old new : Held S) (has_journal : Bool) (most : ℕ)
+    (done : Result Done Failure) : Type 0 where
+  pub heard : Option (List (Option Opening))
+  pub hears : Option (List (Option Opening))
+  pub told : Option (List (Option (List ℕ)))
+  pub tells : Option (List (Option (List ℕ)))
+  pub given : Option (List ℕ)
+  pub gives : Option (List ℕ)
+  pub kept : Option (List ℕ)
+  pub keeps : Option (List ℕ)
+  pub fails : Bool
+  pub is : ServesRoom g has_journal room_text message_text answer_text old
+      (λ store. record {
+        heard = heard;
+        told = told;
+        stage = record { given = given; kept = kept; has_failed = false; store = store };
+      })
+      (λ store. record {
+        heard = hears;
+        told = tells;
+        stage = record { given = gives; kept = keeps; has_failed = fails; store = store };
+      })
+      most (done, new)
+
+abbrev pub Serves : Bool → ℕ → Saying Done
+Serves has_journal most = λ S g old new before after done. IsServed g old new has_journal most done
+
+-- what is told of a replay: how many records it took, or why it stopped
+abbrev pub IsTold : Result Replayed Stopped → Option (List ℕ) → Option (List ℕ)
+    → Result Done Failure → Type 0
+IsTold (Ok replayed) before after (Ok done) =
+    Appends before after (codes "replayed " ++ (decimal replayed.records ++ codes "\n"))
+    × (done ≡ Whole)
+IsTold (Ok replayed) before after (Err fault) = fault ≡ Network
+IsTold (Err stopped) before after (Ok done) = ⊥
+IsTold (Err stopped) before after (Err fault) = fault ≡ failure_of stopped
+
+-- how the program ends by how answering each message did
+abbrev pub EndsAs : Result ℕ Stopped → Result Done Failure → Type 0
+EndsAs (Ok records) done = done ≡ Ok Whole
+EndsAs (Err stopped) done = done ≡ Err (failure_of stopped)
+
+-- Where a room is served by these steps in this zone, and stood for the first and stands for the
+-- last: what is done with a list.
+module _ (step : Step) (zone : Zone) (digest_of : DigestOf) (trusted : Type 0)
+    (stood stands : List Terminal → Room → Type 0) (list before after : Option (List ℕ))
+    (read_failed : Bool) (done : Result Done Failure) where
+  -- it is replayed up to a moment, and how much it was is told
+  pub record IsReplayed (until : Option ℕ) : Type 0 where
+    pub result : Result Replayed Stopped
+    pub is : replay.Replays step zone digest_of trusted stood stands list until read_failed result
+    pub told : IsTold result before after done
+
+  -- each of its messages is answered, and the answers are written
+  pub record AreAnswered : Type 0 where
+    pub result : Result ℕ Stopped
+    pub write_failed : Bool
+    pub is : AnswersEach step zone digest_of trusted stood stands list before after read_failed
+        write_failed result
+    pub ends : EndsAs result done
+
+-- A list was replayed to the room, or its messages answered, as it was asked. What is written of
+-- the answers is told by who writes them.
+pub record HasReplayed {S : Type 0} (g : Ghosts S) (old new : Held S) (how : How)
+    (before after : Option (List ℕ)) (done : Result Done Failure) : Type 0 where
+  pub first : Store S
+  pub last : Store S
+  pub zone : Zone
+  pub opens : HasCleanDisk (state g first.conn) → OpensRoom g old first
+  pub in_zone : IsPosixZone first.plan.zone (zone_of zone)
+  pub list : Option (List ℕ)
+  pub read_failed : Bool
+  pub replayed : how.answers ≡ false → IsReplayed machine zone
+      (digits_of (λ terminals room. sha256 (digest_text terminals room)))
+      (HasCleanDisk (state g last.conn)) (IsRoom g first) (IsRoom g last) list before after
+      read_failed done how.until
+  pub answered : how.answers ≡ true → (holds : Option (List ℕ)) × AreAnswered machine zone
+      (digits_of (λ terminals room. sha256 (digest_text terminals room)))
+      (HasCleanDisk (state g last.conn)) (IsRoom g first) (IsRoom g last) list before holds
+      read_failed done
+  pub closed : new ≡ last.conn
+
+abbrev pub Replays : How → Saying Done
+Replays how = λ S g old new before after done. HasReplayed g old new how before after done

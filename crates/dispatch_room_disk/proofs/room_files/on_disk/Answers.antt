@@ -1,0 +1,23 @@
+use Rattle.std.proofs.Common.{Err, IfOk, IsOk, List, Ok, OnOk, Option, Result, subst, ℕ, ◌≡◌}
+use Rattle.sqlite.specs.Files.{over_files}
+use Rattle.sqlite.specs.Held.{Held}
+use Rattle.sqlite_disk.specs.declared.Disk.{Ghosts}
+use Rattle.sqlite_store.specs.declared.store.FileStore.{FileStore}
+use Rattle.dispatch_room_disk.specs.RoomFiles.{IsCopiedOut, IsDone, Saying}
+use Rattle.dispatch_room_endings.specs.declared.endings.Failure.{Failure}
+use Rattle.dispatch_room_disk.proofs.room_files.on_disk.Goals as goal
+
+module _ {D T : Type 0} {g : Ghosts D} (says : Saying T) (conn : Held (FileStore D g)) (before after : Option (List ℕ)) where
+  done_by : (worked : Result (Result T Failure × Held (FileStore D g)) Failure) (result : Result T Failure)
+      → IfOk worked (λ w. says (FileStore D g) over_files conn w.1 before after w.0) → OnOk result (IsOk worked)
+      → IfOk worked (λ w. IfOk result (λ done. w.0 ≡ Ok done)) → IfOk worked (λ w. OnOk result (IsCopiedOut w.1))
+      → IfOk result (IsDone says conn before after)
+  done_by worked (Err fault) said room is copied = tt
+  done_by (Err fault) (Ok done) said room is copied = absurd (cc room)
+  done_by (Ok (inner, closed)) (Ok done) said room is copied =
+      record { closed = closed; said = subst (λ it. says (FileStore D g) over_files conn closed before after it) is said; copied = copied }
+
+pub returns : goal.returns
+returns g c =
+    let said = c.closed.ensures in
+    done_by (g.W.Work.says c.args.work) c.args.conn _ _ c.run.result c.closed.result c.run.ensures.done said.room said.done said.copied

@@ -1,0 +1,12 @@
+use Rattle.std.proofs.Common.{arith, inl, subst}
+use Rattle.std.proofs.lemmas.Result.{IfErr-weaker}
+use Rattle.sqlite.specs.Effect.{Database}
+use Rattle.sqlite.specs.Held.{state}
+use Rattle.sqlite.specs.State.{HasCleanDisk}
+use Rattle.room_store_examining.specs.Examined.{Explains}
+use Rattle.room_store_examining.proofs.examining.examine.Goals as goal
+
+pub returns-in-Ok-false-clause-wrong : goal.returns-in-Ok-false-clause-wrong
+returns-in-Ok-false-clause-wrong g c clean =
+    let early : HasCleanDisk (state g.S.Store c.is_room_of.new.conn) = omega (arith, c.examine_tables.ensures.nothing.survives.clean) in
+    IfErr-weaker c.examine_tables.result _ _ (λ e why. inl (subst (λ (db : Database). Explains db e) (c.in-Ok-false.ensures.ok early) why)) (c.examine_tables.ensures.wrong clean)
