@@ -21,4 +21,4 @@ class Links(TestCase):
         if line:
             lines = ['', *target.read_text().split('\n')]
             self.assertRegex(lines[int(line)],
-                             rf'\bfn {name}\b|\bensures {name} \{{|\bpub {name} :')
+                             rf'\b(fn|record) {name}\b|\bensures {name} \{{|\bpub {name} :')
