@@ -102,7 +102,7 @@ class Kept(JournalTestCase):
         answers, _ = self.serve(sent[:4], sent[4:])
         head, *rest = self.entries()
         self.check('its head', (head[:2], re.fullmatch('[0-9a-f]{64}', head[2]) is not None),
-                   (('room', '1'), True))
+                   (('room', '2'), True))
         wanted = []
         for bytes_sent, (moment, status, _) in zip(sent, answers):
             wanted += [('message', str(moment), bytes_sent), ('answer', str(status))]
@@ -127,6 +127,15 @@ class Kept(JournalTestCase):
         self.check('as told in Python', digests[2], digest.of_file(self.room))
         self.check('the same room', digests[0] == digests[1], True)
         self.check('another room', digests[1] == digests[2], False)
+
+    def test_zone(self):
+        """The digest is that of the zone too."""
+        self.serve([QUEUE])
+        sql(self.room, "UPDATE meta SET zone = 'UTC0'")
+        self.serve([QUEUE])
+        digests = [it[2] for it in self.entries() if it[0] == 'room']
+        self.check('in another zone', digests[0] == digests[1], False)
+        self.check('as told in Python', digests[1], digest.of_file(self.room))
 
     def test_synced(self):
         self.serve([call(1)], words=['--journal-sync', 'always'])
@@ -236,8 +245,41 @@ class Replayed(JournalTestCase):
         self.assertEqual(status, 0)
         return room
 
+    def test_another_zone(self):
+        """A list of a room whose days are reckoned in another zone is refused."""
+        sql(self.fresh(), "UPDATE meta SET zone = 'UTC0'")
+        before = dump(self.again)
+        status, out, err = replay(self.again, self.text)
+        self.check('it is refused', (status, out), (1, b''))
+        self.check('it is told', 'another room at record 1' in err, True)
+        self.check('the room', dump(self.again), before)
+
+    def of_first_version(self):
+        """The list as of version 1, whose heads tell nothing of the zone."""
+        rooms = [digest.of_file(self.before, 1), digest.of_file(self.after(2), 1)]
+        return [('room', '1', rooms.pop(0)) if it[0] == 'room' else it
+                for it in entries(self.text)]
+
+    def test_first_version(self):
+        """A list of version 1 is played, whatever the zone is. Its head is refused at another room,
+        and an open message before one is done where it leads to its room."""
+        found = self.of_first_version()
+        told = replay(self.fresh(), written(found))
+        self.check('it is replayed', told, (0, b'replayed 6\n', ''))
+        self.check('the room', dump(self.again), dump(self.room))
+        sql(self.fresh(), "UPDATE meta SET zone = 'UTC0'")
+        self.check('in another zone', replay(self.again, written(found))[:2], (0, b'replayed 6\n'))
+        status, out, err = replay(self.room, written(found))
+        self.check('over another room', (status, out), (1, b''))
+        self.check('it is told', 'another room at record 1' in err, True)
+        head, sent = found[:2]
+        wanted = self.after(1)
+        opened = written([head, sent, (*head[:2], digest.of_file(wanted, 1))])
+        self.check('an open message', replay(self.fresh(), opened)[:2], (0, b'replayed 1\n'))
+        self.check('is done', dump(self.again), dump(wanted))
+
     def test_another_version(self):
-        status, out, err = replay(self.fresh(), self.text.replace(b'room 1', b'room 2', 1))
+        status, out, err = replay(self.fresh(), self.text.replace(b'room 2', b'room 3', 1))
         self.check('another version', (status, out, 'record 1' in err), (1, b'', True))
 
     def test_no_head(self):
@@ -307,7 +349,7 @@ class Piped(JournalTestCase):
                                    stdin=subprocess.PIPE, stdout=subprocess.PIPE,
                                    stderr=subprocess.PIPE)
         with process:
-            process.stdin.write(written([('room', '1', self.digest)]))
+            process.stdin.write(written([('room', '2', self.digest)]))
             for nth, (sent, wanted) in enumerate([(call(1), 200), (DUTY, 200), (call(1), 200),
                                                   (message('nobody12', 'GET /queue'), 403)]):
                 process.stdin.write(written([('message', str(moment + nth), sent)]))
@@ -324,7 +366,7 @@ class Piped(JournalTestCase):
         self.check('one call', sql(self.room, 'SELECT count(*) FROM calls'), '1\n')
 
     def test_no_message(self):
-        text = written([('room', '1', digest.of_file(self.room)), ('message', '1000', b'what')])
+        text = written([('room', '2', digest.of_file(self.room)), ('message', '1000', b'what')])
         done = subprocess.run([PROGRAM, 'replay', self.room, '--answers'], input=text,
                               capture_output=True, timeout=60)
         self.check('no message', (done.returncode, done.stdout, b'record 1' in done.stderr),

@@ -332,7 +332,7 @@ def last_number(machines):
 
 def replayed(room, records):
     """The answers of a replay of records on a room's file."""
-    sent = f'room 1 {digest.of_file(room)}\n'.encode()
+    sent = digest.head_of(room).encode()
     sent += b''.join(b'message %d %d\n%s\n' % (it.moment, len(it.message), it.message)
                      for it in records)
     done = subprocess.run([PROGRAM, 'replay', room, '--answers'], input=sent, capture_output=True,

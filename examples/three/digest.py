@@ -1,5 +1,5 @@
-"""The digest of a room's file, as docs/FILES.md tells it: SHA-256 of all rows but that of its version
-and its zone. The file is one that no program has open."""
+"""The digest of a room's file, as docs/FILES.md tells it: SHA-256 of all rows, or in version 1 of all
+but that of the zone. The file is one that no program has open."""
 import collections.abc
 import contextlib
 import hashlib
@@ -7,10 +7,10 @@ import pathlib
 import sqlite3
 
 # The tables in their order, with their keys.
-TABLES = {'areas': 'n', 'terminals': 'token', 'divisions': 'number', 'incidents': 'division, number',
-          'calls': 'position, serial', 'vehicles': 'callsign', 'turns': 'callsign, ord',
-          'assignments': 'callsign', 'points': 'division, number', 'loans': 'callsign',
-          'reports': 'callsign, number', 'offers': 'callsign'}
+TABLES = {'meta': 'id', 'areas': 'n', 'terminals': 'token', 'divisions': 'number',
+          'incidents': 'division, number', 'calls': 'position, serial', 'vehicles': 'callsign',
+          'turns': 'callsign, ord', 'assignments': 'callsign', 'points': 'division, number',
+          'loans': 'callsign', 'reports': 'callsign, number', 'offers': 'callsign'}
 
 
 def of_number(number: int) -> bytes:
@@ -32,17 +32,24 @@ def of_value(value: None | int | str | bytes) -> bytes:
     return (b'\3' if isinstance(value, str) else b'\4') + of_number(len(text)) + text
 
 
-def of_tables(room: sqlite3.Connection) -> collections.abc.Iterator[bytes]:
+def of_tables(room: sqlite3.Connection, version: int) -> collections.abc.Iterator[bytes]:
     for table, key in TABLES.items():
+        if table == 'meta' and version == 1:
+            continue
         yield of_number(room.execute(f'SELECT count(*) FROM {table}').fetchone()[0])
         for row in room.execute(f'SELECT * FROM {table} ORDER BY {key}'):
             yield of_number(len(row)) + b''.join(map(of_value, row))
 
 
-def of_file(file: pathlib.Path) -> str:
+def of_file(file: pathlib.Path, version: int = 2) -> str:
     """The digest in hexadecimal digits."""
     found = hashlib.sha256()
     with contextlib.closing(sqlite3.connect(f'{file.resolve().as_uri()}?mode=ro', uri=True)) as room:
-        for part in of_tables(room):
+        for part in of_tables(room, version):
             found.update(part)
     return found.hexdigest()
+
+
+def head_of(file: pathlib.Path, version: int = 2) -> str:
+    """The head of a list that begins at the file's room."""
+    return f'room {version} {of_file(file, version)}\n'

@@ -113,8 +113,8 @@ class PlayedRoom:
         self.process = await asyncio.create_subprocess_exec(
             self.program, 'replay', self.file, '--answers', stdin=pipe, stdout=pipe,
             start_new_session=True)
-        begins = await asyncio.to_thread(digest.of_file, self.copy.file)
-        self.process.stdin.write(f'room 1 {begins}\n'.encode())
+        head = await asyncio.to_thread(digest.head_of, self.copy.file)
+        self.process.stdin.write(head.encode())
 
     async def play(self, record: Record) -> bytes:
         """The answer to a record, in the bytes of HTTP."""

@@ -1,6 +1,15 @@
--- What a call gives, said by two of its clauses.
-use Rattle.std.proofs.Common.{Err, IfOk, Ok, Result}
+-- What a call gives, said by two of its clauses, and what is handed on where it fails.
+use Rattle.std.proofs.Common.{Err, IfErr, IfOk, MatchResult, Ok, Result}
+use Rattle.std.specs.Result.{IsErrAnd}
 
 pub both : {T E : Type 0} (r : Result T E) (P Q : T → Type 0) → IfOk r P → IfOk r Q → IfOk r (λ x. P x × Q x)
 both (Ok x) P Q first second = (first, second)
 both (Err e) P Q first second = tt
+
+pub either_way : {T E : Type 0} (r : Result T E) (P : T → Type 0) (Q : E → Type 0) → IfOk r P → IfErr r Q → MatchResult r P Q
+either_way (Ok x) P Q good bad = good
+either_way (Err e) P Q good bad = bad
+
+pub handed_on : {T E : Type 0} {P : E → Type 0} (r : Result T E) (Q : E → Type 0) → IsErrAnd r P → ((e : E) → P e → Q e) → IfErr r Q
+handed_on (Ok x) Q is by = tt
+handed_on (Err e) Q is by = by e is

@@ -1,14 +1,15 @@
 -- What a task of the command line comes to, where it is done.
 use Rattle.std.specs.Global.{Global}
 use Rattle.std.specs.Io.KnownBytes.{Appends}
-use Rattle.std.specs.Prelude.{Bool, Err, IfOk, List, Ok, Option, Result, Vec, codes, is_some, ℕ, ◌≡◌}
+use Rattle.std.specs.Prelude.{Bool, Err, List, MatchResult, Ok, Option, Result, Vec, codes, is_some, ℕ, ◌≡◌, ◌⊎◌}
 use Rattle.clap.specs.Words.{kind_of}
 use Rattle.clap.specs.declared.error.Error.{Error}
-use Rattle.dispatch_room_disk.specs.RoomFiles.{IsDoneInFile}
+use Rattle.dispatch_room_disk.specs.RoomFiles.{IsDoneInFile, IsUndoneInFile}
 use Rattle.dispatch_room_endings.specs.Endings.{status_after}
 use Rattle.dispatch_room_endings.specs.declared.endings.Done.{Done}
 use Rattle.dispatch_room_endings.specs.declared.endings.Done.TheVariants.{Whole}
 use Rattle.dispatch_room_endings.specs.declared.endings.Failure.{Failure}
+use Rattle.dispatch_room_endings.specs.declared.endings.Failure.TheVariants as failure
 use Rattle.dispatch_room_files.specs.declared.fleets.FleetLine.{FleetLine}
 use Rattle.dispatch_room_files.specs.declared.plans.PlanFile.{PlanFile}
 use Rattle.dispatch_room_words.specs.declared.tasks.Look.{Look}
@@ -17,7 +18,7 @@ use Rattle.dispatch_room_words.specs.declared.tasks.Service.{Service}
 use Rattle.dispatch_room_words.specs.declared.tasks.Task.{Task}
 use Rattle.dispatch_room_words.specs.declared.tasks.Task.TheVariants.{Board, Check, Import, Init, Migrate, Replay, Serve, Times}
 use Rattle.dispatch_room_commands.specs.Ends.{IsPrinted, IsWordsStatus}
-use Rattle.dispatch_room_commands.specs.Works.{Creates, Enrols, Examines, Moves, Replays, Reports, Serves}
+use Rattle.dispatch_room_commands.specs.Works.{Creates, CreatesNone, Enrols, EnrolsNone, Examines, ExaminesNone, Moves, MovesNone, OpensNone, Replays, Reports, Serves}
 
 -- by what the output held before, what it holds after, and how much is done
 module _ (before after : Option (List ℕ)) (done : Done) where
@@ -74,10 +75,72 @@ module _ (before after : Option (List ℕ)) (done : Done) where
   IsTask (Board look) = IsBoardOf look
   IsTask (Times file division day) = IsTimes division day.now
 
--- The exit status of what the words of a command line ask for. Of a task it is by how much was done,
--- and what the output holds is by what was done; of other words it is by what they are.
+-- by what the output held before, what it holds after, and why the task fails
+module _ (before after : Option (List ℕ)) (fault : Failure) where
+  -- no room was created: there is no plan, and nothing is told; or this became of the file, by some
+  -- plan
+  abbrev pub FailsInit : Type 0
+  FailsInit = (after ≡ before)
+      ⊎ ((plan : PlanFile) × IsUndoneInFile (Creates plan) (CreatesNone plan) before after fault)
+
+  -- no fleet was enrolled whole: there is none, and nothing is told; or this became of the file, by
+  -- some rows
+  abbrev pub FailsImport : Type 0
+  FailsImport = (after ≡ before)
+      ⊎ ((lines : List FleetLine) × IsUndoneInFile (Enrols lines) EnrolsNone before after fault)
+
+  -- no room was moved; or one was, and the output failed
+  abbrev pub FailsMigrate : Type 0
+  FailsMigrate = IsUndoneInFile Moves MovesNone before after fault
+      ⊎ ((fault ≡ failure.Network)
+      × ((between : Option (List ℕ)) × IsDoneInFile Moves before between tt))
+
+  -- how much the room has is not told, and this became of its file
+  abbrev pub FailsCheck : Type 0
+  FailsCheck = IsUndoneInFile Examines ExaminesNone before after fault
+
+  -- no day was reported; or one was, and the output failed
+  abbrev pub FailsTimes : ℕ → List ℕ → Type 0
+  FailsTimes division day = IsUndoneInFile (Reports division day) OpensNone before after fault
+      ⊎ ((fault ≡ failure.Network) × ((between : Option (List ℕ)) × (report : Vec ℕ Global)
+      × IsDoneInFile (Reports division day) before between report))
+
+  -- there is no journal where one was asked for, and nothing is told; or this became of the file of
+  -- the room that was to be served
+  abbrev pub FailsServe : Service → Type 0
+  FailsServe service =
+      ((after ≡ before) × ((fault ≡ failure.Memory) ⊎ (fault ≡ failure.Journal)))
+      ⊎ IsUndoneInFile (Serves (is_some service.journal) service.connections) OpensNone before after
+      fault
+
+  -- a list was not replayed whole, and this became of the room's file
+  abbrev pub FailsReplay : How → Type 0
+  FailsReplay how = IsUndoneInFile (Replays how) OpensNone before after fault
+
+  -- no board was shown, for want of a token or of memory; or less of one than all, or the output
+  -- failed
+  abbrev pub FailsBoard : Type 0
+  FailsBoard = ((after ≡ before) × ((fault ≡ failure.Input) ⊎ (fault ≡ failure.Memory)))
+      ⊎ (fault ≡ failure.Network)
+
+  -- what was asked for was not done
+  abbrev pub FailsTask : Task → Type 0
+  FailsTask (Init file plan) = FailsInit
+  FailsTask (Import file fleet) = FailsImport
+  FailsTask (Migrate file) = FailsMigrate
+  FailsTask (Check file) = FailsCheck
+  FailsTask (Serve file service) = FailsServe service
+  FailsTask (Replay file how) = FailsReplay how
+  FailsTask (Board look) = FailsBoard
+  FailsTask (Times file division day) = FailsTimes division day.now
+
+-- The exit status of what the words of a command line ask for. Of a task it is by how much was
+-- done, or by why it was not, and what the output holds is by that; of other words it is by what
+-- they are.
 abbrev pub IsExit : Result Task Error → Option (List ℕ) → Option (List ℕ) → ℕ → Type 0
 IsExit (Ok task) before after status =
-    (done : Result Done Failure) × IfOk done (λ it. IsTask before after it task)
+    (done : Result Done Failure)
+    × MatchResult done (λ it. IsTask before after it task)
+    (λ fault. FailsTask before after fault task)
     × (status ≡ status_after done)
 IsExit (Err error) before after status = IsWordsStatus (kind_of error) status

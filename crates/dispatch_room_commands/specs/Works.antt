@@ -1,8 +1,7 @@
 -- What each command does in the database of a room's file, over any storage.
 use Rattle.std.specs.Global.{Global}
 use Rattle.std.specs.Io.KnownBytes.{Appends}
-use Rattle.std.specs.Prelude.{Bool, Err, IfOk, List, Ok, OnOk, Option, Result, Vec, codes, decimal, false, true, ℕ, ◌++◌, ◌≡◌}
-use Rattle.sha2.specs.Sha256.{sha256}
+use Rattle.std.specs.Prelude.{Bool, Err, IfOk, List, None, Ok, OnOk, Option, Result, Some, Vec, codes, decimal, false, true, ℕ, ◌++◌, ◌≡◌, ◌⊎◌}
 use Rattle.jiff.specs.Placed.{IsPosixZone}
 use Rattle.sqlite.specs.Held.{Held, state}
 use Rattle.sqlite.specs.State.{HasCleanDisk}
@@ -14,22 +13,23 @@ use Rattle.room_http_time.specs.declared.zones.Zone.{Zone}
 use Rattle.room_service.specs.Rooms.{Step, machine}
 use Rattle.room_store.specs.Keeping.{IsRoom}
 use Rattle.room_store.specs.declared.store.Store.{Store}
-use Rattle.room_store_digest.specs.Texts.{digest_text}
+use Rattle.room_store_digest.specs.Texts.{digest_of}
 use Rattle.room_store_judging.specs.Holding.{WritesNothing}
-use Rattle.dispatch_room_disk.specs.RoomFiles.{Saying}
+use Rattle.dispatch_room_disk.specs.RoomFiles.{Refusing, Saying}
 use Rattle.dispatch_room_endings.specs.declared.endings.Done.{Done}
 use Rattle.dispatch_room_endings.specs.declared.endings.Done.TheVariants.{Whole}
 use Rattle.dispatch_room_endings.specs.declared.endings.Failure.{Failure}
-use Rattle.dispatch_room_endings.specs.declared.endings.Failure.TheVariants.{Network}
+use Rattle.dispatch_room_endings.specs.declared.endings.Failure.TheVariants.{Memory, Network}
 use Rattle.dispatch_room_files.specs.declared.fleets.FleetLine.{FleetLine}
 use Rattle.dispatch_room_files.specs.declared.plans.PlanFile.{PlanFile}
 use Rattle.dispatch_room_journal.specs.Records.{answer_text, message_text, room_text}
-use Rattle.dispatch_room_opening.specs.Opened.{OpensRoom}
+use Rattle.dispatch_room_opening.specs.Opened.{IsUnopened, OpensRoom}
 use Rattle.dispatch_room_replaying.specs.Frames.{AnswersEach}
-use Rattle.dispatch_room_replaying.specs.Replays.{DigestOf, digits_of}
+use Rattle.dispatch_room_replaying.specs.Replays.{DigitsOf, digits_of}
 use Rattle.dispatch_room_replaying.specs.Replays as replay
 use Rattle.dispatch_room_replaying.specs.declared.faults.Stopped.{Stopped}
 use Rattle.dispatch_room_replaying.specs.declared.replaying.Replayed.{Replayed}
+use Rattle.dispatch_room_words.specs.declared.tasks.Journal.{Journal}
 use Rattle.dispatch_room_words.specs.declared.tasks.Replay.{Replay as How}
 use Rattle.dispatch_room_commands.specs.Ends.{failure_of}
 use Rattle.dispatch_room_serving.specs.Calls.{Opening}
@@ -38,12 +38,20 @@ use Rattle.dispatch_room_work.specs.Checked as checked
 use Rattle.dispatch_room_work.specs.Created as created
 use Rattle.dispatch_room_work.specs.DayReports.{HasReported}
 use Rattle.dispatch_room_work.specs.Imported as imported
-use Rattle.dispatch_room_work.specs.Migrated.{IsMigrated}
+use Rattle.dispatch_room_work.specs.Migrated.{IsMigrated, IsUnmoved}
 
 -- the room of a plan is created, and told
 abbrev pub Creates : PlanFile → Saying Done
 Creates plan = λ S g old new before after done.
     created.IsCreated g old new plan × created.IsTold plan before after done
+
+-- or none is, for this
+abbrev pub CreatesNone : PlanFile → Refusing
+CreatesNone plan = λ S g conn. created.ExplainsNone (state g conn).now.schema plan
+
+-- no room is opened, for this
+abbrev pub OpensNone : Refusing
+OpensNone = λ S g conn. IsUnopened g conn
 
 -- the good rows of a fleet are enrolled, and what became of each line is told
 abbrev pub Enrols : List FleetLine → Saying Done
@@ -51,9 +59,17 @@ Enrols lines = λ S g old new before after done.
     (HasCleanDisk (state g new) → imported.HasImportedIn g old new lines before after done)
     × IfOk done (imported.IsTold lines before after)
 
+-- or memory is wanting, or no room is opened
+abbrev pub EnrolsNone : Refusing
+EnrolsNone = λ S g conn fault. (fault ≡ Memory) ⊎ IsUnopened g conn fault
+
 -- the room is moved from the first version to this one, and nothing is written yet
 abbrev pub Moves : Saying (Unit {0})
 Moves = λ S g old new before after done. IsMigrated g old new done × (after ≡ before)
+
+-- or none is, for this
+abbrev pub MovesNone : Refusing
+MovesNone = λ S g conn. IsUnmoved g conn
 
 -- how much the room has is told, or what is wrong with its file; the file stays as it is
 abbrev pub Examines : Saying Done
@@ -61,13 +77,17 @@ Examines = λ S g old new before after done.
     checked.HasChecked g old new before after done
     × OnOk done (checked.IsTold before after) × WritesNothing (state g old) (state g new)
 
+-- there is always something to be told
+abbrev pub ExaminesNone : Refusing
+ExaminesNone = λ S g conn fault. ⊥
+
 -- a division's day is reported, and nothing is written yet; the room stays as it is
 abbrev pub Reports : ℕ → List ℕ → Saying (Vec ℕ Global)
 Reports division day = λ S g old new before after done.
     (HasCleanDisk (state g new) → HasReported g old new division day done) × (after ≡ before)
 
--- The room was served to so many calls, and a journal kept of it or none. What is known of the calls,
--- of the moments and of the journal's file is told by who gives them.
+-- The room was served to so many calls, and a journal kept of it or none. What is known of the
+-- calls, of the moments and of the journal's file is told by who gives them.
 pub record IsServed {S : Type 0} (g : Ghosts S) (old new : Held S) (has_journal : Bool) (most : ℕ)
     (done : Result Done Failure) : Type 0 where
   pub heard : Option (List (Option Opening))
@@ -95,6 +115,11 @@ pub record IsServed {S : Type 0} (g : Ghosts S) (old new : Held S) (has_journal 
 abbrev pub Serves : Bool → ℕ → Saying Done
 Serves has_journal most = λ S g old new before after done. IsServed g old new has_journal most done
 
+-- whether each message lasts before the room acts on it: where a journal is asked for that is so
+abbrev pub is_synced_by : Option Journal → Bool
+is_synced_by None = false
+is_synced_by (Some journal) = journal.is_synced
+
 -- what is told of a replay: how many records it took, or why it stopped
 abbrev pub IsTold : Result Replayed Stopped → Option (List ℕ) → Option (List ℕ)
     → Result Done Failure → Type 0
@@ -112,20 +137,20 @@ EndsAs (Err stopped) done = done ≡ Err (failure_of stopped)
 
 -- Where a room is served by these steps in this zone, and stood for the first and stands for the
 -- last: what is done with a list.
-module _ (step : Step) (zone : Zone) (digest_of : DigestOf) (trusted : Type 0)
+module _ (step : Step) (zone : Zone) (digits : DigitsOf) (trusted : Type 0)
     (stood stands : List Terminal → Room → Type 0) (list before after : Option (List ℕ))
     (read_failed : Bool) (done : Result Done Failure) where
   -- it is replayed up to a moment, and how much it was is told
   pub record IsReplayed (until : Option ℕ) : Type 0 where
     pub result : Result Replayed Stopped
-    pub is : replay.Replays step zone digest_of trusted stood stands list until read_failed result
+    pub is : replay.Replays step zone digits trusted stood stands list until read_failed result
     pub told : IsTold result before after done
 
   -- each of its messages is answered, and the answers are written
   pub record AreAnswered : Type 0 where
     pub result : Result ℕ Stopped
     pub write_failed : Bool
-    pub is : AnswersEach step zone digest_of trusted stood stands list before after read_failed
+    pub is : AnswersEach step zone digits trusted stood stands list before after read_failed
         write_failed result
     pub ends : EndsAs result done
 
@@ -141,13 +166,11 @@ pub record HasReplayed {S : Type 0} (g : Ghosts S) (old new : Held S) (how : How
   pub list : Option (List ℕ)
   pub read_failed : Bool
   pub replayed : how.answers ≡ false → IsReplayed machine zone
-      (digits_of (λ terminals room. sha256 (digest_text terminals room)))
-      (HasCleanDisk (state g last.conn)) (IsRoom g first) (IsRoom g last) list before after
-      read_failed done how.until
+      (digits_of digest_of first.plan.zone) (HasCleanDisk (state g last.conn)) (IsRoom g first)
+      (IsRoom g last) list before after read_failed done how.until
   pub answered : how.answers ≡ true → (holds : Option (List ℕ)) × AreAnswered machine zone
-      (digits_of (λ terminals room. sha256 (digest_text terminals room)))
-      (HasCleanDisk (state g last.conn)) (IsRoom g first) (IsRoom g last) list before holds
-      read_failed done
+      (digits_of digest_of first.plan.zone) (HasCleanDisk (state g last.conn)) (IsRoom g first)
+      (IsRoom g last) list before holds read_failed done
   pub closed : new ≡ last.conn
 
 abbrev pub Replays : How → Saying Done

@@ -1,6 +1,7 @@
 //! `board`: a served room is asked as a desk, and what the desk sees is shown.
-ghost use Rattle.std.specs.Prelude.{◌≡◌, IfOk, List, ℕ, Bool, is_some};
+ghost use Rattle.std.specs.Prelude.{◌≡◌, IfErr, IfOk};
 ghost use Rattle.dispatch_room_commands.specs.Ends.{IsPrinted, end_of_board};
+ghost use Rattle.dispatch_room_commands.specs.Tasks.{FailsBoard, IsBoardOf};
 
 use dispatch_room_board::asking::{hear, tell};
 use dispatch_room_board::boards::{Reached, board_of};
@@ -21,9 +22,9 @@ pub fn board<O: Write>(
     look: &Look<'_>,
     out: &mut O,
 ) -> Result<Done, Failure>
-    ensures { IfOk result (λ done. (heard : List ℕ) × (colour : Bool)
-        × IsPrinted heard (is_some look.now.incident) colour (O.contents out.old)
-        (O.contents out.new) done) }
+    ensures done { IfOk result (λ done.
+        IsBoardOf (O.contents out.old) (O.contents out.new) done look.now) }
+    ensures undone { IfErr result (FailsBoard (O.contents out.old) (O.contents out.new)) }
 {
     let Some(token) = Token::parse(look.token) else {
         return Err(Failure::Input);
@@ -44,8 +45,9 @@ fn print<O: Write>(
     colour: bool,
     out: &mut O,
 ) -> Result<Done, Failure>
-    ensures { IfOk result
+    ensures done { IfOk result
         (IsPrinted heard.now proposes colour (O.contents out.old) (O.contents out.new)) }
+    ensures undone { IfErr result (FailsBoard (O.contents out.old) (O.contents out.new)) }
 {
     let Ok(board) = board_of(alloc, heard, proposes, colour) else {
         return Err(Failure::Memory);

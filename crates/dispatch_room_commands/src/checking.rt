@@ -1,7 +1,7 @@
 //! `check`: how much a room has, or what is wrong with its file.
-ghost use Rattle.std.specs.Prelude.{IfOk};
-ghost use Rattle.dispatch_room_commands.specs.Tasks.{IsCheck};
-ghost use Rattle.dispatch_room_commands.specs.Works.{Examines};
+ghost use Rattle.std.specs.Prelude.{IfErr, IfOk};
+ghost use Rattle.dispatch_room_commands.specs.Tasks.{FailsCheck, IsCheck};
+ghost use Rattle.dispatch_room_commands.specs.Works.{Examines, ExaminesNone};
 
 use dispatch_room_disk::room_files::{RoomFile, Work, in_file};
 use dispatch_room_endings::endings::{Done, Failure};
@@ -18,7 +18,8 @@ pub fn check<O: Write>(
     file: &str,
     out: &mut O,
 ) -> Result<Done, Failure>
-    ensures { IfOk result (IsCheck (O.contents out.old) (O.contents out.new)) }
+    ensures done { IfOk result (IsCheck (O.contents out.old) (O.contents out.new)) }
+    ensures undone { IfErr result (FailsCheck (O.contents out.old) (O.contents out.new)) }
 {
     in_file(rt, alloc, RoomFile::Kept(file), Examination, out)
 }
@@ -32,7 +33,7 @@ impl Work for Examination {
 
     ghost says = { λ _. Examines };
 
-    ghost refuses = { λ _ _ _ _ _. ⊥ };
+    ghost refuses = { λ _. ExaminesNone };
 
     fn run<S: Alter + Drop, O: Write>(
         self,

@@ -1,9 +1,10 @@
 //! The commands over a room's file: what they write, and the exit status.
-ghost use Rattle.std.specs.Prelude.{◌≡◌, IfOk, Result};
+ghost use Rattle.std.specs.Prelude.{◌≡◌, IfErr, IfOk, Result};
 ghost use Rattle.clap.specs.Words.{kind_of};
 ghost use Rattle.clap.specs.declared.error.Error.{Error as Mistake};
 ghost use Rattle.dispatch_room_commands.specs.Ends.{IsHelpDone, IsWordsStatus, is_mistake};
-ghost use Rattle.dispatch_room_commands.specs.Tasks.{IsExit, IsTask};
+ghost use Rattle.dispatch_room_commands.specs.Tasks.{FailsTask, IsExit, IsTask};
+ghost use Rattle.dispatch_room_words.specs.Tasks.{IsServedHere};
 ghost use Rattle.dispatch_room_words.specs.declared.tasks.Task.{Task as Asked};
 
 use crate::boarding::board;
@@ -26,21 +27,40 @@ use std::io::Write;
 /// The exit status of a mistake in the words of the command line.
 pub const USAGE: u8 = 2;
 
+/// The words of a command line.
+pub trait Asks<'a> {
+    // What they may be read as.
+    ghost reads: { Self → Result Asked Mistake → Type 0 };
+
+    /// What they ask for: a task, or help. Else they have a mistake, or memory is wanting.
+    fn read(self, alloc: Global) -> Result<Task<'a>, Error>
+        ensures { reads self result };
+}
+
+// What words are to clap no contract says. Whatever is served by them, is served to this machine.
+impl<'a> Asks<'a> for &'a [String] {
+    ghost reads = { λ _ asked. IfOk asked IsServedHere };
+
+    fn read(self, alloc: Global) -> Result<Task<'a>, Error> {
+        words::read(alloc, self)
+    }
+}
+
 /// Does what the words of a command line ask for, the program's name first. What a command gives
 /// goes to `out`, and to `err` why it fails, that others can read the room's file, and the log of
 /// what is served. Gives the exit status: 0 done, or help asked for; 1 refused input; 2 usage; 3
 /// storage; 4 network; 5 memory; 6 journal.
-pub fn command<O: Write, E: Write>(
+pub fn command<'a, W: Asks<'a>, O: Write, E: Write>(
     rt: &HostRuntime,
     alloc: Global,
-    words: &[String],
+    words: W,
     out: &mut O,
     err: &mut E,
 ) -> u8
-    ensures { (asked : Result Asked Mistake)
+    ensures { (asked : Result Asked Mistake) × W.reads words asked
         × IsExit asked (O.contents out.old) (O.contents out.new) result }
 {
-    exit(rt, alloc, words::read(alloc, words), out, err)
+    exit(rt, alloc, words.read(alloc), out, err)
 }
 
 // Does a task, or tells what the words are in its place, and gives the exit status.
@@ -83,7 +103,10 @@ fn perform<O: Write, E: Write>(
     out: &mut O,
     err: &mut E,
 ) -> Result<Done, Failure>
-    ensures { IfOk result (λ done. IsTask (O.contents out.old) (O.contents out.new) done task.now) }
+    ensures done { IfOk result (λ done.
+        IsTask (O.contents out.old) (O.contents out.new) done task.now) }
+    ensures undone { IfErr result (λ fault.
+        FailsTask (O.contents out.old) (O.contents out.new) fault task.now) }
 {
     match *task {
         Task::Init { file, plan } => init(rt, alloc, file, plan, out),

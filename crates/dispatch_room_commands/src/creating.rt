@@ -1,9 +1,7 @@
 //! `init`: a room is created in a file, by a plan.
-ghost use Rattle.std.specs.Prelude.{IfOk};
-ghost use Rattle.sqlite.specs.Held.{state};
-ghost use Rattle.dispatch_room_commands.specs.Tasks.{IsInit};
-ghost use Rattle.dispatch_room_commands.specs.Works.{Creates};
-ghost use Rattle.dispatch_room_work.specs.Created.{ExplainsNone};
+ghost use Rattle.std.specs.Prelude.{IfErr, IfOk};
+ghost use Rattle.dispatch_room_commands.specs.Tasks.{FailsInit, IsInit};
+ghost use Rattle.dispatch_room_commands.specs.Works.{Creates, CreatesNone};
 
 use crate::files::read_text;
 use dispatch_room_disk::room_files::{RoomFile, Work, in_file};
@@ -24,7 +22,8 @@ pub fn init<O: Write>(
     plan: &str,
     out: &mut O,
 ) -> Result<Done, Failure>
-    ensures { IfOk result (IsInit (O.contents out.old) (O.contents out.new)) }
+    ensures done { IfOk result (IsInit (O.contents out.old) (O.contents out.new)) }
+    ensures undone { IfErr result (FailsInit (O.contents out.old) (O.contents out.new)) }
 {
     let text = read_text(rt, plan)?;
     let plan = read_plan(alloc, text.as_slice())?;
@@ -43,7 +42,7 @@ impl<'a> Work for Creation<'a> {
 
     ghost says = { λ work. Creates work.plan.now };
 
-    ghost refuses = { λ work S g conn. ExplainsNone (state g conn).now.schema work.plan.now };
+    ghost refuses = { λ work. CreatesNone work.plan.now };
 
     fn run<S: Alter + Drop, O: Write>(
         self,

@@ -1,9 +1,7 @@
 //! `import`: the rows of a fleet are enrolled in a room.
-ghost use Rattle.std.specs.Prelude.{◌≡◌, ◌⊎◌, IfOk};
-ghost use Rattle.dispatch_room_endings.specs.declared.endings.Failure.TheVariants.{Memory};
-ghost use Rattle.dispatch_room_commands.specs.Tasks.{IsImport};
-ghost use Rattle.dispatch_room_commands.specs.Works.{Enrols};
-ghost use Rattle.dispatch_room_opening.specs.Opened.{IsUnopened};
+ghost use Rattle.std.specs.Prelude.{IfErr, IfOk};
+ghost use Rattle.dispatch_room_commands.specs.Tasks.{FailsImport, IsImport};
+ghost use Rattle.dispatch_room_commands.specs.Works.{Enrols, EnrolsNone};
 
 use crate::files::read_text;
 use dispatch_room_disk::room_files::{RoomFile, Work, in_file};
@@ -24,7 +22,8 @@ pub fn import<O: Write>(
     fleet: &str,
     out: &mut O,
 ) -> Result<Done, Failure>
-    ensures { IfOk result (IsImport (O.contents out.old) (O.contents out.new)) }
+    ensures done { IfOk result (IsImport (O.contents out.old) (O.contents out.new)) }
+    ensures undone { IfErr result (FailsImport (O.contents out.old) (O.contents out.new)) }
 {
     let text = read_text(rt, fleet)?;
     let lines = read_fleet(alloc, text.as_slice())?;
@@ -45,7 +44,7 @@ impl<'a> Work for Enrolment<'a> {
 
     ghost says = { λ work. Enrols work.lines.now };
 
-    ghost refuses = { λ _ S g conn fault. (fault ≡ Memory) ⊎ IsUnopened g conn fault };
+    ghost refuses = { λ _. EnrolsNone };
 
     fn run<S: Alter + Drop, O: Write>(
         self,

@@ -1,8 +1,7 @@
 //! `migrate`: a room of the first version is moved to this one.
-ghost use Rattle.std.specs.Prelude.{IfOk};
-ghost use Rattle.dispatch_room_commands.specs.Tasks.{IsMigrate};
-ghost use Rattle.dispatch_room_commands.specs.Works.{Moves};
-ghost use Rattle.dispatch_room_work.specs.Migrated.{IsUnmoved};
+ghost use Rattle.std.specs.Prelude.{IfErr, IfOk};
+ghost use Rattle.dispatch_room_commands.specs.Tasks.{FailsMigrate, IsMigrate};
+ghost use Rattle.dispatch_room_commands.specs.Works.{Moves, MovesNone};
 
 use dispatch_room_disk::room_files::{RoomFile, Work, in_file};
 use dispatch_room_endings::endings::{Done, Failure};
@@ -19,7 +18,8 @@ pub fn migrate<O: Write>(
     file: &str,
     out: &mut O,
 ) -> Result<Done, Failure>
-    ensures { IfOk result (IsMigrate (O.contents out.old) (O.contents out.new)) }
+    ensures done { IfOk result (IsMigrate (O.contents out.old) (O.contents out.new)) }
+    ensures undone { IfErr result (FailsMigrate (O.contents out.old) (O.contents out.new)) }
 {
     in_file(rt, alloc, RoomFile::Kept(file), Move, out)?;
     match writeln!(out, "migrated") {
@@ -37,7 +37,7 @@ impl Work for Move {
 
     ghost says = { λ _. Moves };
 
-    ghost refuses = { λ _ S g conn. IsUnmoved g conn };
+    ghost refuses = { λ _. MovesNone };
 
     fn run<S: Alter + Drop, O: Write>(
         self,

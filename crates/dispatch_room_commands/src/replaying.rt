@@ -1,9 +1,8 @@
 //! `replay`: what a list says is done to the room of a file.
-ghost use Rattle.std.specs.Prelude.{◌≡◌, ℕ, List, Option, Ok, true, false, IfOk};
+ghost use Rattle.std.specs.Prelude.{◌≡◌, ℕ, List, Option, Ok, true, false, IfErr, IfOk};
 ghost use Rattle.dispatch_room_commands.specs.Ends.{failure_of};
-ghost use Rattle.dispatch_room_commands.specs.Tasks.{IsReplay};
-ghost use Rattle.dispatch_room_commands.specs.Works.{AreAnswered, IsReplayed, IsTold, Replays};
-ghost use Rattle.dispatch_room_opening.specs.Opened.{IsUnopened};
+ghost use Rattle.dispatch_room_commands.specs.Tasks.{FailsReplay, IsReplay};
+ghost use Rattle.dispatch_room_commands.specs.Works.{AreAnswered, IsReplayed, IsTold, OpensNone, Replays};
 ghost use Rattle.dispatch_room_replaying.specs.Replays.{digits_of};
 
 use dispatch_room_disk::room_files::{RoomFile, Work, in_file};
@@ -32,8 +31,10 @@ pub fn replay<O: Write, E: Write>(
     out: &mut O,
     err: &mut E,
 ) -> Result<Done, Failure>
-    ensures { IfOk result (λ done. IsReplay (O.contents out.old) (O.contents out.new) done
-        replay.now) }
+    ensures done { IfOk result (λ done.
+        IsReplay (O.contents out.old) (O.contents out.new) done replay.now) }
+    ensures undone { IfErr result (λ fault.
+        FailsReplay (O.contents out.old) (O.contents out.new) fault replay.now) }
 {
     let replaying = Replaying { rt, replay, err };
     in_file(rt, alloc, RoomFile::Kept(file), replaying, out)
@@ -52,7 +53,7 @@ impl<'a, E: Write> Work for Replaying<'a, E> {
 
     ghost says = { λ work. Replays work.replay.now };
 
-    ghost refuses = { λ _ S g conn. IsUnopened g conn };
+    ghost refuses = { λ _. OpensNone };
 
     fn run<S: Alter + Drop, O: Write>(
         self,
@@ -83,13 +84,13 @@ fn replay_in<R: Source, M: Digested, O: Write, E: Write>(
     ensures ready { M.is_ready room.new }
     ensures trusted { M.is_trusted room.new → M.is_trusted room.old }
     ensures replayed { replay.now.answers ≡ false → IsReplayed M.step zone.now
-        (digits_of M.digest_of) (M.is_trusted room.new) (M.stands room.old) (M.stands room.new)
-        (R.left list.old) (O.contents out.old) (O.contents out.new) (R.has_failed list.new) result
-        replay.now.until }
+        (digits_of M.digest_of (M.zone room.old)) (M.is_trusted room.new) (M.stands room.old)
+        (M.stands room.new) (R.left list.old) (O.contents out.old) (O.contents out.new)
+        (R.has_failed list.new) result replay.now.until }
     ensures answered { replay.now.answers ≡ true → (holds : Option (List ℕ))
-        × AreAnswered M.step zone.now (digits_of M.digest_of) (M.is_trusted room.new)
-        (M.stands room.old) (M.stands room.new) (R.left list.old) (O.contents out.old) holds
-        (R.has_failed list.new) result }
+        × AreAnswered M.step zone.now (digits_of M.digest_of (M.zone room.old))
+        (M.is_trusted room.new) (M.stands room.old) (M.stands room.new) (R.left list.old)
+        (O.contents out.old) holds (R.has_failed list.new) result }
 {
     if replay.answers {
         return answer(alloc, list, room, zone, &mut Wire::new(out));
@@ -113,7 +114,7 @@ fn answer<R: Source, M: Digested, W: Sink>(
     requires ready { M.is_ready room.old }
     ensures ready { M.is_ready room.new }
     ensures trusted { M.is_trusted room.new → M.is_trusted room.old }
-    ensures answered { AreAnswered M.step zone.now (digits_of M.digest_of)
+    ensures answered { AreAnswered M.step zone.now (digits_of M.digest_of (M.zone room.old))
         (M.is_trusted room.new) (M.stands room.old) (M.stands room.new) (R.left list.old)
         (W.held writer.old) (W.held writer.new) (R.has_failed list.new) result }
 {

@@ -1,12 +1,12 @@
 //! `serve`: a room is served over TCP, one connection after another.
-ghost use Rattle.std.specs.Prelude.{◌≡◌, ℕ, List, Bool, Option, None, false, is_some, IfErr, IfOk, IsSome, OnOk};
-ghost use Rattle.dispatch_room_endings.specs.declared.endings.Failure.TheVariants.{Network};
+ghost use Rattle.std.specs.Prelude.{◌≡◌, ◌⊎◌, ℕ, List, Bool, Option, None, false, is_some, IfErr, IfOk, IfSome, IsSome, OnOk};
+ghost use Rattle.dispatch_room_endings.specs.declared.endings.Failure.TheVariants as failure;
 ghost use Rattle.dispatch_room_journal.specs.Records.{answer_text, message_text, room_text};
 ghost use Rattle.dispatch_room_opening.specs.Opened.{IsUnopened};
 ghost use Rattle.dispatch_room_serving.specs.Journals.{failed_by};
 ghost use Rattle.dispatch_room_serving.specs.Rooms.{ServesRoom};
-ghost use Rattle.dispatch_room_commands.specs.Tasks.{IsServe};
-ghost use Rattle.dispatch_room_commands.specs.Works.{Serves};
+ghost use Rattle.dispatch_room_commands.specs.Tasks.{FailsServe, IsServe};
+ghost use Rattle.dispatch_room_commands.specs.Works.{OpensNone, Serves, is_synced_by};
 
 use dispatch_room_disk::room_files::{RoomFile, Work, in_file};
 use dispatch_room_endings::endings::{Done, Failure};
@@ -17,7 +17,7 @@ use dispatch_room_serving::journals::Journal;
 use dispatch_room_serving::logs::Log;
 use dispatch_room_serving::serving::serve_in;
 use dispatch_room_serving::watches::Watch;
-use dispatch_room_sockets::parting::part;
+use dispatch_room_sockets::parting::{Peer, part};
 use dispatch_room_sockets::readers::SocketReader;
 use dispatch_room_sockets::sides::sides;
 use dispatch_room_sockets::waits::Waits;
@@ -43,8 +43,10 @@ pub fn serve_file<O: Write, E: Write>(
     out: &mut O,
     err: &mut E,
 ) -> Result<Done, Failure>
-    ensures { IfOk result (λ done. IsServe (O.contents out.old) (O.contents out.new) done
-        service.entry) }
+    ensures done { IfOk result (λ done.
+        IsServe (O.contents out.old) (O.contents out.new) done service.entry) }
+    ensures undone { IfErr result (λ fault.
+        FailsServe (O.contents out.old) (O.contents out.new) fault service.entry) }
 {
     let journal = journal_file(rt, alloc, &service.journal, err)?;
     let serving = Serving {
@@ -63,7 +65,8 @@ fn journal_file<E: Write>(
     journal: &Option<tasks::Journal<'_>>,
     err: &mut E,
 ) -> Result<Option<File>, Failure>
-    ensures { IfOk result (λ file. is_some file ≡ is_some journal.now) }
+    ensures file { IfOk result (λ file. is_some file ≡ is_some journal.now) }
+    ensures fault { IfErr result (λ fault. (fault ≡ failure.Memory) ⊎ (fault ≡ failure.Journal)) }
 {
     match journal {
         Some(journal) => Ok(Some(open_journal(rt, alloc, journal.list, err)?)),
@@ -85,7 +88,7 @@ impl<'a, E: Write> Work for Serving<'a, E> {
 
     ghost says = { λ work. Serves (is_some work.journal) work.service.connections };
 
-    ghost refuses = { λ _ S g conn. IsUnopened g conn };
+    ghost refuses = { λ _. OpensNone };
 
     fn run<S: Alter + Drop, O: Write>(
         self,
@@ -169,6 +172,8 @@ fn journal_of<'a>(
     file: &'a Option<File>,
 ) -> Option<Journal<JournalFile<&'a File>>>
     ensures kept { is_some result ≡ is_some file.now }
+    ensures synced { IfSome result (λ journal.
+        journal.is_synced ≡ is_synced_by service.now.journal) }
     ensures fresh { failed_by result ≡ false }
 {
     let is_synced = match service.journal {
@@ -203,7 +208,7 @@ impl<'a, O: Write> TcpCallers<'a, O> {
     // Listens at the address, and says so.
     fn listen(&mut self) -> Result<(), Failure>
         ensures listens { OnOk result (IsSome self.new.listener) }
-        ensures fault { IfErr result (λ fault. fault ≡ Network) }
+        ensures fault { IfErr result (λ fault. fault ≡ failure.Network) }
     {
         let Ok(listener) = TcpListener::bind(self.rt, self.address) else {
             return Err(Failure::Network);
@@ -225,7 +230,11 @@ impl<'a, O: Write> Callers for TcpCallers<'a, O> {
 
     ghost told = { λ _. None };
 
-    fn begin(&mut self) -> Result<(), Failure> {
+    // Beside what all callers ensure: there is one who listens for them.
+    fn begin(&mut self) -> Result<(), Failure>
+        ensures listens { OnOk result (IsSome self.new.listener) }
+        ensures fault { IfErr result (λ fault. fault ≡ failure.Network) }
+    {
         self.listen()
     }
 
@@ -240,7 +249,7 @@ impl<'a, O: Write> Callers for TcpCallers<'a, O> {
     }
 
     fn done(&mut self, reader: Reader<'a>, writer: Writer<'a>) {
-        part(reader, writer);
+        part(&mut Peer::new(reader, writer));
     }
 }
 

@@ -1,8 +1,7 @@
 //! `times`: the report of a division's day.
-ghost use Rattle.std.specs.Prelude.{IfOk};
-ghost use Rattle.dispatch_room_commands.specs.Tasks.{IsTimes};
-ghost use Rattle.dispatch_room_commands.specs.Works.{Reports};
-ghost use Rattle.dispatch_room_opening.specs.Opened.{IsUnopened};
+ghost use Rattle.std.specs.Prelude.{IfErr, IfOk};
+ghost use Rattle.dispatch_room_commands.specs.Tasks.{FailsTimes, IsTimes};
+ghost use Rattle.dispatch_room_commands.specs.Works.{OpensNone, Reports};
 
 use dispatch_room_disk::room_files::{RoomFile, Work, in_file};
 use dispatch_room_endings::endings::{Done, Failure};
@@ -22,8 +21,10 @@ pub fn times<O: Write>(
     day: &str,
     out: &mut O,
 ) -> Result<Done, Failure>
-    ensures { IfOk result (λ done. IsTimes (O.contents out.old) (O.contents out.new) done division
-        day.now) }
+    ensures done { IfOk result (λ done.
+        IsTimes (O.contents out.old) (O.contents out.new) done division day.now) }
+    ensures undone { IfErr result (λ fault.
+        FailsTimes (O.contents out.old) (O.contents out.new) fault division day.now) }
 {
     let report = in_file(
         rt,
@@ -50,7 +51,7 @@ impl<'a> Work for Report<'a> {
 
     ghost says = { λ work. Reports work.division work.day.now };
 
-    ghost refuses = { λ _ S g conn. IsUnopened g conn };
+    ghost refuses = { λ _. OpensNone };
 
     fn run<S: Alter + Drop, O: Write>(
         self,

@@ -1,19 +1,22 @@
 -- The database of a room's file: as it is opened, and as it is closed.
-use Rattle.std.specs.Prelude.{List, Ok, Option, Result, ℕ, ◌≡◌}
+use Rattle.std.specs.Prelude.{Err, List, Ok, Option, Result, ℕ, ◌≡◌, ◌⊎◌}
 use Rattle.sqlite.specs.Closing.{IsCopied}
-use Rattle.sqlite.specs.Files.{Finds, IsCleanLeft, IsOpened, LeavesFiles, file_state, over_files}
+use Rattle.sqlite.specs.Files.{FailsToClose, Finds, IsCleanLeft, IsClosed, IsOpened, LeavesFiles, file_state, over_files}
 use Rattle.sqlite.specs.Held.{Held}
 use Rattle.sqlite.specs.State.{HasCleanDisk}
 use Rattle.sqlite.specs.declared.error.Error.{Error}
 use Rattle.sqlite.specs.declared.file.Leftover.{Leftover}
 use Rattle.sqlite_disk.specs.declared.Disk.{Ghosts as Disk}
 use Rattle.sqlite_disk.specs.declared.Files.{Files}
+use Rattle.sqlite_store.specs.FileStore.{view}
 use Rattle.sqlite_store.specs.declared.store.FileStore.{FileStore}
+use Rattle.sqlite_trees.specs.View.{IsClean}
 use Rattle.sqlite_trees.specs.declared.store.Store.{Ghosts}
 use Rattle.sqlite_wal.specs.Reads.{AreClean}
-use Rattle.dispatch_room_disk.specs.Faults.{fault_of}
+use Rattle.dispatch_room_disk.specs.Faults.{IsFileFault, fault_of}
 use Rattle.dispatch_room_disk.specs.System.{SystemFile, system}
 use Rattle.dispatch_room_endings.specs.declared.endings.Failure.{Failure}
+use Rattle.dispatch_room_endings.specs.declared.endings.Failure.TheVariants as failure
 
 -- What is said of work: of a database before and after, over any storage, of what the output held
 -- before and after, and of what came of it.
@@ -21,6 +24,10 @@ abbrev pub Saying : Type 0 → Type 1
 Saying T =
     (S : Type 0) → Ghosts S → Held S → Held S → Option (List ℕ) → Option (List ℕ)
     → Result T Failure → Type 0
+
+-- What is said of a database, over any storage, in which there is nothing to be done, and of why.
+abbrev pub Refusing : Type 1
+Refusing = (S : Type 0) → Ghosts S → Held S → Failure → Type 0
 
 -- no connection came of these files, and what is left of them holds what they held
 pub record IsUnharmed {D : Type 0} (g : Disk D) (files : Files D) (failure : Failure) : Type 0 where
@@ -44,6 +51,14 @@ module _ {D : Type 0} {g : Disk D} where
   abbrev pub IsCopiedOut : Held (FileStore D g) → Type 0
   IsCopiedOut conn = (files : Files D) × (AreClean g files.log files.db → IsCopied conn files)
 
+  -- The file could not be closed with all that was committed, for this: it is as the store left it.
+  pub record IsUnclosed (conn : Held (FileStore D g)) (fault : Failure) : Type 0 where
+    pub error : Error
+    pub told : fault ≡ fault_of error
+    pub last : FileStore D g
+    pub left : IsClosed conn last
+    pub why : IsClean (view last) → FailsToClose conn last error
+
   -- what is said of work holds of this database and of the one that it left, which its file has now
   pub record IsDone {T : Type 0} (says : Saying T) (conn : Held (FileStore D g))
       (before after : Option (List ℕ)) (done : T) : Type 0 where
@@ -51,9 +66,45 @@ module _ {D : Type 0} {g : Disk D} where
     pub said : says (FileStore D g) over_files conn closed before after (Ok done)
     pub copied : IsCopiedOut closed
 
+  -- the work failed, and what is said of it holds with its fault; its file has what was committed
+  pub record HasFailed {T : Type 0} (says : Saying T) (conn : Held (FileStore D g))
+      (before after : Option (List ℕ)) (fault : Failure) : Type 0 where
+    pub closed : Held (FileStore D g)
+    pub said : says (FileStore D g) over_files conn closed before after (Err fault)
+    pub copied : IsCopiedOut closed
+
+  -- the work came to something, of which it is said what holds, and then its file could not be
+  -- closed
+  pub record IsLeftOpen {T : Type 0} (says : Saying T) (conn : Held (FileStore D g))
+      (before after : Option (List ℕ)) (fault : Failure) : Type 0 where
+    pub closed : Held (FileStore D g)
+    pub came : Result T Failure
+    pub said : says (FileStore D g) over_files conn closed before after came
+    pub unclosed : IsUnclosed closed fault
+
+  -- why the work was not done in this database: there was nothing to be done in it, or the work
+  -- failed, or its file could not be closed
+  abbrev pub IsUndone : {T : Type 0} → Saying T → Refusing → Held (FileStore D g)
+      → Option (List ℕ) → Option (List ℕ) → Failure → Type 0
+  IsUndone says refuses conn before after fault = refuses (FileStore D g) over_files conn fault
+      ⊎ (HasFailed says conn before after fault ⊎ IsLeftOpen says conn before after fault)
+
 -- work was done in the database of a file of the system
 pub record IsDoneInFile {T : Type 0} (says : Saying T) (before after : Option (List ℕ))
     (done : T) : Type 0 where
   pub conn : Held (FileStore SystemFile system)
   pub connected : IsConnected conn
   pub is : IsDone says conn before after done
+
+-- no database was found in a file of the system, and nothing is told
+pub record IsUnfound (before after : Option (List ℕ)) (fault : Failure) : Type 0 where
+  pub why : (fault ≡ failure.File) ⊎ IsFileFault fault
+  pub untold : after ≡ before
+
+-- work was not done in a file of the system: no database was found in it, or this became of the one
+-- that was
+abbrev pub IsUndoneInFile : {T : Type 0} → Saying T → Refusing → Option (List ℕ)
+    → Option (List ℕ) → Failure → Type 0
+IsUndoneInFile says refuses before after fault = IsUnfound before after fault
+    ⊎ ((conn : Held (FileStore SystemFile system)) × IsConnected conn
+    × IsUndone says refuses conn before after fault)

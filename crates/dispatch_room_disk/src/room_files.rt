@@ -1,13 +1,10 @@
 //! The file of a room: found or made, opened, worked in, and closed.
 ghost use Rattle.std.specs.Prelude.{◌≡◌, ◌⊎◌, Err, Ok, true, false, IfErr, IfOk, IsOk, IsTrue, OnOk};
 ghost use Rattle.sqlite.specs.Files.{file_state};
-ghost use Rattle.sqlite.specs.Held.{Held};
 ghost use Rattle.sqlite.specs.State.{HasCleanDisk};
-ghost use Rattle.sqlite_trees.specs.declared.store.Store.{Ghosts};
-ghost use Rattle.dispatch_room_endings.specs.declared.endings.Failure.{Failure as Fault};
 ghost use Rattle.dispatch_room_endings.specs.declared.endings.Failure.TheVariants as failure;
 ghost use Rattle.dispatch_room_disk.specs.Faults.{IsFileFault, fault_of};
-ghost use Rattle.dispatch_room_disk.specs.RoomFiles.{IsConnected, IsCopiedOut, IsDone, IsDoneInFile, IsFound, IsUnharmed, Saying};
+ghost use Rattle.dispatch_room_disk.specs.RoomFiles.{IsConnected, IsCopiedOut, IsDone, IsDoneInFile, IsFound, IsUnclosed, IsUndone, IsUndoneInFile, IsUnharmed, Refusing, Saying};
 
 use crate::new_files::make_file;
 use crate::opening::open_files;
@@ -48,7 +45,7 @@ pub trait Work: Drop {
     ghost says: { Self → Saying Self.Done };
 
     // What holds of a database in which there is nothing to be done, and of why.
-    ghost refuses: { Self → (S : Type 0) → Ghosts S → Held S → Fault → Type 0 };
+    ghost refuses: { Self → Refusing };
 
     /// Does it in a database, and writes to the output what it tells.
     fn run<S: Alter + Drop, O: Write>(
@@ -71,7 +68,10 @@ pub fn in_file<W: Work, O: Write>(
     work: W,
     out: &mut O,
 ) -> Result<W::Done, Failure>
-    ensures { IfOk result (IsDoneInFile (W.says work) (O.contents out.old) (O.contents out.new)) }
+    ensures done { IfOk result
+        (IsDoneInFile (W.says work) (O.contents out.old) (O.contents out.new)) }
+    ensures undone { IfErr result (IsUndoneInFile (W.says work) (W.refuses work)
+        (O.contents out.old) (O.contents out.new)) }
 {
     match connect(rt, file) {
         Ok(conn) => on_disk(alloc, conn, work, out),
@@ -87,7 +87,10 @@ fn on_disk<D: Disk + Drop, W: Work, O: Write>(
     out: &mut O,
 ) -> Result<W::Done, Failure>
     requires { conn.in_transaction ≡ false }
-    ensures { IfOk result (IsDone (W.says work) conn (O.contents out.old) (O.contents out.new)) }
+    ensures done { IfOk result
+        (IsDone (W.says work) conn (O.contents out.old) (O.contents out.new)) }
+    ensures undone { IfErr result (IsUndone (W.says work) (W.refuses work) conn
+        (O.contents out.old) (O.contents out.new)) }
 {
     closed(work.run(alloc, conn, out))
 }
@@ -97,8 +100,8 @@ fn closed<D: Disk + Drop, T: Drop>(worked: Worked<T, FileStore<D>>) -> Result<T,
     ensures room { OnOk result (IsOk worked) }
     ensures done { IfOk worked (λ worked. IfOk result (λ done. worked.0 ≡ Ok done)) }
     ensures copied { IfOk worked (λ worked. OnOk result (IsCopiedOut worked.1)) }
-    ensures fault { IfOk worked (λ worked. IfErr result (λ fault. (worked.0 ≡ Err fault)
-        ⊎ IsFileFault fault)) }
+    ensures fault { IfOk worked (λ worked. IfErr result (λ fault. ((worked.0 ≡ Err fault)
+        × IsCopiedOut worked.1) ⊎ IsUnclosed worked.1 fault)) }
     ensures none { IfErr worked (λ fault. result ≡ Err fault) }
 {
     match worked {
@@ -113,7 +116,7 @@ fn closed<D: Disk + Drop, T: Drop>(worked: Worked<T, FileStore<D>>) -> Result<T,
 // Closes a file, with all in it that was committed.
 fn copied_out<D: Disk + Drop>(conn: Connection<FileStore<D>>) -> Result<(), Failure>
     ensures copied { OnOk result (IsCopiedOut conn) }
-    ensures fault { IfErr result IsFileFault }
+    ensures fault { IfErr result (IsUnclosed conn) }
 {
     match conn.close_files() {
         Ok(files) => {

@@ -3,6 +3,8 @@ use Rattle.std.proofs.Common.{◌≡◌, ◌≢◌, ◌∙◌, sym, ap, subst, r
 use Rattle.std.proofs.Math.Seq.{get_or-append_seam}
 use Rattle.std.proofs.lemmas.List.{length-replicate, drop_at, get_or_append_left}
 use Rattle.std.proofs.lemmas.List.Elements.{All-head, All-tail}
+use Rattle.room_service.specs.declared.digests.Head.{Head}
+use Rattle.room_service.specs.declared.digests.Version.TheVariants.{First}
 use Rattle.dispatch_room_journal.specs.declared.lines.Line.{Line}
 use Rattle.dispatch_room_journal.specs.declared.lines.Line.TheVariants.{Room, Message, Answer}
 use Rattle.dispatch_room_journal.specs.Entries.{Entry, room, message, answer, IsLine, IsEntry, line_text, line_of, rest_of, text_of, texts_of, IsPart, IsForeign}
@@ -29,10 +31,10 @@ size_of (Message at size) = size
 size_of (Room digest) = 0
 size_of (Answer status) = 0
 
-abbrev digest_of : Line → List ℕ
-digest_of (Room digest) = digest
-digest_of (Message at size) = []
-digest_of (Answer status) = []
+abbrev head_of : Line → Head
+head_of (Room h) = h
+head_of (Message at size) = record { version = First; digits = [] }
+head_of (Answer status) = record { version = First; digits = [] }
 
 abbrev status_of : Line → ℕ
 status_of (Answer status) = status
@@ -51,7 +53,7 @@ line_is l rest e left x y is =
 -- entries of one line, and what follows them
 same_line : (e f : Entry) (rest left : List ℕ) → line_of e ≡ line_of f
     → rest_of e ++ rest ≡ rest_of f ++ left → (e ≡ f) × (rest ≡ left)
-same_line (room d) (room f) rest left line is = let same : d ≡ f = ap digest_of line in (ap room same, is)
+same_line (room d) (room f) rest left line is = let same : d ≡ f = ap head_of line in (ap room same, is)
 same_line (message at bytes) (message later more) rest left line is =
     let same_at : at ≡ later = ap moment_of line in
     let len : length bytes ≡ length more = ap size_of line in

@@ -9,9 +9,10 @@ use Rattle.std.proofs.lemmas.List.{append_cancel_left, length-replicate}
 use Rattle.std.proofs.Math.Seq.{take-append_seam}
 use Rattle.std.proofs.lemmas.List.Elements.{All-append, All-take, All-replicate, All-same}
 use Rattle.room_http_messages.specs.declared.limits.TheConstants.{INBOX_ROOM}
+use Rattle.room_service.specs.declared.digests.Version.{Version}
 use Rattle.dispatch_room_journal.specs.declared.lines.Line.TheVariants.{Room, Message, Answer}
 use Rattle.dispatch_room_journal.specs.declared.lines.TheConstants.{LAST_MOMENT, LEAST_STATUS, GREATEST_STATUS, DIGEST_DIGITS}
-use Rattle.dispatch_room_journal.specs.Entries.{is_digest_digit, IsDigest}
+use Rattle.dispatch_room_journal.specs.Entries.{is_digest_digit, IsDigest, head_words}
 use Rattle.dispatch_room_journal.specs.Parts.{Lacks, BeginsOne, After, AreNumbers, IsNumber, IsLineText}
 use Rattle.dispatch_room_journal.proofs.TextLemmas.{head, split, cut_unique, has_mark}
 use Rattle.dispatch_room_journal.proofs.NumberLemmas.{digits_lack}
@@ -202,10 +203,11 @@ word_none word Kind bytes b u kind none is =
       λ all. let front = not_word word Kind bytes none all in starts.1 front.0 front.1,
     )
 
--- the first part of a line is that of one of the three
-pub line_of_room : (bytes : List ℕ) → BeginsOne (After (codes "room 1 ") IsDigest) bytes
-    → BeginsOne IsLineText bytes
-line_of_room bytes has = (has.0, has.1, (Room has.2.0, has.2.1, has.2.2), has.3)
+-- the first part of a line is that of one of the four
+pub line_of_room : (version : Version) (bytes : List ℕ)
+    → BeginsOne (After (head_words version) IsDigest) bytes → BeginsOne IsLineText bytes
+line_of_room version bytes has =
+    (has.0, has.1, (Room (record { version = version; digits = has.2.0 }), has.2.1, has.2.2), has.3)
 
 pub line_of_message : (bytes : List ℕ) → BeginsOne (After (codes "message ") AreNumbers) bytes
     → BeginsOne IsLineText bytes
@@ -221,9 +223,9 @@ line_of_answer bytes has =
     (has.0, has.1, (Answer n.0, (n.1, n.2), has.2.2 ∙ ap (λ t. codes "answer " ++ t) n.3), has.3)
 
 pub line_cases : (bytes : List ℕ) → BeginsOne IsLineText bytes
-    → BeginsOne (After (codes "room 1 ") IsDigest) bytes
+    → ((version : Version) × BeginsOne (After (head_words version) IsDigest) bytes)
     ⊎ (BeginsOne (After (codes "message ") AreNumbers) bytes ⊎ BeginsOne (After (codes "answer ") (IsNumber LEAST_STATUS GREATEST_STATUS)) bytes)
-line_cases bytes (whole, more, (Room digest, is_one, is), goes_on) = inl (whole, more, (digest, is_one, is), goes_on)
+line_cases bytes (whole, more, (Room h, is_one, is), goes_on) = inl (h.version, (whole, more, (h.digits, is_one, is), goes_on))
 line_cases bytes (whole, more, (Message at size, is_one, is), goes_on) =
     inr (inl (whole, more, (decimal at ++ 32 ∷ decimal size, (at, size, is_one.0, is_one.1, is_one.2, refl), is), goes_on))
 line_cases bytes (whole, more, (Answer status, is_one, is), goes_on) =

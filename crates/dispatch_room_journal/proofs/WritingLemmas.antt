@@ -1,16 +1,22 @@
 -- Lemmas on what is written one after another, and on how long an entry is.
-use Rattle.std.proofs.Common.{◌∙◌, sym, ap, subst, arith, ℕ, ◌+◌, ◌≤◌, List, ◌++◌, ◌∷◌, [], length, append_assoc, length-append, codes, decimal, Bool, Option, Result, Ok, Err}
+use Rattle.std.proofs.Common.{◌≡◌, ◌∙◌, refl, sym, ap, subst, arith, ℕ, ◌+◌, ◌≤◌, List, ◌++◌, ◌∷◌, [], length, append_assoc, length-append, codes, decimal, Bool, Option, Result, Ok, Err}
 use Rattle.std.proofs.lemmas.Fmt.{length-decimal-le}
 use Rattle.room_http_messages.specs.Streams.{WritesAll}
 use Rattle.room_http_messages.proofs.StreamLemmas.{Appends-more}
+use Rattle.room_service.specs.declared.digests.Version.{Version}
+use Rattle.room_service.specs.declared.digests.Version.TheVariants.{First, Second}
 use Rattle.dispatch_room_journal.specs.declared.inbox.TheConstants.{ENTRY_ROOM}
 use Rattle.dispatch_room_journal.specs.declared.lines.Line.{Line}
 use Rattle.dispatch_room_journal.specs.declared.lines.Line.TheVariants.{Room, Message, Answer}
-use Rattle.dispatch_room_journal.specs.Entries.{Entry, room, message, answer, IsLine, IsEntry, line_text, text_of}
+use Rattle.dispatch_room_journal.specs.Entries.{Entry, room, message, answer, IsLine, IsEntry, head_words, line_text, text_of}
+
+words_length : (version : Version) → length (head_words version) ≡ 7
+words_length First = refl
+words_length Second = refl
 
 -- a line is not longer than that of a digest
 pub line_short : (l : Line) → IsLine l → length (line_text l) ≤ 71
-line_short (Room digest) is = omega (arith, is.0, length-append (codes "room 1 ") digest)
+line_short (Room h) is = omega (arith, is.0, words_length h.version, length-append (head_words h.version) h.digits)
 line_short (Message at size) is =
     omega (
       arith,

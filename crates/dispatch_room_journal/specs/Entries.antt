@@ -2,14 +2,17 @@
 use Rattle.std.specs.Prelude.{◌≡◌, ℕ, ◌+◌, ◌<◌, ◌≤◌, nat_le, List, [], ◌∷◌, ◌++◌, length, codes, decimal, Bool, true, ◌&&◌, ◌||◌, All}
 use Rattle.std.specs.List.{flat_map}
 use Rattle.room_http_messages.specs.declared.limits.TheConstants.{INBOX_ROOM}
+use Rattle.room_service.specs.declared.digests.Head.{Head}
+use Rattle.room_service.specs.declared.digests.Version.{Version}
+use Rattle.room_service.specs.declared.digests.Version.TheVariants.{First, Second}
 use Rattle.dispatch_room_journal.specs.declared.lines.Line.{Line}
 use Rattle.dispatch_room_journal.specs.declared.lines.Line.TheVariants.{Room, Message, Answer}
 use Rattle.dispatch_room_journal.specs.declared.lines.TheConstants.{LAST_MOMENT, LEAST_STATUS, GREATEST_STATUS, DIGEST_DIGITS}
 
--- A part begins, with the digest of the room's rows as it began, in digits; a message was answered,
--- which came at a moment; its answer's status.
+-- A part begins, and its head tells the digest of the room's rows as it began; a message was
+-- answered, which came at a moment; its answer's status.
 pub data Entry : Type 0 where
-  room : List ℕ → Entry
+  room : Head → Entry
   message : ℕ → List ℕ → Entry
   answer : ℕ → Entry
 
@@ -23,31 +26,36 @@ IsDigest digits = (length digits ≡ DIGEST_DIGITS) × All (λ byte. is_digest_d
 
 -- what the line says is in its range
 abbrev pub IsLine : Line → Type 0
-IsLine (Room digest) = IsDigest digest
+IsLine (Room head) = IsDigest head.digits
 IsLine (Message at size) = (at ≤ LAST_MOMENT) × (1 ≤ size) × (size ≤ INBOX_ROOM)
 IsLine (Answer status) = (LEAST_STATUS ≤ status) × (status ≤ GREATEST_STATUS)
 
+-- the words before a digest of this version
+abbrev pub head_words : Version → List ℕ
+head_words First = codes "room 1 "
+head_words Second = codes "room 2 "
+
 -- the text of a line, without the line end
 abbrev pub line_text : Line → List ℕ
-line_text (Room digest) = codes "room 1 " ++ digest
+line_text (Room head) = head_words head.version ++ head.digits
 line_text (Message at size) = codes "message " ++ (decimal at ++ 32 ∷ decimal size)
 line_text (Answer status) = codes "answer " ++ decimal status
 
 -- an entry's line
 abbrev pub line_of : Entry → Line
-line_of (room digest) = Room digest
+line_of (room head) = Room head
 line_of (message at bytes) = Message at (length bytes)
 line_of (answer status) = Answer status
 
 -- what follows an entry's line and its end: a message's bytes as they came, and a line end
 abbrev pub rest_of : Entry → List ℕ
-rest_of (room digest) = []
+rest_of (room head) = []
 rest_of (message at bytes) = bytes ++ 10 ∷ []
 rest_of (answer status) = []
 
 -- a message's bytes
 abbrev pub bytes_of : Entry → List ℕ
-bytes_of (room digest) = []
+bytes_of (room head) = []
 bytes_of (message at bytes) = bytes
 bytes_of (answer status) = []
 

@@ -2,13 +2,14 @@
 ghost use Rattle.std.specs.Prelude.{◌↔◌, codes, IsTrue};
 ghost use Rattle.dispatch_room_journal.specs.declared.lines.TheConstants.{LEAST_STATUS};
 ghost use Rattle.dispatch_room_journal.specs.declared.lines.TheConstants.{GREATEST_STATUS};
-ghost use Rattle.dispatch_room_journal.specs.Entries.{IsDigest};
+ghost use Rattle.dispatch_room_journal.specs.Entries.{IsDigest, head_words};
 ghost use Rattle.dispatch_room_journal.specs.Parts.{After, AreNumbers, BeginsOne, IsLineText};
 ghost use Rattle.dispatch_room_journal.specs.Parts.{IsNumber};
 
 use crate::digests::are_digest_digits;
-use crate::lines::{DIGEST_DIGITS, GREATEST_STATUS, LAST_MOMENT, LONGEST, cut};
+use crate::lines::{DIGEST_DIGITS, GREATEST_STATUS, LAST_MOMENT, LONGEST, cut, head_words};
 use crate::numbers::{begins_number, number};
+use room_service::digests::Version;
 
 /// Whether the bytes are the first part of a digest.
 fn begins_digest(bytes: &[u8]) -> bool
@@ -36,13 +37,14 @@ fn begins_status(bytes: &[u8]) -> bool
     begins_number(bytes, 1, GREATEST_STATUS)
 }
 
-/// Whether the bytes are the first part of the line of a digest.
-fn begins_room(bytes: &[u8]) -> bool
-    ensures { IsTrue result ↔ BeginsOne (After (codes "room 1 ") IsDigest) bytes.now }
+/// Whether the bytes are the first part of the line of a digest of this version.
+fn begins_room(version: Version, bytes: &[u8]) -> bool
+    ensures { IsTrue result ↔ BeginsOne (After (head_words version) IsDigest) bytes.now }
 {
-    match bytes.strip_prefix(b"room 1 ") {
+    let words = head_words(version);
+    match bytes.strip_prefix(words) {
         Some(digits) => begins_digest(digits),
-        None => b"room 1 ".starts_with(bytes),
+        None => words.starts_with(bytes),
     }
 }
 
@@ -71,5 +73,6 @@ fn begins_answer(bytes: &[u8]) -> bool
 pub fn begins_line(bytes: &[u8]) -> bool
     ensures { IsTrue result ↔ BeginsOne IsLineText bytes.now }
 {
-    begins_room(bytes) || (begins_message(bytes) || begins_answer(bytes))
+    begins_room(Version::First, bytes)
+        || (begins_room(Version::Second, bytes) || (begins_message(bytes) || begins_answer(bytes)))
 }

@@ -1,13 +1,14 @@
 //! The line that begins an entry.
 ghost use Rattle.std.specs.Prelude.{◌≡◌, ◌∷◌, ◌++◌, codes, MatchOption};
 ghost use Rattle.dispatch_room_journal.specs.declared.lines.Line.{Line};
-ghost use Rattle.dispatch_room_journal.specs.Entries.{IsDigest, IsLine, line_text};
+ghost use Rattle.dispatch_room_journal.specs.Entries.{IsDigest, IsLine, head_words, line_text};
 ghost use Rattle.dispatch_room_journal.specs.Parts.{AreNumbers, IsLineText, Lacks};
 
 use crate::digests::are_digest_digits;
 use crate::numbers::number;
 use memchr::memchr;
 use room_http_messages::limits::INBOX_ROOM;
+use room_service::digests::{Head, Version};
 use room_types::numbers::Moment;
 
 /// The last moment, as of `Moment`.
@@ -28,8 +29,8 @@ pub const DIGEST_DIGITS: usize = 64;
 /// What an entry's line says.
 #[derive(Clone, Copy)]
 pub enum Line {
-    /// A part begins, at a room whose rows have this digest, in digits.
-    Room([u8; DIGEST_DIGITS]),
+    /// A part begins, at a room whose rows have this digest.
+    Room(Head),
     /// A message that was answered came at this moment, and has so many bytes.
     Message { at: Moment, size: usize },
     /// The message before it was answered with this status.
@@ -47,17 +48,30 @@ pub fn cut(bytes: &[u8], mark: u8) -> Option<(&[u8], &[u8])>
     }
 }
 
+/// The words before a digest of this version.
+pub fn head_words(version: Version) -> &'static [u8]
+    ensures { result.now ≡ head_words version }
+{
+    match version {
+        Version::First => b"room 1 ",
+        Version::Second => b"room 2 ",
+    }
+}
+
 /// The line of a digest.
-fn room_line(digits: &[u8]) -> Option<Line>
+fn room_line(version: Version, digits: &[u8]) -> Option<Line>
     ensures { MatchOption result (¬ (IsDigest digits.now))
-        (λ line. IsLine line × (codes "room 1 " ++ digits.now ≡ line_text line)) }
+        (λ line. IsLine line × (head_words version ++ digits.now ≡ line_text line)) }
 {
     if digits.len() != DIGEST_DIGITS || !are_digest_digits(digits) {
         return None;
     }
     let mut digest = [0; DIGEST_DIGITS];
     digest.copy_from_slice(digits);
-    Some(Line::Room(digest))
+    Some(Line::Room(Head {
+        version,
+        digits: digest,
+    }))
 }
 
 /// The line of a moment and a number of bytes.
@@ -85,8 +99,11 @@ pub fn line_in(bytes: &[u8]) -> Option<Line>
     ensures { MatchOption result (¬ (IsLineText bytes.now))
         (λ line. IsLine line × (bytes.now ≡ line_text line)) }
 {
-    if let Some(digits) = bytes.strip_prefix(b"room 1 ") {
-        return room_line(digits);
+    if let Some(digits) = bytes.strip_prefix(head_words(Version::First)) {
+        return room_line(Version::First, digits);
+    }
+    if let Some(digits) = bytes.strip_prefix(head_words(Version::Second)) {
+        return room_line(Version::Second, digits);
     }
     if let Some(numbers) = bytes.strip_prefix(b"message ") {
         return message_line(numbers);

@@ -5,10 +5,11 @@ ghost use Rattle.room_http_messages.specs.Streams.{WritesAll};
 ghost use Rattle.dispatch_room_journal.specs.Entries.{IsDigest, IsEntry, IsLine, answer};
 ghost use Rattle.dispatch_room_journal.specs.Entries.{line_text, message, room, text_of};
 
-use crate::lines::{DIGEST_DIGITS, Line};
+use crate::lines::{Line, head_words};
 use arrayvec::ArrayVec;
 use itoa::Buffer;
 use room_http_messages::sinks::{Sink, WriteFailed, write_all};
+use room_service::digests::Head;
 use room_types::numbers::Moment;
 
 /// The bytes of the longest line, that of a digest, with its end.
@@ -32,9 +33,9 @@ fn add_line(text: &mut ArrayVec<u8, LINE_ROOM>, line: &Line)
     ensures len { array_vec_len text.new ≡ length (line_text line.now) }
 {
     match line {
-        Line::Room(digest) => {
-            add(text, b"room 1 ");
-            add(text, digest);
+        Line::Room(head) => {
+            add(text, head_words(head.version));
+            add(text, &head.digits);
         }
         Line::Message { at, size } => {
             add(text, b"message ");
@@ -63,13 +64,13 @@ fn put_line<W: Sink>(writer: &mut W, line: &Line) -> Result<(), WriteFailed>
 }
 
 /// Writes that a part begins, at a room whose rows have this digest.
-pub fn put_room<W: Sink>(writer: &mut W, digest: &[u8; DIGEST_DIGITS]) -> Result<(), WriteFailed>
+pub fn put_room<W: Sink>(writer: &mut W, head: &Head) -> Result<(), WriteFailed>
     requires sound { W.has_failed writer.old ≡ false }
-    requires is_one { IsDigest digest.now }
-    ensures { WritesAll W.held W.has_failed writer.old writer.new (text_of (room digest.now))
+    requires is_one { IsDigest head.now.digits }
+    ensures { WritesAll W.held W.has_failed writer.old writer.new (text_of (room head.now))
         result }
 {
-    put_line(writer, &Line::Room(*digest))
+    put_line(writer, &Line::Room(*head))
 }
 
 /// Writes that a message came at a moment: a line, its bytes as they came, and a line end.

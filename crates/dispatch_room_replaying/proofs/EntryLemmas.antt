@@ -3,6 +3,7 @@ use Rattle.std.proofs.Common.{◌≡◌, ◌∙◌, sym, ap, subst, refl, arith,
 use Rattle.std.specs.Prelude.{⊤}
 use Rattle.std.specs.Io.KnownBytes.{Consumes, Keeps, IsAtEnd, prepend_known}
 use Rattle.std.proofs.KnownBytes.{Consumes-trans}
+use Rattle.room_service.specs.declared.digests.Head.{Head}
 use Rattle.dispatch_room_journal.specs.declared.lines.Line.TheVariants.{Room, Message}
 use Rattle.dispatch_room_journal.specs.declared.looks.Layout.{Layout}
 use Rattle.dispatch_room_journal.specs.Entries.{Entry, room, message, answer, line_of, text_of, texts_of, Begins}
@@ -12,10 +13,10 @@ use Rattle.dispatch_room_replaying.specs.Steps.{IsMark}
 use Rattle.dispatch_room_replaying.specs.Turns.{HasNoStatus, BeginsWith, EndsAt, IsBy, IsAfter}
 
 -- what a line says of its entry
-pub layout_of_room : (kept : List ℕ) (layout : Layout) (e : Entry) (digest : List ℕ)
+pub layout_of_room : (kept : List ℕ) (layout : Layout) (e : Entry) (digest : Head)
     → IsLayout kept layout e → layout.line ≡ Room digest → IsLayout kept layout (room digest)
 layout_of_room kept layout (room d) digest x is =
-    let same : d ≡ digest = cc (x.line, is) in subst (λ (t : List ℕ). IsLayout kept layout (room t)) same x
+    let same : d ≡ digest = cc (x.line, is) in subst (λ (t : Head). IsLayout kept layout (room t)) same x
 layout_of_room kept layout (message at sent) digest x is = absurd (cc (x.line, is))
 layout_of_room kept layout (answer status) digest x is = absurd (cc (x.line, is))
 
@@ -78,6 +79,29 @@ pub no_status_end : (left : Option (List ℕ)) → IsAtEnd left → BeginsWith l
 no_status_end None end text is = absurd (cc)
 no_status_end (Some x) end text is = let same : x ≡ text = cc in (text, refl, λ status more begins. (no_end_law text (answer status) more begins).0 (sym same ∙ end))
 
+-- a head that stands next is the one at the front
+pub head_front : (P : Head → Type 0) (left : Option (List ℕ)) (kept : List ℕ) (layout : Layout)
+    (e : Entry) → IsLayout kept layout e
+    → ((digest : Head) → layout.line ≡ line_of (room digest) → P digest)
+    → BeginsWith (prepend_known kept left) []
+    (λ rest. (digest : Head) (more : List ℕ) → Begins rest (room digest) more → P digest)
+head_front P left kept layout e x is_head text is =
+    let y = begins_front left kept layout e x text is in
+    let first : Begins text e y.0 = (x.begins.0, y.1 ∙ ap (λ t. t ++ y.0) (append-nil (text_of e))) in
+    (text, refl, λ digest more begins. is_head digest (x.line ∙ ap line_of (one_entry_law text e (room digest) y.0 more first begins).0))
+
+pub head_end : (P : Head → Type 0) (left : Option (List ℕ)) → IsAtEnd left → BeginsWith left []
+    (λ rest. (digest : Head) (more : List ℕ) → Begins rest (room digest) more → P digest)
+head_end P None end text is = absurd (cc)
+head_end P (Some x) end text is =
+    let same : x ≡ text = cc in
+    (text, refl, λ digest more begins. absurd ((no_end_law text (room digest) more begins).0 (sym same ∙ end)))
+
+-- what is said of what follows
+pub begins_more : (left : Option (List ℕ)) (entries : List Entry) (F G : List ℕ → Type 0)
+    → ((rest : List ℕ) → F rest → G rest) → BeginsWith left entries F → BeginsWith left entries G
+begins_more left entries F G more begins text is = let x = begins text is in (x.0, x.1, more x.0 x.2)
+
 -- nothing is left
 pub at_end : (left : Option (List ℕ)) (kept : List ℕ) → kept ≡ [] → IsAtEnd left
     → IsAtEnd (prepend_known kept left)
@@ -96,4 +120,4 @@ pub ends_before : (until : Option ℕ) (text : List ℕ) (layout : Layout) (e : 
     → EndsAt until text
 ends_before until text layout e at size x is late =
     let y = layout_of_message text layout e at size x is in
-    inr (at, y.0, drop layout.end text, y.1.begins.1 ∙ ap (λ t. t ++ drop layout.end text) (sym (append-nil (text_of (message at y.0)))), late)
+    inr (at, y.0, drop layout.end text, y.1.begins, late)

@@ -13,6 +13,7 @@ use Rattle.room_http.specs.Talk.{IsCaused}
 use Rattle.room_service.specs.Rooms.{IsWant}
 use Rattle.room_service.specs.declared.digests.Miss.{Miss}
 use Rattle.room_service.specs.declared.digests.Miss.TheVariants as miss
+use Rattle.room_service.specs.declared.digests.Head.{Head}
 use Rattle.dispatch_room_journal.specs.declared.reading.Fault.{Fault}
 use Rattle.dispatch_room_journal.specs.declared.reading.Fault.TheVariants.{Cut, Foreign, Read}
 use Rattle.dispatch_room_journal.specs.Entries.{Entry, message, IsEntry, text_of, texts_of, Begins}
@@ -22,7 +23,7 @@ use Rattle.dispatch_room_replaying.specs.declared.faults.ReplayFault.TheVariants
 use Rattle.dispatch_room_replaying.specs.declared.faults.Stopped.{Stopped}
 use Rattle.dispatch_room_replaying.specs.Turns.{Open, Turn, BeginsWith}
 use Rattle.dispatch_room_replaying.specs.Replays.{Unless}
-use Rattle.dispatch_room_replaying.specs.Faults.{read_fault, miss_fault, IsBroken, IsNoMessage, IsWanting, IsBad, broken, unasked, headless, no_message, broken_after, too_many, Explains, IsDueTo, Refuses}
+use Rattle.dispatch_room_replaying.specs.Faults.{read_fault, miss_fault, IsBroken, IsNoMessage, IsWanting, IsPlayedFor, IsBad, broken, unasked, headless, no_message, broken_after, too_many, Explains, IsDueTo, Refuses}
 
 pub not_both : (b : Bool) → b ≡ false → b ≡ true → ⊥
 not_both b f t = cc
@@ -67,22 +68,31 @@ pub begins_one : (e : Entry) (text rest : List ℕ) → IsEntry e → text ≡ t
     → Begins text e rest
 begins_one e text rest x is = (x, is ∙ ap (λ t. t ++ rest) (append-nil (text_of e)))
 
--- what explains a fault, explains it where more is known
-bad_more : (waits : Bool) (none full other whole : Type 0) (last : List Turn) (rest : List ℕ)
-    → (none → other) → (full → whole) → IsBad waits none full last rest
-    → IsBad waits other whole last rest
-bad_more waits none full other whole last rest n f (broken few x) = broken few x
-bad_more waits none full other whole last rest n f (unasked status more few x) = unasked status more few x
-bad_more waits none full other whole last rest n f (headless at sent more few x y) = headless at sent more few x (n y)
-bad_more waits none full other whole last rest n f (no_message at sent more few x y) = no_message at sent more few x y
-bad_more waits none full other whole last rest n f (broken_after at sent more wait few x y) = broken_after at sent more wait few x y
-bad_more waits none full other whole last rest n f (too_many x) = too_many (f x)
+-- what a message is played for
+played_more : (E F : Option Open → Head → Type 0) (rest : List ℕ)
+    → ((open_ : Option Open) (digest : Head) → E open_ digest → F open_ digest)
+    → IsPlayedFor E rest → IsPlayedFor F rest
+played_more E F rest e (inl status) = inl status
+played_more E F rest e (inr head) = inr (head.0, head.1, head.2, e None head.0 head.3)
 
-explains_more : (waits : Bool) (none full other whole : Type 0) (E F : Option Open → List ℕ → Type 0)
+-- what explains a fault, explains it where more is known
+bad_more : (waits : Bool) (none full other whole : Type 0) (E F : Option Open → Head → Type 0)
+    (last : List Turn) (rest : List ℕ) → (none → other) → (full → whole)
+    → ((open_ : Option Open) (digest : Head) → E open_ digest → F open_ digest)
+    → IsBad waits none full E last rest → IsBad waits other whole F last rest
+bad_more waits none full other whole E F last rest n f e (broken few x) = broken few x
+bad_more waits none full other whole E F last rest n f e (unasked status more few x) = unasked status more few x
+bad_more waits none full other whole E F last rest n f e (headless at sent more few x y) = headless at sent more few x (n y)
+bad_more waits none full other whole E F last rest n f e (no_message at sent more few x y played) =
+    no_message at sent more few x y (λ wait. played_more E F more e (played wait))
+bad_more waits none full other whole E F last rest n f e (broken_after at sent more wait few x y) = broken_after at sent more wait few x y
+bad_more waits none full other whole E F last rest n f e (too_many x) = too_many (f x)
+
+explains_more : (waits : Bool) (none full other whole : Type 0) (E F : Option Open → Head → Type 0)
     (last : List Turn) (fault : ReplayFault) (rest : List ℕ) → (none → other) → (full → whole)
-    → ((open_ : Option Open) (digest : List ℕ) → E open_ digest → F open_ digest) → Explains waits none full E last fault rest
+    → ((open_ : Option Open) (digest : Head) → E open_ digest → F open_ digest) → Explains waits none full E last fault rest
     → Explains waits other whole F last fault rest
-explains_more waits none full other whole E F last Bad rest n f e x = bad_more waits none full other whole last rest n f x
+explains_more waits none full other whole E F last Bad rest n f e x = bad_more waits none full other whole E F last rest n f e x
 explains_more waits none full other whole E F last Differs rest n f e x = x
 explains_more waits none full other whole E F last Another rest n f e x = (x.0, x.1, x.2, x.3, e x.1 x.2 x.4)
 explains_more waits none full other whole E F last ReadFailed rest n f e x = tt
@@ -90,18 +100,18 @@ explains_more waits none full other whole E F last WriteFailed rest n f e x = tt
 explains_more waits none full other whole E F last (Want r) rest n f e x = tt
 
 pub begins_explain : (left : Option (List ℕ)) (entries : List Entry) (waits : Bool)
-    (none full other whole : Type 0) (E F : Option Open → List ℕ → Type 0) (last : List Turn)
+    (none full other whole : Type 0) (E F : Option Open → Head → Type 0) (last : List Turn)
     (fault : ReplayFault)
-    → (none → other) → (full → whole) → ((open_ : Option Open) (digest : List ℕ) → E open_ digest → F open_ digest)
+    → (none → other) → (full → whole) → ((open_ : Option Open) (digest : Head) → E open_ digest → F open_ digest)
     → BeginsWith left entries (Explains waits none full E last fault)
     → BeginsWith left entries (Explains waits other whole F last fault)
 begins_explain left entries waits none full other whole E F last fault n f e begins text is =
     let x = begins text is in (x.0, x.1, explains_more waits none full other whole E F last fault x.0 n f e x.2)
 
 -- the fault of a read
-pub read_explains : (waits : Bool) (none full : Type 0) (E : Option Open → List ℕ → Type 0) (last : List Turn)
+pub read_explains : (waits : Bool) (none full : Type 0) (E : Option Open → Head → Type 0) (last : List Turn)
     (fault : Fault) (text rest : List ℕ) → FirstIs rest (Err fault)
-    → (IsBroken rest → IsBad waits none full last text)
+    → (IsBroken rest → IsBad waits none full E last text)
     → Explains waits none full E last (read_fault fault) text
 read_explains waits none full E last Cut text rest first bad = bad (inl first)
 read_explains waits none full E last Foreign text rest first bad = bad (inr first)
@@ -114,7 +124,7 @@ read_due kept failed ended left Foreign x = (x.1, refl)
 read_due kept failed ended left Read x = (x, refl)
 
 -- memory or storage is wanting
-pub wanting_explains : (waits : Bool) (none full : Type 0) (E : Option Open → List ℕ → Type 0) (last : List Turn)
+pub wanting_explains : (waits : Bool) (none full : Type 0) (E : Option Open → Head → Type 0) (last : List Turn)
     (fault : ReplayFault) (rest : List ℕ) → IsWanting fault
     → Explains waits none full E last fault rest
 wanting_explains waits none full E last fault rest x = subst (λ (f : ReplayFault). Explains waits none full E last f rest) (sym x.1) tt
@@ -124,11 +134,13 @@ pub wanting_due : (read_failed write_failed : Bool) (fault : ReplayFault) → re
 wanting_due read_failed write_failed fault read write x = subst (λ (f : ReplayFault). IsDueTo read_failed write_failed f) (sym x.1) (read, write, x.2)
 
 -- a message that was not played
-pub refuses_explains : (waits : Bool) (none full : Type 0) (E : Option Open → List ℕ → Type 0) (at : ℕ)
+pub refuses_explains : (waits : Bool) (none full : Type 0) (E : Option Open → Head → Type 0) (at : ℕ)
     (sent : List ℕ) (fault : ReplayFault) (text rest : List ℕ) → Begins text (message at sent) rest
-    → Refuses sent fault → Explains waits none full E [] fault text
-refuses_explains waits none full E at sent fault text rest begins (inl x) = subst (λ (f : ReplayFault). Explains waits none full E [] f text) (sym x.0) (no_message at sent rest refl begins x.1)
-refuses_explains waits none full E at sent fault text rest begins (inr x) = wanting_explains waits none full E [] fault text x
+    → Refuses sent fault → (waits ≡ true → fault ≡ Bad → IsPlayedFor E rest)
+    → Explains waits none full E [] fault text
+refuses_explains waits none full E at sent fault text rest begins (inl x) played =
+    subst (λ (f : ReplayFault). Explains waits none full E [] f text) (sym x.0) (no_message at sent rest refl begins x.1 (λ wait. played wait x.0))
+refuses_explains waits none full E at sent fault text rest begins (inr x) played = wanting_explains waits none full E [] fault text x
 
 pub refuses_due : (read_failed write_failed : Bool) (sent : List ℕ) (fault : ReplayFault)
     → read_failed ≡ false → write_failed ≡ false → Refuses sent fault

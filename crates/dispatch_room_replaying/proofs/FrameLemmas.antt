@@ -19,10 +19,10 @@ use Rattle.dispatch_room_replaying.specs.declared.progress.Progress.{Progress}
 use Rattle.dispatch_room_journal.specs.Records.{status_in}
 use Rattle.dispatch_room_replaying.specs.Turns.{Play, Turn, answered, tried, plays_in, plays_of, has_message, is_left_out, IsPlayed, BeginsWith}
 use Rattle.dispatch_room_replaying.specs.Faults.{Explains, IsDueTo}
-use Rattle.dispatch_room_replaying.specs.Replays.{DigestOf, Leads, LeadsElsewhere}
+use Rattle.dispatch_room_replaying.specs.Replays.{DigitsOf, Leads, LeadsElsewhere}
 use Rattle.dispatch_room_replaying.specs.Steps.{NextIs, Passes, StopsIn}
 use Rattle.dispatch_room_replaying.specs.Frames.{frame_of, frames_of, FollowIs, EachIs, AnswersTurn}
-use Rattle.dispatch_room_replaying.proofs.FaultLemmas.{begins_explain}
+use Rattle.dispatch_room_replaying.proofs.FaultLemmas.{not_both, begins_explain}
 use Rattle.dispatch_room_replaying.proofs.StepLemmas.{WasPlayed, Shows, played_stops}
 use Rattle.dispatch_room_replaying.proofs.EntryLemmas.{taken_two}
 use Rattle.dispatch_room_replaying.proofs.TurnLemmas.{one_by, two_by, consumes_begins, keeps_consumes, message_progress, Leads-after, passes_one}
@@ -36,7 +36,7 @@ pub frames_more : (a b c : Option (List ℕ)) (us ts : List Turn) → Appends a 
     → Appends b c (frames_of ts) → Appends a c (frames_of (us ++ ts))
 frames_more a b c us ts first second = subst (λ (t : List ℕ). Appends a c t) (frames_append us ts) (Appends-more a b c (frames_of us) (frames_of ts) first second)
 
-module _ (step : Step) (zone : Zone) (digest_of : DigestOf) (trusted : Type 0)
+module _ (step : Step) (zone : Zone) (digest_of : DigitsOf) (trusted : Type 0)
     (stood stands : List Terminal → Room → Type 0) (before : Option (List ℕ))
     (held holds : Option (List ℕ)) (at : ℕ) (sent told slice : List ℕ)
     (x : WasPlayed step zone trusted stood stands at sent told) (same : slice ≡ told) (is : IsEntry (message at sent)) where
@@ -82,7 +82,7 @@ module _ (step : Step) (zone : Zone) (digest_of : DigestOf) (trusted : Type 0)
       answered x.0 f.0,
       passes_one step zone digest_of trusted stood stands before after None IsPlayed (answered x.0 f.0) (message at sent ∷ answer f.0 ∷ []) (x.4, ap status_in told_same ∙ f.1) tt
           (λ i. message (x.1 i) (x.2 i) ∷ answer f.0 ∷ []) (two_by None at sent sent (answer f.0) tt is tt f.2) (taken_two before mid after (message at sent) (answer f.0) took_message f.3)
-          (leads_answered f.0) (λ never. absurd (cc)),
+          (leads_answered f.0) (λ never. absurd (cc)) (λ never. absurd (cc)),
       refl,
       refl,
       f.4,
@@ -92,7 +92,7 @@ module _ (step : Step) (zone : Zone) (digest_of : DigestOf) (trusted : Type 0)
       tried x.0,
       passes_one step zone digest_of trusted stood stands before after None IsPlayed (tried x.0) (message at sent ∷ []) x.4 tt
           (λ i. message (x.1 i) (x.2 i) ∷ []) (one_by None at sent sent tt is) (Consumes-kept before mid after (texts_of (message at sent ∷ [])) took_message f.0)
-          leads_tried (λ _. f.2),
+          leads_tried (λ _. f.2) (λ never. absurd (cc)),
       refl,
       refl,
       f.1,
@@ -100,7 +100,7 @@ module _ (step : Step) (zone : Zone) (digest_of : DigestOf) (trusted : Type 0)
     )
 
 -- what followed the answer is no entry, or another status
-pub each_follows : (step : Step) (zone : Zone) (digest_of : DigestOf) (trusted : Type 0)
+pub each_follows : (step : Step) (zone : Zone) (digest_of : DigitsOf) (trusted : Type 0)
     (stood stands : List Terminal → Room → Type 0) (before mid : Option (List ℕ)) (at : ℕ)
     (sent slice : List ℕ)
     (p : Play) (fault : ReplayFault) → p.told ≡ slice → Consumes before mid (texts_of (message at sent ∷ []))
@@ -114,7 +114,7 @@ each_follows step zone digest_of trusted stood stands before mid at sent slice p
     (λ never. absurd never) (λ never. never) (λ open_ digest never. absurd never) (follows p same))
 
 -- a message is next: it was played, and its answer was written
-module _ (step : Step) (zone : Zone) (digest_of : DigestOf) (early late : Type 0)
+module _ (step : Step) (zone : Zone) (digest_of : DigitsOf) (early late : Type 0)
     (earlier : late → early) (stood middle stands : List Terminal → Room → Type 0)
     (before mid after held holds : Option (List ℕ)) (kept : List ℕ) (looked read_failed write_failed : Bool) (at : ℕ) (layout : Layout) (next : Next) (is : next ≡ Message at layout) (old new : Progress)
     (noted : new ≡ record old { records = min (old.records + 1) (2 ^ 64 - 1); is_open = false }) where
@@ -138,6 +138,7 @@ module _ (step : Step) (zone : Zone) (digest_of : DigestOf) (early late : Type 0
           entries = x.1.entries;
           read = keeps_consumes before mid after _ y.3 x.1.read;
           unanswered = x.1.unanswered;
+          met = λ left. absurd (not_both (is_left_out x.0) x.3 left);
           leads = Leads-after step zone digest_of early late stood middle stands (x.0 ∷ []) earlier y.6 x.1.leads;
         },
         message_progress x.0 false old new x.2 x.3 y.4 noted,

@@ -1,5 +1,5 @@
 -- A journal has one replay to each room, which keeps the room's promises.
-use Rattle.std.proofs.Common.{◌≡◌, ◌∙◌, sym, ap, subst, refl, ℕ, List, [], ◌∷◌, drop, Bool, true, false}
+use Rattle.std.proofs.Common.{◌≡◌, ◌∙◌, sym, ap, subst, refl, ℕ, List, [], ◌∷◌, ◌++◌, drop, Bool, true, false}
 use Rattle.std.proofs.lemmas.Bool.{false≢true}
 use Rattle.std.specs.Prelude.{All}
 use Rattle.std.proofs.lemmas.List.Elements.{All-head, All-tail}
@@ -15,9 +15,10 @@ use Rattle.room_http.proofs.LawLemmas.{one_talk_law}
 use Rattle.room_http.proofs.TalkLemmas.{IsTalk-one}
 use Rattle.room_http.proofs.RunLemmas.{talk_run}
 use Rattle.room_http.proofs.PromiseLaws.{promises_kept}
+use Rattle.room_service.specs.declared.digests.Head.{Head}
 use Rattle.dispatch_room_journal.specs.Entries.{Entry, room, answer}
-use Rattle.dispatch_room_replaying.specs.Turns.{Play, Turn, head, answered, caught_up, tried, left_out, timed, entries_of, arrivals_of, bytes_of, IsPlay, IsTurn, IsReplayed, IsPlayed}
-use Rattle.dispatch_room_replaying.specs.Replays.{DigestOf, Answers, Does, IsReplay}
+use Rattle.dispatch_room_replaying.specs.Turns.{Play, Turn, head, answered, caught_up, tried, left_out, timed, entries_in, entries_of, is_left_out, is_unanswered, arrivals_of, bytes_of, IsPlay, IsTurn, IsReplayed, IsPlayed}
+use Rattle.dispatch_room_replaying.specs.Replays.{DigitsOf, Answers, Does, IsReplay, IsHeadOf}
 use Rattle.dispatch_room_replaying.specs.Laws.{IsOneReplay, IsOneAnswering, IsKept}
 use Rattle.dispatch_room_replaying.proofs.TurnLemmas.{talk_of}
 
@@ -41,7 +42,7 @@ waits (left_out at sent) = true
 abbrev AreAlike : Turn → Turn → Type 0
 AreAlike t u = (¬ ((is_tried t ≡ true) × (waits u ≡ true))) × (¬ ((waits t ≡ true) × (is_tried u ≡ true)))
 
-module _ (step : Step) (zone : Zone) (digest_of : DigestOf) (terminals : List Terminal) where
+module _ (step : Step) (zone : Zone) (digest_of : DigitsOf) (terminals : List Terminal) where
   -- equal bytes at equal moments, in equal rooms, are answered equally
   pub same_play : (held after other : Room) (p q : Play) → IsPlay p → IsPlay q → p.at ≡ q.at
       → p.sent ≡ q.sent
@@ -56,79 +57,99 @@ module _ (step : Step) (zone : Zone) (digest_of : DigestOf) (terminals : List Te
       (λ i. record { at = at i; sent = sent i; whole = whole i; told = same.1 i }, same.0)
 
   -- no turn begins with a status
-  no_status_first : (ts : List Turn) (status : ℕ) (more : List Entry)
-      → entries_of ts ≡ answer status ∷ more → ⊥
-  no_status_first [] status more is = cc
-  no_status_first (head digest ∷ ts) status more is = cc
-  no_status_first (answered p s ∷ ts) status more is = cc
-  no_status_first (caught_up p digest ∷ ts) status more is = cc
-  no_status_first (tried p ∷ ts) status more is = cc
-  no_status_first (left_out at sent ∷ ts) status more is = cc
+  pub no_status_first : (t : Turn) (entries : List Entry) (status : ℕ) (more : List Entry)
+      → entries_in t ++ entries ≡ answer status ∷ more → ⊥
+  no_status_first (head digest) entries status more is = cc
+  no_status_first (answered p s) entries status more is = cc
+  no_status_first (caught_up p digest) entries status more is = cc
+  no_status_first (tried p) entries status more is = cc
+  no_status_first (left_out at sent) entries status more is = cc
 
-  -- where a head comes next, the room has its digest
-  first_head : (held after : Room) (ts : List Turn) (digest : List ℕ) (more : List Entry)
-      → entries_of ts ≡ room digest ∷ more → IsReplay step zone digest_of terminals held ts after
-      → digest_of terminals held ≡ digest
-  first_head held after [] digest more is x = absurd (cc)
-  first_head held after (head d ∷ ts) digest more is x = let same : d ≡ digest = cc in x.1.1 ∙ same
-  first_head held after (answered p s ∷ ts) digest more is x = absurd (cc)
-  first_head held after (caught_up p d ∷ ts) digest more is x = absurd (cc)
-  first_head held after (tried p ∷ ts) digest more is x = absurd (cc)
-  first_head held after (left_out at sent ∷ ts) digest more is x = absurd (cc)
+  -- where a turn begins with a head, the room has its digest
+  pub first_head : (held next : Room) (t : Turn) (entries : List Entry) (digest : Head)
+      (more : List Entry) → entries_in t ++ entries ≡ room digest ∷ more
+      → Does step zone digest_of terminals held t next → IsHeadOf digest_of digest terminals held
+  first_head held next (head d) entries digest more is x = let same : d ≡ digest = cc in subst (λ (h : Head). IsHeadOf digest_of h terminals held) same x.1
+  first_head held next (answered p s) entries digest more is x = absurd (cc)
+  first_head held next (caught_up p d) entries digest more is x = absurd (cc)
+  first_head held next (tried p) entries digest more is x = absurd (cc)
+  first_head held next (left_out at sent) entries digest more is x = absurd (cc)
 
   -- no turn is without an entry
-  some_entry : (t : Turn) (ts : List Turn) → [] ≡ entries_of (t ∷ ts) → ⊥
-  some_entry (head digest) ts is = cc
-  some_entry (answered p s) ts is = cc
-  some_entry (caught_up p digest) ts is = cc
-  some_entry (tried p) ts is = cc
-  some_entry (left_out at sent) ts is = cc
+  pub some_entry : (t : Turn) (entries : List Entry) → [] ≡ entries_in t ++ entries → ⊥
+  some_entry (head digest) entries is = cc
+  some_entry (answered p s) entries is = cc
+  some_entry (caught_up p digest) entries is = cc
+  some_entry (tried p) entries is = cc
+  some_entry (left_out at sent) entries is = cc
+
+  -- no status is the first of the entries
+  abbrev pub AreUnanswered : List Entry → Type 0
+  AreUnanswered entries = (status : ℕ) (more : List Entry) → entries ≡ answer status ∷ more → ⊥
+
+  -- where a head is the first of the entries, it is the room's
+  abbrev pub AreMet : Room → List Entry → Type 0
+  AreMet held entries = (digest : Head) (more : List Entry) → entries ≡ room digest ∷ more
+      → IsHeadOf digest_of digest terminals held
+
+  -- what follows a turn, after which the room is this
+  abbrev pub Follows : Turn → Room → List Entry → Type 0
+  Follows t next entries = (is_unanswered t ≡ true → AreUnanswered entries) × (is_left_out t ≡ true → AreMet next entries)
+
+  -- the entries of turns
+  pub unanswered_turns : (ts : List Turn) → AreUnanswered (entries_of ts)
+  unanswered_turns [] status more is = cc
+  unanswered_turns (t ∷ ts) status more is = no_status_first t (entries_of ts) status more is
+
+  pub met_turns : (held after : Room) (ts : List Turn)
+      → IsReplay step zone digest_of terminals held ts after → AreMet held (entries_of ts)
+  met_turns held after [] x digest more is = absurd (cc)
+  met_turns held after (t ∷ ts) x digest more is = first_head held x.0 t (entries_of ts) digest more is x.1
 
   -- what equal entries decide of turns in equal rooms: the turns, the rooms after them, and the
   -- entries that are left
-  abbrev Decides : Turn → Turn → List Turn → List Turn → Room → Room → Type 0
-  Decides t u ts us next then = (t ≡ u) × (next ≡ then) × (entries_of ts ≡ entries_of us)
+  abbrev pub Decides : Turn → Turn → List Entry → List Entry → Room → Room → Type 0
+  Decides t u es fs next then = (t ≡ u) × (next ≡ then) × (es ≡ fs)
 
-  module _ (held next then after other : Room) (ts us : List Turn)
-      (x : IsReplay step zone digest_of terminals next ts after)
-      (y : IsReplay step zone digest_of terminals then us other) where
-    one_turn : (t u : Turn) → IsTurn t → IsTurn u → AreAlike t u
-        → entries_of (t ∷ ts) ≡ entries_of (u ∷ us) → Does step zone digest_of terminals held t next
-        → Does step zone digest_of terminals held u then → Decides t u ts us next then
-    one_turn (head g) (head h) a b alike is d e = let same : g ≡ h = cc in (ap head same, d.0 ∙ sym e.0, ap (drop 1) is)
-    one_turn (head g) (answered q r) a b alike is d e = absurd (cc)
-    one_turn (head g) (caught_up q h) a b alike is d e = absurd (cc)
-    one_turn (head g) (tried q) a b alike is d e = absurd (cc)
-    one_turn (head g) (left_out n k) a b alike is d e = absurd (cc)
-    one_turn (answered p s) (head h) a b alike is d e = absurd (cc)
-    one_turn (answered p s) (answered q r) a b alike is d e =
+  module _ (held next then : Room) (es fs : List Entry) where
+    pub one_turn : (t u : Turn) → IsTurn t → IsTurn u → AreAlike t u
+        → entries_in t ++ es ≡ entries_in u ++ fs → Follows t next es → Follows u then fs
+        → Does step zone digest_of terminals held t next
+        → Does step zone digest_of terminals held u then → Decides t u es fs next then
+    one_turn (head g) (head h) a b alike is x y d e = let same : g ≡ h = cc in (ap head same, d.0 ∙ sym e.0, ap (drop 1) is)
+    one_turn (head g) (answered q r) a b alike is x y d e = absurd (cc)
+    one_turn (head g) (caught_up q h) a b alike is x y d e = absurd (cc)
+    one_turn (head g) (tried q) a b alike is x y d e = absurd (cc)
+    one_turn (head g) (left_out n k) a b alike is x y d e = absurd (cc)
+    one_turn (answered p s) (head h) a b alike is x y d e = absurd (cc)
+    one_turn (answered p s) (answered q r) a b alike is x y d e =
         let status : s ≡ r = cc in
         let played = same_play held next then p q a.0 b.0 (cc) (cc) d e in
         (λ i. answered (played.0 i) (status i), played.1, ap (drop 2) is)
-    one_turn (answered p s) (caught_up q h) a b alike is d e = absurd (cc)
-    one_turn (answered p s) (tried q) a b alike is d e = absurd (no_status_first us s (entries_of ts) (sym (ap (drop 1) is)))
-    one_turn (answered p s) (left_out n k) a b alike is d e = absurd (no_status_first us s (entries_of ts) (sym (ap (drop 1) is)))
-    one_turn (caught_up p g) (head h) a b alike is d e = absurd (cc)
-    one_turn (caught_up p g) (answered q r) a b alike is d e = absurd (cc)
-    one_turn (caught_up p g) (caught_up q h) a b alike is d e =
+    one_turn (answered p s) (caught_up q h) a b alike is x y d e = absurd (cc)
+    one_turn (answered p s) (tried q) a b alike is x y d e = absurd (y.0 refl s es (sym (ap (drop 1) is)))
+    one_turn (answered p s) (left_out n k) a b alike is x y d e = absurd (y.0 refl s es (sym (ap (drop 1) is)))
+    one_turn (caught_up p g) (head h) a b alike is x y d e = absurd (cc)
+    one_turn (caught_up p g) (answered q r) a b alike is x y d e = absurd (cc)
+    one_turn (caught_up p g) (caught_up q h) a b alike is x y d e =
         let digest : g ≡ h = cc in
         let played = same_play held next then p q a b (cc) (cc) d.1 e.1 in
         (λ i. caught_up (played.0 i) (digest i), played.1, ap (drop 2) is)
-    one_turn (caught_up p g) (tried q) a b alike is d e = absurd (alike.1 (refl, refl))
-    one_turn (caught_up p g) (left_out n k) a b alike is d e =
-        absurd (d.0 (ap (λ o. digest_of terminals o) (sym e) ∙ first_head then other us g (entries_of ts) (sym (ap (drop 1) is)) y))
-    one_turn (tried p) (head h) a b alike is d e = absurd (cc)
-    one_turn (tried p) (answered q r) a b alike is d e = absurd (no_status_first ts r (entries_of us) (ap (drop 1) is))
-    one_turn (tried p) (caught_up q h) a b alike is d e = absurd (alike.0 (refl, refl))
-    one_turn (tried p) (tried q) a b alike is d e =
+    one_turn (caught_up p g) (tried q) a b alike is x y d e = absurd (alike.1 (refl, refl))
+    one_turn (caught_up p g) (left_out n k) a b alike is x y d e =
+        absurd (d.0 (ap (λ o. digest_of g.version terminals o) (sym e) ∙ y.1 refl g es (sym (ap (drop 1) is))))
+    one_turn (tried p) (head h) a b alike is x y d e = absurd (cc)
+    one_turn (tried p) (answered q r) a b alike is x y d e = absurd (x.0 refl r fs (ap (drop 1) is))
+    one_turn (tried p) (caught_up q h) a b alike is x y d e = absurd (alike.0 (refl, refl))
+    one_turn (tried p) (tried q) a b alike is x y d e =
         let played = same_play held next then p q a b (cc) (cc) d e in (λ i. tried (played.0 i), played.1, ap (drop 1) is)
-    one_turn (tried p) (left_out n k) a b alike is d e = absurd (alike.0 (refl, refl))
-    one_turn (left_out m l) (head h) a b alike is d e = absurd (cc)
-    one_turn (left_out m l) (answered q r) a b alike is d e = absurd (no_status_first ts r (entries_of us) (ap (drop 1) is))
-    one_turn (left_out m l) (caught_up q h) a b alike is d e =
-        absurd (e.0 (ap (λ o. digest_of terminals o) (sym d) ∙ first_head next after ts h (entries_of us) (ap (drop 1) is) x))
-    one_turn (left_out m l) (tried q) a b alike is d e = absurd (alike.1 (refl, refl))
-    one_turn (left_out m l) (left_out n k) a b alike is d e =
+    one_turn (tried p) (left_out n k) a b alike is x y d e = absurd (alike.0 (refl, refl))
+    one_turn (left_out m l) (head h) a b alike is x y d e = absurd (cc)
+    one_turn (left_out m l) (answered q r) a b alike is x y d e = absurd (x.0 refl r fs (ap (drop 1) is))
+    one_turn (left_out m l) (caught_up q h) a b alike is x y d e =
+        absurd (e.0 (ap (λ o. digest_of h.version terminals o) (sym d) ∙ x.1 refl h fs (ap (drop 1) is)))
+    one_turn (left_out m l) (tried q) a b alike is x y d e = absurd (alike.1 (refl, refl))
+    one_turn (left_out m l) (left_out n k) a b alike is x y d e =
         let at : m ≡ n = cc in
         let sent : l ≡ k = cc in
         (λ i. left_out (at i) (sent i), d ∙ sym e, ap (drop 1) is)
@@ -141,16 +162,17 @@ module _ (step : Step) (zone : Zone) (digest_of : DigestOf) (terminals : List Te
         → IsReplay step zone digest_of terminals held ts after
         → IsReplay step zone digest_of terminals held us other → (ts ≡ us) × (after ≡ other)
     one_of held [] [] a b c d is x y = (refl, x ∙ sym y)
-    one_of held [] (u ∷ us) a b c d is x y = absurd (some_entry u us is)
-    one_of held (t ∷ ts) [] a b c d is x y = absurd (some_entry t ts (sym is))
+    one_of held [] (u ∷ us) a b c d is x y = absurd (some_entry u (entries_of us) is)
+    one_of held (t ∷ ts) [] a b c d is x y = absurd (some_entry t (entries_of ts) (sym is))
     one_of held (t ∷ ts) (u ∷ us) a b c d is x y =
-        let one = one_turn held x.0 y.0 after other ts us x.2 y.2 t u (All-head IsTurn t ts a) (All-head IsTurn u us b) (alike t u (All-head Kind t ts c) (All-head Kind u us d)) is x.1 y.1 in
+        let one = one_turn held x.0 y.0 (entries_of ts) (entries_of us) t u (All-head IsTurn t ts a) (All-head IsTurn u us b) (alike t u (All-head Kind t ts c) (All-head Kind u us d)) is
+        (λ _. unanswered_turns ts, λ _. met_turns x.0 after ts x.2) (λ _. unanswered_turns us, λ _. met_turns y.0 other us y.2) x.1 y.1 in
         let rest = one_of x.0 ts us (All-tail IsTurn t ts a) (All-tail IsTurn u us b) (All-tail Kind t ts c) (All-tail Kind u us d) one.2 x.2
         (subst (λ (o : Room). IsReplay step zone digest_of terminals o us other) (sym one.1) y.2) in
         (λ i. one.0 i ∷ rest.0 i, rest.1)
 
 -- where messages wait, none is tried, and where they are tried, none waits
-replayed_alike : (t u : Turn) → IsReplayed t → IsReplayed u → AreAlike t u
+pub replayed_alike : (t u : Turn) → IsReplayed t → IsReplayed u → AreAlike t u
 replayed_alike t u a b = (λ both. no_tried t a both.0, λ both. no_tried u b both.1)
   where
     no_tried : (t : Turn) → IsReplayed t → ¬ (is_tried t ≡ true)

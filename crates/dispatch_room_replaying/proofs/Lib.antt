@@ -5,3 +5,5 @@ pub mod StepLemmas
 pub mod LawLemmas
 pub mod FrameLemmas
 pub mod RoomLaws
+pub mod WholeLaws
+pub mod KeptTurns

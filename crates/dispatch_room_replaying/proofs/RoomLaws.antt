@@ -12,12 +12,15 @@ use Rattle.room_service.specs.Rooms.{Step}
 use Rattle.room_http.specs.Arrivals.{message as arrived, refused}
 use Rattle.room_http.specs.Kept.{AreKept, AreReplies}
 use Rattle.room_http.specs.Talk.{Timed, replied}
-use Rattle.dispatch_room_journal.specs.Entries.{Entry, room, message, answer, IsEntry, text_of, texts_of}
+use Rattle.room_service.specs.declared.digests.Version.{Version}
+use Rattle.room_service.specs.declared.digests.Version.TheVariants.{First, Second}
+use Rattle.room_service.specs.declared.digests.Head.{Head}
+use Rattle.dispatch_room_journal.specs.Entries.{Entry, room, message, answer, IsEntry, text_of, texts_of, head_words}
 use Rattle.dispatch_room_journal.specs.Records.{answer_text, message_text}
 use Rattle.dispatch_room_journal.proofs.EntryLemmas.{no_end_law, one_entry_law}
 use Rattle.dispatch_room_journal.proofs.TextLemmas.{head as first_byte}
 use Rattle.dispatch_room_replaying.specs.Turns.{Play, Turn, head, answered, caught_up, tried, left_out, answers_of, entries_of, IsTurn, IsReplayed}
-use Rattle.dispatch_room_replaying.specs.Replays.{Answers, DigestOf, IsReplay}
+use Rattle.dispatch_room_replaying.specs.Replays.{Answers, DigitsOf, IsReplay}
 use Rattle.dispatch_room_replaying.specs.Laws.{IsTheRoom, answers_to_messages}
 use Rattle.dispatch_room_replaying.proofs.LawLemmas.{same_play}
 
@@ -25,7 +28,7 @@ use Rattle.dispatch_room_replaying.proofs.LawLemmas.{same_play}
 some_text : (e : Entry) (rest : List ℕ) → IsEntry e → ¬ (text_of e ++ rest ≡ [])
 some_text e rest is = (no_end_law (text_of e ++ rest) e rest (is, refl)).0
 
-same_first : (e f : Entry) (rest left : List ℕ) → IsEntry e → IsEntry f
+pub same_first : (e f : Entry) (rest left : List ℕ) → IsEntry e → IsEntry f
     → text_of e ++ rest ≡ text_of f ++ left → (e ≡ f) × (rest ≡ left)
 same_first e f rest left e_is f_is same = one_entry_law (text_of e ++ rest) e f rest left (e_is, refl) (f_is, same)
 
@@ -34,13 +37,19 @@ same_message : (at n : ℕ) (sent bytes : List ℕ) → message at sent ≡ mess
     → (at ≡ n) × (sent ≡ bytes)
 same_message at n sent bytes same = (cc, cc)
 
-no_head : (at : ℕ) (digest bytes : List ℕ) → room digest ≡ message at bytes → ⊥
+no_head : (at : ℕ) (digest : Head) (bytes : List ℕ) → room digest ≡ message at bytes → ⊥
 no_head at digest bytes same = cc
 
+-- a head begins with the same byte, whatever its version is
+head_byte : (version : Version) (digits rest : List ℕ)
+    → first_byte (((head_words version ++ digits) ++ 10 ∷ []) ++ rest) ≡ 114
+head_byte First digits rest = refl
+head_byte Second digits rest = refl
+
 -- neither a head nor a message begins as a status does
-head_no_status : (digest rest told more : List ℕ)
+head_no_status : (digest : Head) (rest told more : List ℕ)
     → text_of (room digest) ++ rest ≡ answer_text told ++ more → ⊥
-head_no_status digest rest told more same = absurd (omega (arith, ap first_byte same))
+head_no_status digest rest told more same = absurd (omega (arith, head_byte digest.version digest.digits rest, ap first_byte same))
 
 message_no_status : (at : ℕ) (sent rest told more : List ℕ)
     → text_of (message at sent) ++ rest ≡ answer_text told ++ more → ⊥
@@ -67,7 +76,7 @@ no_status_next (caught_up p digest ∷ ts) told more same = message_no_status p.
 no_status_next (tried p ∷ ts) told more same = message_no_status p.at p.sent (texts_of (entries_of ts)) told more same
 no_status_next (left_out at sent ∷ ts) told more same = message_no_status at sent (texts_of (entries_of ts)) told more same
 
-module _ (step : Step) (zone : Zone) (digest_of : DigestOf) (terminals : List Terminal) where
+module _ (step : Step) (zone : Zone) (digest_of : DigitsOf) (terminals : List Terminal) where
   -- what is shown: the room is the one that was served, and its answers are those that were given
   abbrev Same : List Timed → List (List ℕ) → Room → Room → List Turn → Type 0
   Same outs answers after other ts = (other ≡ after) × (answers_of ts ≡ answers_to_messages outs answers)

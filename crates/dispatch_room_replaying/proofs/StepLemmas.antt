@@ -10,6 +10,7 @@ use Rattle.room_service.specs.Rooms.{Step}
 use Rattle.room_service.specs.declared.digests.Miss.{Miss}
 use Rattle.room_service.specs.declared.digests.Miss.TheVariants as miss
 use Rattle.room_http.specs.Talk.{IsReplyTo}
+use Rattle.room_service.specs.declared.digests.Head.{Head}
 use Rattle.dispatch_room_journal.specs.declared.lines.Line.{Line}
 use Rattle.dispatch_room_journal.specs.declared.looks.Layout.{Layout}
 use Rattle.dispatch_room_journal.specs.declared.reading.Fault.{Fault}
@@ -17,15 +18,15 @@ use Rattle.dispatch_room_journal.specs.Entries.{Entry, room, message, answer, Is
 use Rattle.dispatch_room_journal.specs.Looks.{IsLayout}
 use Rattle.dispatch_room_journal.specs.Readings.{FirstIs, ReadsEntry}
 use Rattle.dispatch_room_replaying.specs.declared.faults.ReplayFault.{ReplayFault}
-use Rattle.dispatch_room_replaying.specs.declared.faults.ReplayFault.TheVariants.{Differs, Want}
+use Rattle.dispatch_room_replaying.specs.declared.faults.ReplayFault.TheVariants.{Bad, Differs, Want}
 use Rattle.dispatch_room_replaying.specs.declared.messages.Turned.TheVariants.{Played, LeftOut}
 use Rattle.dispatch_room_journal.specs.Records.{status_in}
 use Rattle.dispatch_room_replaying.specs.Turns.{Play, Turn, answered, caught_up, tried, left_out, timed, IsPlay, AreBy, BeginsWith}
-use Rattle.dispatch_room_replaying.specs.Faults.{read_fault, miss_fault, broken_after, Explains, IsDueTo, Refuses}
-use Rattle.dispatch_room_replaying.specs.Replays.{DigestOf, Leads, LeadsElsewhere}
-use Rattle.dispatch_room_replaying.specs.Steps.{Stays, TurnOf, Deviates, IsAstray, StopsAt, StopsIn, ComesTo, Misses, PlaysTowards, Settles, MessageIs}
+use Rattle.dispatch_room_replaying.specs.Faults.{read_fault, miss_fault, IsPlayedFor, broken_after, Explains, IsDueTo, Refuses}
+use Rattle.dispatch_room_replaying.specs.Replays.{DigitsOf, Leads, LeadsElsewhere, IsHeadOf}
+use Rattle.dispatch_room_replaying.specs.Steps.{Stays, IsAt, TurnOf, Deviates, IsAstray, IsPlayedForLine, RefusesAt, StopsAt, StopsIn, ComesTo, Misses, PlaysTowards, Settles, MessageIs}
 use Rattle.dispatch_room_replaying.proofs.FaultLemmas.{not_both, known_after, begins_one, read_explains, refuses_explains, refuses_due}
-use Rattle.dispatch_room_replaying.proofs.EntryLemmas.{layout_of_mark, taken, taken_two, no_status_front}
+use Rattle.dispatch_room_replaying.proofs.EntryLemmas.{layout_of_mark, taken, taken_two, no_status_front, head_front}
 use Rattle.dispatch_room_replaying.proofs.TurnLemmas.{one_by}
 
 -- the message was played, with this answer
@@ -38,11 +39,11 @@ WasPlayed step zone trusted stood stands at sent told =
     × stands terminals after)
 
 -- the digest of the room is this one, or it is not
-abbrev pub Tells : DigestOf → Type 0 → (List Terminal → Room → Type 0) → List ℕ → Bool → Type 0
+abbrev pub Tells : DigitsOf → Type 0 → (List Terminal → Room → Type 0) → Head → Bool → Type 0
 Tells digest_of trusted stood digest is =
-    trusted → (terminals : List Terminal) (room : Room) → stood terminals room → (IsTrue is ↔ (digest_of terminals room ≡ digest))
+    trusted → (terminals : List Terminal) (room : Room) → stood terminals room → (IsTrue is ↔ (IsHeadOf digest_of digest terminals room))
 
-module _ (step : Step) (zone : Zone) (digest_of : DigestOf) (trusted : Type 0)
+module _ (step : Step) (zone : Zone) (digest_of : DigitsOf) (trusted : Type 0)
     (stood stands : List Terminal → Room → Type 0) (at : ℕ) (sent : List ℕ) where
   pub answered_turn : (told : List ℕ) (status : ℕ)
       → WasPlayed step zone trusted stood stands at sent told → status_in told ≡ decimal status
@@ -69,7 +70,7 @@ module _ (step : Step) (zone : Zone) (digest_of : DigestOf) (trusted : Type 0)
       inr (x.0, x.1, x.2, x.4, leads_tried told x, (refl, status, refl, λ same. other (ap status_in (sym x.3) ∙ same)))
 
   -- the room did not come to a digest
-  pub missed : (digest : List ℕ) (m : Miss) (fault : ReplayFault)
+  pub missed : (digest : Head) (m : Miss) (fault : ReplayFault)
       → fault ≡ miss_fault m → IsMiss m → Stays trusted stood stands
       → (m ≡ miss.Another → Misses step zone digest_of trusted stood stands at sent digest)
       → PlaysTowards step zone digest_of trusted stood stands {A = Unit {0}} at sent digest (Err fault)
@@ -77,6 +78,13 @@ module _ (step : Step) (zone : Zone) (digest_of : DigestOf) (trusted : Type 0)
   missed digest (miss.Want r) fault is (inl never) stays misses = absurd (cc)
   missed digest (miss.Want r) fault is (inr want) stays misses =
       let same : r ≡ want.0 = cc in (stays, inl (inr (want.0, is ∙ ap Want same, want.2)))
+
+  -- a message is not played that is to be played for a line
+  pub refuses_at : (line : Line) (fault : ReplayFault)
+      → IsPlayedForLine step zone digest_of trusted stood stands line → Refuses sent fault
+      → RefusesAt step zone digest_of trusted stood stands sent line fault
+  refuses_at line fault played (inl bad) = inr (bad.0, bad.1, played)
+  refuses_at line fault played (inr want) = inl want
 
   -- a line is that of its entry
   pub settles_line : (line other : Line) (result : Result Bool ReplayFault) → line ≡ other
@@ -97,10 +105,10 @@ module _ (step : Step) (zone : Zone) (digest_of : DigestOf) (trusted : Type 0)
   }
 
 -- what holds at a time, and after a look at the digest
-module _ (step : Step) (zone : Zone) (digest_of : DigestOf) (early late : Type 0)
+module _ (step : Step) (zone : Zone) (digest_of : DigitsOf) (early late : Type 0)
     (earlier : late → early) (stood mid stands : List Terminal → Room → Type 0) (at : ℕ)
     (sent : List ℕ) where
-  pub caught_turn : (digest : List ℕ) (is : Bool) → Stays early stood mid
+  pub caught_turn : (digest : Head) (is : Bool) → Stays early stood mid
       → Tells digest_of early stood digest is → is ≡ false
       → ComesTo step zone digest_of late mid stands at sent digest
       → TurnOf step zone digest_of late stood stands at sent (room digest ∷ []) false
@@ -113,17 +121,27 @@ module _ (step : Step) (zone : Zone) (digest_of : DigestOf) (early late : Type 0
     leaves = refl;
     leads = λ trust terminals held stood_for.
         let y = x.4 trust terminals held (stays (earlier trust) terminals held stood_for) in
-        let differs : ¬ (digest_of terminals held ≡ digest) = λ same. not_both is said ((tells (earlier trust) terminals held stood_for).1 same) in
+        let differs : ¬ (IsHeadOf digest_of digest terminals held) = λ same. not_both is said ((tells (earlier trust) terminals held stood_for).1 same) in
         (y.0, (y.0, (differs, y.1, y.2), refl), y.3);
   }
 
   -- the message was not done, and what the room has then is as it was
-  pub stops_open : (digest : List ℕ) (is : Bool) (fault : ReplayFault)
+  pub stops_open : (digest : Head) (is : Bool) (fault : ReplayFault)
       → Stays early stood mid → Tells digest_of early stood digest is → is ≡ false
       → PlaysTowards step zone digest_of late mid stands {A = Unit {0}} at sent digest (Err fault)
       → StopsAt step zone digest_of late stood stands at sent (line_of (room digest)) fault
   stops_open digest is fault stays tells said (still, inl refuses) =
-      inl (λ trust terminals held stood_for. still trust terminals held (stays (earlier trust) terminals held stood_for), inl refuses)
+      inl (
+        λ trust terminals held stood_for. still trust terminals held (stays (earlier trust) terminals held stood_for),
+        inl (refuses_at step zone digest_of late stood stands at sent (line_of (room digest)) fault (inr (
+          digest,
+          refl,
+          λ trust terminals held stood_for.
+              let now = stays (earlier trust) terminals held stood_for in
+              let differs : ¬ (IsHeadOf digest_of digest terminals held) = λ same. not_both is said ((tells (earlier trust) terminals held stood_for).1 same) in
+              (held, refl, differs, tt, still trust terminals held now),
+        )) refuses),
+      )
   stops_open digest is fault stays tells said (still, inr astray) =
       inl (
         λ trust terminals held stood_for. still trust terminals held (stays (earlier trust) terminals held stood_for),
@@ -133,18 +151,18 @@ module _ (step : Step) (zone : Zone) (digest_of : DigestOf) (early late : Type 0
           refl,
           λ trust terminals held stood_for.
               let now = stays (earlier trust) terminals held stood_for in
-              let differs : ¬ (digest_of terminals held ≡ digest) = λ same. not_both is said ((tells (earlier trust) terminals held stood_for).1 same) in
+              let differs : ¬ (IsHeadOf digest_of digest terminals held) = λ same. not_both is said ((tells (earlier trust) terminals held stood_for).1 same) in
               (held, refl, differs, astray.1 trust terminals held now differs, still trust terminals held now),
         ),
       )
 
 -- what follows a message explains why it stopped the replay
-abbrev pub Shows : Bool → Step → Zone → DigestOf → Type 0 → (List Terminal → Room → Type 0)
+abbrev pub Shows : Bool → Step → Zone → DigitsOf → Type 0 → (List Terminal → Room → Type 0)
     → (List Terminal → Room → Type 0) → ReplayFault → List Turn → List ℕ → Type 0
 Shows waits step zone digest_of trusted stood stands fault last = Explains waits (true ≡ false) ⊥ (LeadsElsewhere step zone digest_of trusted stood stands last) last fault
 
 -- why a message stopped the replay
-module _ (waits : Bool) (step : Step) (zone : Zone) (digest_of : DigestOf) (trusted : Type 0)
+module _ (waits : Bool) (step : Step) (zone : Zone) (digest_of : DigitsOf) (trusted : Type 0)
     (stood stands : List Terminal → Room → Type 0) (before : Option (List ℕ)) (at : ℕ)
     (sent : List ℕ)
     (is : IsEntry (message at sent)) (read_failed write_failed : Bool) where
@@ -179,13 +197,16 @@ module _ (waits : Bool) (step : Step) (zone : Zone) (digest_of : DigestOf) (trus
       (texts_of (message at sent ∷ []))) where
     -- it was not played, since its bytes are no message, or memory or storage is wanting
     pub refused_stops : (fault : ReplayFault) → read_failed ≡ false → write_failed ≡ false
-        → Stays trusted stood stands → Refuses sent fault → Stops fault []
-    refused_stops fault read write stays refuses =
+        → Stays trusted stood stands → Refuses sent fault
+        → ((rest : List ℕ) → mid ≡ Some rest → waits ≡ true → fault ≡ Bad
+        → IsPlayedFor (LeadsElsewhere step zone digest_of trusted stood stands []) rest)
+        → Stops fault []
+    refused_stops fault read write stays refuses played =
         unplayed_stops fault stays
         (λ text known.
         let x = known_after before mid (texts_of (message at sent ∷ [])) text took known in
         let begins = begins_one (message at sent) text x.0 is x.2 in
-        (text, refl, refuses_explains waits (true ≡ false) ⊥ (LeadsElsewhere step zone digest_of trusted stood stands []) at sent fault text x.0 begins refuses))
+        (text, refl, refuses_explains waits (true ≡ false) ⊥ (LeadsElsewhere step zone digest_of trusted stood stands []) at sent fault text x.0 begins refuses (played x.0 x.1)))
         (refuses_due read_failed write_failed sent fault read write refuses)
 
     -- it was not played, since what follows it was not read
@@ -235,12 +256,35 @@ module _ (waits : Bool) (step : Step) (zone : Zone) (digest_of : DigestOf) (trus
         subst (λ (f : ReplayFault). Shows waits step zone digest_of trusted stood stands f (tried p ∷ []) text) (sym x.0)
         (p, x.1, drop layout.end text, refl, (layout_of_mark text layout e (answer x.1) l tt x.2).begins, x.3)
 
+    -- what stands after it is what it is played for
+    played_for : (layout : Layout)
+        → ((text : List ℕ) → mid ≡ Some text → FirstIs text (Ok (Some layout)))
+        → IsPlayedForLine step zone digest_of trusted stood stands layout.line
+        → (rest : List ℕ) → mid ≡ Some rest
+        → IsPlayedFor (LeadsElsewhere step zone digest_of trusted stood stands []) rest
+    played_for layout first (inl status) rest known =
+        let found = first rest known in
+        inl (status.0, drop layout.end rest, (layout_of_mark rest layout found.0 (answer status.0) found.1 tt status.1).begins)
+    played_for layout first (inr head) rest known =
+        let found = first rest known in
+        inr (head.0, drop layout.end rest, (layout_of_mark rest layout found.0 (room head.0) found.1 tt head.1).begins, head.2)
+
+    refused_at : (layout : Layout) (fault : ReplayFault)
+        → ((text : List ℕ) → mid ≡ Some text → FirstIs text (Ok (Some layout)))
+        → read_failed ≡ false → write_failed ≡ false → Stays trusted stood stands
+        → RefusesAt step zone digest_of trusted stood stands sent layout.line fault
+        → Stops fault []
+    refused_at layout fault first read write stays (inl want) =
+        refused_stops fault read write stays (inr want) (λ rest known wait bad. absurd (cc (want.1, bad)))
+    refused_at layout fault first read write stays (inr x) =
+        refused_stops fault read write stays (inl (x.0, x.1)) (λ rest known wait bad. played_for layout first x.2 rest known)
+
     settled_stops : (layout : Layout) (fault : ReplayFault) → waits ≡ true
         → ((text : List ℕ) → mid ≡ Some text → FirstIs text (Ok (Some layout)))
         → read_failed ≡ false → write_failed ≡ false
         → StopsAt step zone digest_of trusted stood stands at sent layout.line fault
         → (last : List Turn) × Stops fault last
-    settled_stops layout fault wait first read write (inl (stays, inl x)) = ([], refused_stops fault read write stays x)
+    settled_stops layout fault wait first read write (inl (stays, inl x)) = ([], refused_at layout fault first read write stays x)
     settled_stops layout fault wait first read write (inl (stays, inr x)) = ([], astray_stops layout fault wait first read write stays x)
     settled_stops layout fault wait first read write (inr x) = (
       tried x.0 ∷ [],
@@ -259,7 +303,7 @@ copied kept layout at sent copy x same = subst (λ (t : List ℕ). IsLayout kept
 
 -- a message was copied and taken, and then the next entry was read
 module _ {R : Type 0} (left : R → Option (List ℕ)) (has_failed has_ended : R → Bool) (old new : R)
-    (step : Step) (zone : Zone) (digest_of : DigestOf) (trusted : Type 0)
+    (step : Step) (zone : Zone) (digest_of : DigitsOf) (trusted : Type 0)
     (stood stands : List Terminal → Room → Type 0) (kept mid ahead : List ℕ) (at : ℕ) (layout next : Layout) (sent copy : List ℕ) (is : IsLayout kept layout (message at sent)) (same : copy ≡ sent)
     (gone : mid ≡ drop layout.end kept) (found : Option Layout) (some : found ≡ Some next) (came : ReadsEntry left has_failed has_ended old new mid ahead (Ok found)) where
   front : IsLayout kept layout (message at copy)
@@ -293,7 +337,15 @@ module _ {R : Type 0} (left : R → Option (List ℕ)) (has_failed has_ended : R
       → MessageIs step zone digest_of trusted stood stands (prepend_known kept (left old))
       (prepend_known ahead (left new)) (has_failed new) at (Ok LeftOut)
   settled_left takes false_is x =
-      let y = subst Settled false_is x in (copy, y.0, front.begins.0, took_one, read.says.1, no_status_front (left new) ahead next read.says.0.0 read.says.0.1 y.1)
+      let y = subst Settled false_is x in (
+        copy,
+        y.0,
+        front.begins.0,
+        took_one,
+        read.says.1,
+        no_status_front (left new) ahead next read.says.0.0 read.says.0.1 y.1,
+        head_front (IsAt digest_of trusted stood) (left new) ahead next read.says.0.0 read.says.0.1 y.2,
+      )
 
   pub settled_fault : (fault : ReplayFault)
       → StopsAt step zone digest_of trusted stood stands at copy next.line fault

@@ -13,6 +13,7 @@ use Rattle.room_model.specs.Room.{Room}
 use Rattle.room_http_time.specs.declared.zones.Zone.{Zone}
 use Rattle.room_service.specs.Rooms.{Step}
 use Rattle.room_http.specs.Talk.{IsTalk}
+use Rattle.room_service.specs.declared.digests.Head.{Head as RoomHead}
 use Rattle.dispatch_room_journal.specs.declared.looks.Layout.{Layout}
 use Rattle.dispatch_room_journal.specs.Entries.{Entry, room, message, answer, IsEntry, text_of, texts_of}
 use Rattle.dispatch_room_replaying.specs.declared.entries.Next.{Next}
@@ -26,9 +27,10 @@ use Rattle.dispatch_room_replaying.specs.declared.progress.Progress.{Progress}
 use Rattle.dispatch_room_replaying.specs.Turns.{Open, Play, Turn, head, answered, caught_up, tried, left_out, entries_in, entries_of, arrivals_of, bytes_of, has_message, is_left_out, is_unanswered}
 use Rattle.dispatch_room_replaying.specs.Turns.{ends_open, ends_unanswered, IsPlay, IsTurn, IsReplayed, IsBy, AreBy, IsBegun, StartsBy, HasNoStatus, BeginsWith, EndsAt, AreTurns}
 use Rattle.dispatch_room_replaying.specs.Faults.{too_many, Explains, IsDueTo}
-use Rattle.dispatch_room_replaying.specs.Replays.{DigestOf, IsReplay, Leads, LeadsElsewhere, LeadsTalking, StopsAfter, WouldMiss}
-use Rattle.dispatch_room_replaying.specs.Steps.{Stays, IsMark, TurnOf, MessageIs, IsElsewhere, NextIs, IsProgress, Progresses, Passes, StopsIn, TakesTurn}
-use Rattle.dispatch_room_replaying.proofs.FaultLemmas.{begins_explain}
+use Rattle.dispatch_room_replaying.specs.Replays.{DigitsOf, IsReplay, Leads, LeadsElsewhere, LeadsTalking, MeetsHead, StopsAfter, WouldMiss}
+use Rattle.dispatch_room_replaying.specs.Steps.{Stays, HasItsHead, IsMark, TurnOf, MessageIs, IsElsewhere, NextIs, IsProgress, Progresses, Passes, StopsIn, TakesTurn}
+use Rattle.dispatch_room_replaying.proofs.FaultLemmas.{not_both, begins_explain}
+use Rattle.dispatch_room_replaying.proofs.EntryLemmas.{begins_more}
 
 -- the last turn
 ends_open-snoc : (us : List Turn) (t : Turn) → ends_open (us ++ t ∷ []) ≡ is_left_out t
@@ -42,6 +44,12 @@ ends_unanswered-append [] ts one = refl
 ends_unanswered-append (u ∷ []) [] one = absurd (omega arith)
 ends_unanswered-append (u ∷ []) (t ∷ ts) one = refl
 ends_unanswered-append (u ∷ v ∷ us) ts one = ends_unanswered-append (v ∷ us) ts one
+
+ends_open-append : (us ts : List Turn) → length ts ≡ 1 → ends_open (us ++ ts) ≡ ends_open ts
+ends_open-append [] ts one = refl
+ends_open-append (u ∷ []) [] one = absurd (omega arith)
+ends_open-append (u ∷ []) (t ∷ ts) one = refl
+ends_open-append (u ∷ v ∷ us) ts one = ends_open-append (v ∷ us) ts one
 
 -- a turn of a replay that has a message, and no entry after it, leaves it out
 replayed_answered : (t : Turn) → IsReplayed t → is_left_out t ≡ false → is_unanswered t ≡ true → ⊥
@@ -66,7 +74,7 @@ none_begun : (b : Bool) (us : List Turn) → StartsBy b us → (us ++ [] ≡ [])
 none_begun true us x = inr (begun-append us [] x)
 none_begun false us x = inl (append-nil us ∙ x)
 
-head_begins : (b : Bool) (us : List Turn) (digest : List ℕ) → StartsBy b us
+head_begins : (b : Bool) (us : List Turn) (digest : RoomHead) → StartsBy b us
     → IsBegun (us ++ head digest ∷ [])
 head_begins true us digest x = begun-append us (head digest ∷ []) x
 head_begins false us digest x = (digest, [], ap (λ l. l ++ head digest ∷ []) x)
@@ -83,7 +91,7 @@ new_progress p is = record {
   begun = subst (λ b. StartsBy b []) (sym (ap (λ q. q.is_begun) is)) refl;
 }
 
-head_progress : (digest : List ℕ) (old new : Progress)
+head_progress : (digest : RoomHead) (old new : Progress)
     → new ≡ record old { is_open = false; is_begun = true } → Progresses old new (head digest ∷ [])
 head_progress digest old new is us x = record {
   records = ap (λ p. p.records) is ∙ x.records ∙ ap (λ n. min n (2 ^ 64 - 1)) (sym (counted us));
@@ -185,11 +193,11 @@ pub two_by : (until : Option ℕ) (at : ℕ) (sent other : List ℕ) (e : Entry)
 two_by until at sent other e by is mark e_is =
     All-cons (IsIn until) (message at other) (e ∷ []) (is, message_by until at sent other by) (all_one (IsIn until) e (e_is, mark_by until e mark))
 
-head_by : (until : Option ℕ) (digest : List ℕ) → IsEntry (room digest)
+head_by : (until : Option ℕ) (digest : RoomHead) → IsEntry (room digest)
     → AreBy until (room digest ∷ [])
 head_by until digest is = all_one (IsIn until) (room digest) (is, mark_by until (room digest) tt)
 
-module _ (step : Step) (zone : Zone) (digest_of : DigestOf) where
+module _ (step : Step) (zone : Zone) (digest_of : DigitsOf) where
   -- what holds before a look at the room
   pub Leads-after : (early late : Type 0) (stood mid stands : List Terminal → Room → Type 0)
       (ts : List Turn) → (late → early) → Stays early stood mid
@@ -207,6 +215,7 @@ module _ (step : Step) (zone : Zone) (digest_of : DigestOf) where
       entries = All-nil (IsIn until);
       read = keeps_nothing before after same;
       unanswered = λ never. absurd (cc);
+      met = λ never. absurd (cc);
       leads = λ trust terminals held stood_for. (held, refl, stays trust terminals held stood_for);
     }
 
@@ -214,42 +223,45 @@ module _ (step : Step) (zone : Zone) (digest_of : DigestOf) where
         → entries_in t ≡ entries → AreBy until entries → Consumes before after (texts_of entries)
         → Leads step zone digest_of trusted stood stands (t ∷ [])
         → (is_unanswered t ≡ true → BeginsWith after [] HasNoStatus)
+        → (is_left_out t ≡ true
+        → BeginsWith after [] (MeetsHead step zone digest_of trusted stood (t ∷ [])))
         → Passes step zone digest_of trusted stood stands before after until Kind (t ∷ [])
-    passes_one Kind t entries is kind same by read leads unanswered =
+    passes_one Kind t entries is kind same by read leads unanswered met =
         let all : entries ≡ entries_of (t ∷ []) = sym same ∙ sym (append-nil (entries_in t)) in record {
           turns = all_one IsTurn t is;
           kinds = all_one Kind t kind;
           entries = subst (λ (l : List Entry). AreBy until l) all by;
           read = subst (λ (l : List Entry). Consumes before after (texts_of l)) all read;
           unanswered = unanswered;
+          met = met;
           leads = leads;
         }
 
 -- a head is next
-module _ (step : Step) (zone : Zone) (digest_of : DigestOf) (trusted : Type 0)
+module _ (step : Step) (zone : Zone) (digest_of : DigitsOf) (trusted : Type 0)
     (stood stands : List Terminal → Room → Type 0) (before after : Option (List ℕ))
     (until : Option ℕ) (Kind : Turn → Type 0)
-    (kind : (digest : List ℕ) → Kind (head digest)) (failed : Bool) (kept : List ℕ) (old new : Progress) (noted : new ≡ record old { is_open = false; is_begun = true }) (next : Next) (is : next ≡ Head) where
+    (kind : (digest : RoomHead) → Kind (head digest)) (failed : Bool) (kept : List ℕ) (old new : Progress) (noted : new ≡ record old { is_open = false; is_begun = true }) (next : Next) (is : next ≡ Head) where
   pub head_turn : NextIs digest_of trusted stood stands before after failed until old.is_begun kept
       (Ok next)
-      → (digest : List ℕ) × Passes step zone digest_of trusted stood stands before after until Kind
+      → (digest : RoomHead) × Passes step zone digest_of trusted stood stands before after until Kind
       (head digest ∷ []) × Progresses old new (head digest ∷ []) × (failed ≡ false)
   head_turn found = go (subst (λ (n : Next). NextIs digest_of trusted stood stands before after failed until old.is_begun kept (Ok n)) is found)
     where
       go : NextIs digest_of trusted stood stands before after failed until old.is_begun kept
           (Ok Head)
-          → (digest : List ℕ) × Passes step zone digest_of trusted stood stands before after until
+          → (digest : RoomHead) × Passes step zone digest_of trusted stood stands before after until
           Kind (head digest ∷ []) × Progresses old new (head digest ∷ []) × (failed ≡ false)
       go x = (
         x.0,
         passes_one step zone digest_of trusted stood stands before after until Kind (head x.0) (room x.0 ∷ []) tt (kind x.0) refl (head_by until x.0 x.1) x.2
-            (λ trust terminals held stood_for. let y = x.4 trust terminals held stood_for in (held, (held, (refl, y.0), refl), y.1)) (λ never. absurd (cc)),
+            (λ trust terminals held stood_for. let y = x.4 trust terminals held stood_for in (held, (held, (refl, y.0), refl), y.1)) (λ never. absurd (cc)) (λ never. absurd (cc)),
         head_progress x.0 old new noted,
         x.3,
       )
 
 -- what stood next stopped it
-module _ (waits : Bool) (step : Step) (zone : Zone) (digest_of : DigestOf) (trusted : Type 0)
+module _ (waits : Bool) (step : Step) (zone : Zone) (digest_of : DigitsOf) (trusted : Type 0)
     (stood stands : List Terminal → Room → Type 0) (before : Option (List ℕ))
     (until : Option ℕ) where
   pub next_stops : (is_begun : Bool) (fault : ReplayFault) (read_failed write_failed : Bool)
@@ -268,7 +280,7 @@ module _ (waits : Bool) (step : Step) (zone : Zone) (digest_of : DigestOf) (trus
   }
 
 -- a message that is next stopped it
-module _ (waits : Bool) (step : Step) (zone : Zone) (digest_of : DigestOf) (early late : Type 0)
+module _ (waits : Bool) (step : Step) (zone : Zone) (digest_of : DigitsOf) (early late : Type 0)
     (earlier : late → early) (stood mid stands : List Terminal → Room → Type 0)
     (a b : Option (List ℕ)) (until : Option ℕ) (at : ℕ) (sent : List ℕ) (stays : Stays early stood mid) (same : Keeps a b) (by : IsBy until (message at sent)) where
   few_turn : (is_begun : Bool) (last : List Turn) → is_begun ≡ true
@@ -308,8 +320,18 @@ goes_on Played = true
 goes_on LeftOut = true
 goes_on Last = false
 
+-- where a message is left out, the room stays
+left_replay : (step : Step) (zone : Zone) (digest_of : DigitsOf) (terminals : List Terminal)
+    (held : Room) (t : Turn) → is_left_out t ≡ true
+    → IsReplay step zone digest_of terminals held (t ∷ []) held
+left_replay step zone digest_of terminals held (head digest) left = absurd (cc)
+left_replay step zone digest_of terminals held (answered p status) left = absurd (cc)
+left_replay step zone digest_of terminals held (caught_up p digest) left = absurd (cc)
+left_replay step zone digest_of terminals held (tried p) left = absurd (cc)
+left_replay step zone digest_of terminals held (left_out at sent) left = (held, refl, refl)
+
 -- a message is next, and it stopped the replay, or this became of it
-module _ (step : Step) (zone : Zone) (digest_of : DigestOf) (early late : Type 0)
+module _ (step : Step) (zone : Zone) (digest_of : DigitsOf) (early late : Type 0)
     (earlier : late → early) (stood mid stands : List Terminal → Room → Type 0)
     (a b : Option (List ℕ)) (until : Option ℕ) (kept : List ℕ) (looked : Bool) (at : ℕ) (layout : Layout) (next : Next) (is : next ≡ Message at layout) (old : Progress)
     (x : NextIs digest_of early stood mid a b looked until old.is_begun kept (Ok next)) where
@@ -327,22 +349,35 @@ module _ (step : Step) (zone : Zone) (digest_of : DigestOf) (early late : Type 0
       turn_stops waits step zone digest_of early late earlier stood mid stands a b until at front.0 front.6 front.3 front.2 old.is_begun fault read_failed write_failed last front.4 y
 
   module _ (c : Option (List ℕ)) (failed : Bool) (new : Progress) where
+    left_meets : (t : Turn) → is_left_out t ≡ true → (rest : List ℕ)
+        → HasItsHead digest_of late mid rest
+        → MeetsHead step zone digest_of late stood (t ∷ []) rest
+    left_meets t left rest met digest more begins trust terminals held stood_for = (
+      held,
+      left_replay step zone digest_of terminals held t left,
+      met digest more begins trust terminals held (front.6 (earlier trust) terminals held stood_for),
+    )
+
     one_passes : (sent : List ℕ) (taken : List Entry) (left : Bool)
         (t : TurnOf step zone digest_of late mid stands at sent taken left)
         → AreBy until (message at sent ∷ taken)
         → Consumes b c (texts_of (message at sent ∷ taken))
         → (is_unanswered t.turn ≡ true → BeginsWith c [] HasNoStatus)
+        → (is_left_out t.turn ≡ true → BeginsWith c [] (HasItsHead digest_of late mid))
         → Passes step zone digest_of late stood stands a c until IsReplayed (t.turn ∷ [])
-    one_passes sent taken left t by took unanswered =
+    one_passes sent taken left t by took unanswered met =
         passes_one step zone digest_of late stood stands a c until IsReplayed t.turn (message at sent ∷ taken) t.is t.replayed t.entries by
         (keeps_consumes a b c (texts_of (message at sent ∷ taken)) front.3 took)
         (Leads-after step zone digest_of early late stood mid stands (t.turn ∷ []) earlier front.6 t.leads) unanswered
+        (λ left. begins_more c [] (HasItsHead digest_of late mid) (MeetsHead step zone digest_of late stood (t.turn ∷ [])) (left_meets t.turn left) (met left))
 
     left_passes : (sent : List ℕ) (t : TurnOf step zone digest_of late mid stands at sent [] true)
         → IsEntry (message at sent) → Consumes b c (texts_of (message at sent ∷ []))
-        → BeginsWith c [] HasNoStatus → Passes step zone digest_of late stood stands a c until
-        IsReplayed (t.turn ∷ [])
-    left_passes sent t entry took none = one_passes sent [] true t (one_by until at front.0 sent front.2 entry) took (λ _. none)
+        → BeginsWith c [] HasNoStatus
+        → BeginsWith c [] (HasItsHead digest_of late mid)
+        → Passes step zone digest_of late stood stands a c until IsReplayed (t.turn ∷ [])
+    left_passes sent t entry took none met =
+        one_passes sent [] true t (one_by until at front.0 sent front.2 entry) took (λ _. none) (λ _. met)
 
     pub takes_message : (turned : Turned) (r : Turned) → r ≡ turned
         → MessageIs step zone digest_of late mid stands b c failed at (Ok r)
@@ -362,20 +397,21 @@ module _ (step : Step) (zone : Zone) (digest_of : DigestOf) (early late : Type 0
             (Ok (goes_on turned))
         go Played y noted = (
           y.3.turn ∷ [],
-          one_passes y.0 (y.1 ∷ []) false y.3 (two_by until at front.0 y.0 y.1 front.2 y.4 y.2 y.5) y.6 (λ ends. absurd (replayed_answered y.3.turn y.3.replayed y.3.leaves ends)),
+          one_passes y.0 (y.1 ∷ []) false y.3 (two_by until at front.0 y.0 y.1 front.2 y.4 y.2 y.5) y.6
+              (λ ends. absurd (replayed_answered y.3.turn y.3.replayed y.3.leaves ends)) (λ left. absurd (not_both (is_left_out y.3.turn) y.3.leaves left)),
           message_progress y.3.turn false old new y.3.counts y.3.leaves front.4 noted,
           λ _. (y.7, refl),
           λ never. absurd (cc),
         )
         go LeftOut y noted = (
           y.1.turn ∷ [],
-          left_passes y.0 y.1 y.2 y.3 y.5,
+          left_passes y.0 y.1 y.2 y.3 y.5 y.6,
           message_progress y.1.turn true old new y.1.counts y.1.leaves front.4 noted,
           λ _. (y.4, refl),
           λ never. absurd (cc),
         )
         go Last (y, end) noted =
-            let passes = left_passes y.0 y.1 y.2 y.3 y.5 in (
+            let passes = left_passes y.0 y.1 y.2 y.3 y.5 y.6 in (
               y.1.turn ∷ [],
               passes,
               message_progress y.1.turn true old new y.1.counts y.1.leaves front.4 noted,
@@ -383,8 +419,8 @@ module _ (step : Step) (zone : Zone) (digest_of : DigestOf) (early late : Type 0
               λ _. consumes_all a c (entries_of (y.1.turn ∷ [])) until passes.read end,
             )
 
-module _ (step : Step) (zone : Zone) (digest_of : DigestOf) (terminals : List Terminal) where
-  IsReplay-append : (held mid after : Room) (us ts : List Turn)
+module _ (step : Step) (zone : Zone) (digest_of : DigitsOf) (terminals : List Terminal) where
+  pub IsReplay-append : (held mid after : Room) (us ts : List Turn)
       → IsReplay step zone digest_of terminals held us mid
       → IsReplay step zone digest_of terminals mid ts after
       → IsReplay step zone digest_of terminals held (us ++ ts) after
@@ -404,7 +440,7 @@ module _ (step : Step) (zone : Zone) (digest_of : DigestOf) (terminals : List Te
   talk_of held (left_out at sent ∷ ts) after x =
       subst (λ (r : Room). IsTalk step zone terminals r (arrivals_of ts) after (bytes_of ts)) x.1 (talk_of x.0 ts after x.2)
 
-module _ (step : Step) (zone : Zone) (digest_of : DigestOf) (early late : Type 0)
+module _ (step : Step) (zone : Zone) (digest_of : DigitsOf) (early late : Type 0)
     (earlier : late → early) (stood mid stands : List Terminal → Room → Type 0)
     (us ts : List Turn) where
   pub Leads-append : Leads step zone digest_of early stood mid us
@@ -415,7 +451,7 @@ module _ (step : Step) (zone : Zone) (digest_of : DigestOf) (early late : Type 0
       let y = second trust terminals x.0 x.2 in
       (y.0, IsReplay-append step zone digest_of terminals held x.0 y.0 us ts x.1 y.1, y.2)
 
-  Elsewhere-append : (open_ : Option Open) (digest : List ℕ)
+  Elsewhere-append : (open_ : Option Open) (digest : RoomHead)
       → Leads step zone digest_of early stood mid us
       → LeadsElsewhere step zone digest_of late mid stands ts open_ digest
       → LeadsElsewhere step zone digest_of late stood stands (us ++ ts) open_ digest
@@ -423,6 +459,14 @@ module _ (step : Step) (zone : Zone) (digest_of : DigestOf) (early late : Type 0
       let x = first (earlier trust) terminals held stood_for in
       let y = second trust terminals x.0 x.2 in
       (y.0, IsReplay-append step zone digest_of terminals held x.0 y.0 us ts x.1 y.1, y.2, y.3, y.4)
+
+  meets_append : (rest : List ℕ) → Leads step zone digest_of early stood mid us
+      → MeetsHead step zone digest_of late mid ts rest
+      → MeetsHead step zone digest_of late stood (us ++ ts) rest
+  meets_append rest first met digest more begins trust terminals held stood_for =
+      let x = first (earlier trust) terminals held stood_for in
+      let y = met digest more begins trust terminals x.0 x.2 in
+      (y.0, IsReplay-append step zone digest_of terminals held x.0 y.0 us ts x.1 y.1, y.2)
 
   pub Talks-append : Leads step zone digest_of early stood mid us
       → Leads step zone digest_of late mid stands ts
@@ -446,6 +490,8 @@ module _ (step : Step) (zone : Zone) (digest_of : DigestOf) (early late : Type 0
       read = subst (λ (l : List Entry). Consumes a c (texts_of l)) entries_append
           (subst (λ (t : List ℕ). Consumes a c t) (sym (flat_map-append text_of (entries_of us) (entries_of ts))) (Consumes-trans a b c _ _ first.read second.read));
       unanswered = λ ends. second.unanswered (sym (ends_unanswered-append us ts one) ∙ ends);
+      met = λ ends. begins_more c [] (MeetsHead step zone digest_of late mid ts) (MeetsHead step zone digest_of late stood (us ++ ts)) (λ rest. meets_append rest first.leads)
+          (second.met (sym (ends_open-append us ts one) ∙ ends));
       leads = Leads-append first.leads second.leads;
     }
 
@@ -497,6 +543,10 @@ module _ (step : Step) (zone : Zone) (digest_of : DigestOf) (early late : Type 0
             turns = are_turns _ turns entries begins begun;
             unanswered = λ ends. subst (λ (l : List Entry). BeginsWith a l HasNoStatus) (append-nil (entries_of us))
                 (consumes_begins a b (entries_of us) [] HasNoStatus first.read (first.unanswered ends));
+            met = λ ends. subst (λ (l : List Entry). BeginsWith a l (MeetsHead step zone digest_of late stood us)) (append-nil (entries_of us))
+                (consumes_begins a b (entries_of us) [] (MeetsHead step zone digest_of late stood us) first.read
+                (begins_more b [] (MeetsHead step zone digest_of early stood us) (MeetsHead step zone digest_of late stood us)
+                (λ rest met digest more begins trust. met digest more begins (earlier trust)) (first.met ends)));
             leads = Talks-append first.leads leads;
             due = due;
             number = number;
@@ -527,7 +577,7 @@ module _ (step : Step) (zone : Zone) (digest_of : DigestOf) (early late : Type 0
               begins (inr (begun-append us ts (begun_by old.is_begun us y.3 progress.begun))) x.leads x.due
 
 -- no more turns are taken
-module _ (step : Step) (zone : Zone) (digest_of : DigestOf) (trusted : Type 0)
+module _ (step : Step) (zone : Zone) (digest_of : DigitsOf) (trusted : Type 0)
     (stood stands : List Terminal → Room → Type 0) (a b : Option (List ℕ)) (until : Option ℕ)
     (Kind : Turn → Type 0) (us : List Turn) where
   pub exhausted : (waits : Bool) (old : Progress) (read_failed write_failed : Bool) (s : Stopped)
@@ -542,7 +592,7 @@ module _ (step : Step) (zone : Zone) (digest_of : DigestOf) (trusted : Type 0)
       (λ trust terminals held stood_for. (held, refl, stood_for)) (read, write)
 
 -- nothing was done
-pub nothing_done : (waits : Bool) (step : Step) (zone : Zone) (digest_of : DigestOf)
+pub nothing_done : (waits : Bool) (step : Step) (zone : Zone) (digest_of : DigitsOf)
     (trusted : Type 0) (stands : List Terminal → Room → Type 0) (left : Option (List ℕ))
     (until : Option ℕ)
     (Kind : Turn → Type 0) (read_failed write_failed : Bool) (s : Stopped) → s ≡ record { fault = Want Memory; number = 1 } → read_failed ≡ false → write_failed ≡ false
@@ -554,6 +604,7 @@ nothing_done waits step zone digest_of trusted stands left until Kind read_faile
       few = inl refl;
       turns = record { turns = All-nil IsTurn; entries = All-nil (IsIn until); begins = λ text is. (text, refl, tt); begun = inl refl };
       unanswered = λ never. absurd (cc);
+      met = λ never. absurd (cc);
       leads = λ trust terminals held stood_for. (held, refl, (refl, refl), stood_for);
       due = (read, write, inl refl);
       number = refl;

@@ -5,6 +5,7 @@ use Rattle.room_http_messages.specs.Messages.{WholeMessage, HasMessage}
 use Rattle.room_service.specs.Rooms.{IsWant}
 use Rattle.room_service.specs.declared.digests.Miss.{Miss}
 use Rattle.room_service.specs.declared.digests.Miss.TheVariants as miss
+use Rattle.room_service.specs.declared.digests.Head.{Head}
 use Rattle.dispatch_room_journal.specs.declared.reading.Fault.{Fault}
 use Rattle.dispatch_room_journal.specs.declared.reading.Fault.TheVariants.{Cut, Foreign, Read}
 use Rattle.dispatch_room_journal.specs.Entries.{room, message, answer, Begins, IsPart, IsForeign}
@@ -31,24 +32,36 @@ IsNoMessage sent = (m : WholeMessage) → ¬ (HasMessage sent m [])
 abbrev pub IsWanting : ReplayFault → Type 0
 IsWanting fault = (r : Refusal) × (fault ≡ Want r) × IsWant r
 
+-- what stands after a message is what it is played for: a status, or a head of another room than
+-- the one before the message (`Elsewhere`)
+abbrev pub IsPlayedFor : (Option Open → Head → Type 0) → List ℕ → Type 0
+IsPlayedFor Elsewhere rest =
+    ((status : ℕ) × (more : List ℕ) × Begins rest (answer status) more)
+    ⊎ ((digest : Head) × (more : List ℕ) × Begins rest (room digest) more
+    × Elsewhere None digest)
+
 -- Why what stands after the turns is bad. It is no journal; or it is a status that no message
 -- stands before; or a message that no head stands before, where nothing came before it (`none`); or
 -- a message that is none. Or no more turns are taken (`full`). Where a message waits for what
--- stands after it (`waits`), it is not played where that is no journal.
-pub data IsBad (waits : Bool) (none full : Type 0) (last : List Turn) (rest : List ℕ) : Type 0 where
-  broken : (waits ≡ true → last ≡ []) → IsBroken rest → IsBad waits none full last rest
+-- stands after it (`waits`), it is not played where that is no journal, and nothing is told of its
+-- bytes where it is left out.
+pub data IsBad (waits : Bool) (none full : Type 0) (Elsewhere : Option Open → Head → Type 0)
+    (last : List Turn) (rest : List ℕ) : Type 0 where
+  broken : (waits ≡ true → last ≡ []) → IsBroken rest → IsBad waits none full Elsewhere last rest
   broken_after : (at : ℕ) (sent more : List ℕ) → waits ≡ true → last ≡ []
-      → Begins rest (message at sent) more → IsBroken more → IsBad waits none full last rest
+      → Begins rest (message at sent) more → IsBroken more
+      → IsBad waits none full Elsewhere last rest
   unasked : (status : ℕ) (more : List ℕ) → last ≡ [] → Begins rest (answer status) more
-      → IsBad waits none full last rest
+      → IsBad waits none full Elsewhere last rest
   headless : (at : ℕ) (sent more : List ℕ) → last ≡ [] → Begins rest (message at sent) more → none
-      → IsBad waits none full last rest
+      → IsBad waits none full Elsewhere last rest
   no_message : (at : ℕ) (sent more : List ℕ) → last ≡ [] → Begins rest (message at sent) more
-      → IsNoMessage sent → IsBad waits none full last rest
-  too_many : full → IsBad waits none full last rest
+      → IsNoMessage sent → (waits ≡ true → IsPlayedFor Elsewhere more)
+      → IsBad waits none full Elsewhere last rest
+  too_many : full → IsBad waits none full Elsewhere last rest
 
 -- A head stands next; or an open message, which waits for what stands after it, and then a head.
-abbrev pub IsHead : Bool → List ℕ → Option Open → List ℕ → Type 0
+abbrev pub IsHead : Bool → List ℕ → Option Open → Head → Type 0
 IsHead waits rest None digest = (more : List ℕ) × Begins rest (room digest) more
 IsHead waits rest (Some open_) digest =
     (waits ≡ true) × (mid : List ℕ) × (more : List ℕ)
@@ -58,15 +71,15 @@ IsHead waits rest (Some open_) digest =
 -- that was played last; or a head of another room than the turns lead to, or than they would lead
 -- to by an open message before it (`Elsewhere`). Then no message was played that was not compared,
 -- and the open one neither.
-module _ (waits : Bool) (none full : Type 0) (Elsewhere : Option Open → List ℕ → Type 0)
+module _ (waits : Bool) (none full : Type 0) (Elsewhere : Option Open → Head → Type 0)
     (last : List Turn) where
   abbrev pub Explains : ReplayFault → List ℕ → Type 0
-  Explains Bad rest = IsBad waits none full last rest
+  Explains Bad rest = IsBad waits none full Elsewhere last rest
   Explains Differs rest =
       (p : Play) × (status : ℕ) × (more : List ℕ) × (last ≡ tried p ∷ [])
       × Begins rest (answer status) more × (¬ (status_in p.told ≡ decimal status))
   Explains Another rest =
-      (last ≡ []) × (open_ : Option Open) × (digest : List ℕ) × IsHead waits rest open_ digest
+      (last ≡ []) × (open_ : Option Open) × (digest : Head) × IsHead waits rest open_ digest
       × Elsewhere open_ digest
   Explains ReadFailed rest = ⊤
   Explains WriteFailed rest = ⊤

@@ -14,7 +14,7 @@ use Rattle.dispatch_room_replaying.specs.declared.progress.Progress.{Progress}
 use Rattle.dispatch_room_journal.specs.Records.{status_in}
 use Rattle.dispatch_room_replaying.specs.Turns.{Play, Turn, tried, plays_of, entries_of, has_message, is_left_out, IsPlayed, HasNoStatus, AreTurns, BeginsWith, EndsAt}
 use Rattle.dispatch_room_replaying.specs.Faults.{Explains, IsDueTo}
-use Rattle.dispatch_room_replaying.specs.Replays.{DigestOf, LeadsTalking, StopsAfter}
+use Rattle.dispatch_room_replaying.specs.Replays.{DigitsOf, LeadsTalking, StopsAfter}
 use Rattle.dispatch_room_replaying.specs.Steps.{Progresses, Passes, StopsIn}
 
 -- the line before an answer: its status, and the number of its bytes
@@ -42,7 +42,7 @@ FollowIs before after failed told (Err fault) =
     ((p : Play) → p.told ≡ told → BeginsWith before []
     (Explains false ⊥ ⊥ (λ open_ digest. ⊥) (tried p ∷ []) fault)) × IsDueTo failed false fault
 
-module _ (step : Step) (zone : Zone) (digest_of : DigestOf) (trusted : Type 0)
+module _ (step : Step) (zone : Zone) (digest_of : DigitsOf) (trusted : Type 0)
     (stood stands : List Terminal → Room → Type 0)
     (before after : Option (List ℕ)) (held holds : Option (List ℕ)) where
   -- the message was played, and its answer was written; or why it stopped, and the first bytes of
@@ -74,7 +74,7 @@ module _ (step : Step) (zone : Zone) (digest_of : DigestOf) (trusted : Type 0)
 -- All messages of a list were played, and their answers written; or it stopped, and those of some
 -- turns were, and the first bytes of the answer to the last. No message waits for what stands after
 -- it.
-module _ (step : Step) (zone : Zone) (digest_of : DigestOf) (trusted : Type 0)
+module _ (step : Step) (zone : Zone) (digest_of : DigitsOf) (trusted : Type 0)
     (stood stands : List Terminal → Room → Type 0) (left held holds : Option (List ℕ)) where
   abbrev pub AnswersEach : Bool → Bool → Result ℕ Stopped → Type 0
   AnswersEach read_failed write_failed (Ok records) =

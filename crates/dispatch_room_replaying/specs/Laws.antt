@@ -1,11 +1,11 @@
 -- What a journal and a room alone decide.
-use Rattle.std.specs.Prelude.{◌≡◌, ℕ, List, [], ◌∷◌, All}
+use Rattle.std.specs.Prelude.{◌≡◌, ◌≤◌, ◌⊎◌, ℕ, ◌-◌, ◌^◌, min, List, [], ◌∷◌, ◌++◌, length, count_by, All, Bool, true, Option, Some, None, Result, MatchResult}
 use Rattle.room_types.specs.declared.fleet.Terminal.{Terminal}
 use Rattle.room_model.specs.Enrol.{AreTerminals}
 use Rattle.room_model.specs.Room.{Room}
 use Rattle.room_model.specs.WellFormed.{IsWellFormed}
 use Rattle.room_http_time.specs.declared.zones.Zone.{Zone}
-use Rattle.room_service.specs.Rooms.{Step, machine}
+use Rattle.room_service.specs.Rooms.{Step, IsWant, machine}
 use Rattle.dispatch_room_journal.specs.Entries.{IsEntry, texts_of}
 use Rattle.dispatch_room_journal.specs.Records.{answer_text, message_text}
 use Rattle.room_http.specs.Arrivals.{message, refused}
@@ -13,14 +13,19 @@ use Rattle.room_http.specs.Kept.{AreKept, AreReplies}
 use Rattle.room_http.specs.Promises.{Promises}
 use Rattle.room_http.specs.Runs.{Exchange, IsRunOf}
 use Rattle.room_http.specs.Talk.{Timed}
-use Rattle.dispatch_room_replaying.specs.Turns.{Turn, answers_of, entries_of, arrivals_of, bytes_of, IsTurn, IsReplayed, IsPlayed}
-use Rattle.dispatch_room_replaying.specs.Replays.{DigestOf, IsReplay}
+use Rattle.dispatch_room_replaying.specs.declared.faults.ReplayFault.{ReplayFault}
+use Rattle.dispatch_room_replaying.specs.declared.faults.ReplayFault.TheVariants.{Bad, Differs, Another, ReadFailed, WriteFailed, Want}
+use Rattle.dispatch_room_replaying.specs.declared.faults.Stopped.{Stopped}
+use Rattle.dispatch_room_replaying.specs.declared.replaying.Replayed.{Replayed}
+use Rattle.dispatch_room_replaying.specs.Turns.{Turn, answers_of, entries_of, arrivals_of, bytes_of, has_message, ends_open, IsTurn, IsReplayed, IsPlayed}
+use Rattle.dispatch_room_replaying.specs.Turns.{IsBegun, AreBy, AreTurns, EndsAt}
+use Rattle.dispatch_room_replaying.specs.Replays.{DigitsOf, IsReplay, LeadsTalking, Replays}
 
 -- two rooms that begin equal and replay the same entries play the same messages, answer them
 -- equally, and end equal
 abbrev pub IsOneReplay : Type 0
 IsOneReplay =
-    (step : Step) (zone : Zone) (digest_of : DigestOf) (terminals : List Terminal)
+    (step : Step) (zone : Zone) (digest_of : DigitsOf) (terminals : List Terminal)
     (held after other : Room) (ts us : List Turn)
     → All IsTurn ts → All IsTurn us → All IsReplayed ts → All IsReplayed us
     → entries_of ts ≡ entries_of us
@@ -31,7 +36,7 @@ IsOneReplay =
 -- the same where each message is played as soon as it is whole
 abbrev pub IsOneAnswering : Type 0
 IsOneAnswering =
-    (step : Step) (zone : Zone) (digest_of : DigestOf) (terminals : List Terminal)
+    (step : Step) (zone : Zone) (digest_of : DigitsOf) (terminals : List Terminal)
     (held after other : Room) (ts us : List Turn)
     → All IsTurn ts → All IsTurn us → All IsPlayed ts → All IsPlayed us
     → entries_of ts ≡ entries_of us
@@ -42,7 +47,7 @@ IsOneAnswering =
 -- a replay to the dispatch machine is a run, which keeps the room's promises
 abbrev pub IsKept : Type 0
 IsKept =
-    (zone : Zone) (digest_of : DigestOf) (terminals : List Terminal) (held after : Room)
+    (zone : Zone) (digest_of : DigitsOf) (terminals : List Terminal) (held after : Room)
     (ts : List Turn)
     → AreTerminals held terminals → IsWellFormed held
     → IsReplay machine zone digest_of terminals held ts after
@@ -62,7 +67,7 @@ answers_to_messages ((refused r head_only, at) ∷ outs) (told ∷ answers) =
 -- the answers that were given, and leads to an equal room
 abbrev pub IsTheRoom : Type 0
 IsTheRoom =
-    (step : Step) (zone : Zone) (digest_of : DigestOf) (terminals : List Terminal)
+    (step : Step) (zone : Zone) (digest_of : DigitsOf) (terminals : List Terminal)
     (held after other : Room) (outs : List Timed) (answers : List (List ℕ)) (text : List ℕ)
     (ts : List Turn)
     → AreReplies step zone terminals held outs answers after
@@ -70,3 +75,52 @@ IsTheRoom =
     → All IsTurn ts → All IsReplayed ts → All IsEntry (entries_of ts)
     → texts_of (entries_of ts) ≡ text → IsReplay step zone digest_of terminals held ts other
     → (other ≡ after) × (answers_of ts ≡ answers_to_messages outs answers)
+
+-- why a list that can be replayed is not replayed to its end, by the fault that is told: a read
+-- failed; memory or storage is wanting; or its turns are more than are counted
+abbrev pub IsExcused : Bool → List Turn → ReplayFault → Type 0
+IsExcused read_failed ts Bad = 2 ^ 64 - 1 ≤ length ts
+IsExcused read_failed ts Differs = ⊥
+IsExcused read_failed ts Another = ⊥
+IsExcused read_failed ts ReadFailed = read_failed ≡ true
+IsExcused read_failed ts WriteFailed = ⊥
+IsExcused read_failed ts (Want r) = IsWant r
+
+module _ {M : Type 0} (step : Step) (digest_of : DigitsOf) (is_trusted : M → Type 0)
+    (stands : M → List Terminal → Room → Type 0) where
+  -- What a replay gives of a list of turns that can be replayed, up to a moment, whatever keeps the
+  -- room: these turns were done, so the answers are theirs, and it can have been no others, and the
+  -- room is this one. Or it stopped, and that is excused.
+  abbrev pub GivesThese : Zone → List Terminal → Room → Room → List Turn → List Turn → Option ℕ
+      → Type 0
+  GivesThese zone terminals held after ts us until =
+      (old new : M) (read_failed : Bool) (result : Result Replayed Stopped)
+      → Replays step zone digest_of (is_trusted new) (stands old) (stands new)
+      (Some (texts_of (entries_of ts))) until read_failed result
+      → is_trusted new → stands old terminals held
+      → MatchResult result
+      (λ done. stands new terminals after × (done.is_open ≡ ends_open us)
+      × (done.records ≡ min (count_by has_message us) (2 ^ 64 - 1))
+      × ((ws : List Turn) → All IsReplayed ws
+      → AreTurns (Some (texts_of (entries_of ts))) until ws (EndsAt until)
+      → LeadsTalking step zone digest_of (is_trusted new) (stands old) (stands new) ws → ws ≡ us))
+      (λ stopped. IsExcused read_failed ts stopped.fault)
+
+  -- a list that can be replayed to a room is replayed to it, wholly
+  abbrev pub IsWhole : Type 0
+  IsWhole =
+      (zone : Zone) (terminals : List Terminal) (held after : Room) (ts : List Turn)
+      → All IsTurn ts → All IsReplayed ts → All IsEntry (entries_of ts) → (ts ≡ []) ⊎ IsBegun ts
+      → IsReplay step zone digest_of terminals held ts after
+      → GivesThese zone terminals held after ts ts None
+
+  -- so it is up to a moment: the first turns, where the others begin with a message after it
+  abbrev pub IsWholeUpTo : Type 0
+  IsWholeUpTo =
+      (zone : Zone) (terminals : List Terminal) (held then after : Room) (us vs : List Turn)
+      → All IsTurn (us ++ vs) → All IsReplayed (us ++ vs) → All IsEntry (entries_of (us ++ vs))
+      → (us ++ vs ≡ []) ⊎ IsBegun (us ++ vs)
+      → IsReplay step zone digest_of terminals held us then
+      → IsReplay step zone digest_of terminals then vs after
+      → (until : Option ℕ) → AreBy until (entries_of us) → EndsAt until (texts_of (entries_of vs))
+      → GivesThese zone terminals held then (us ++ vs) us until

@@ -3,12 +3,15 @@ use Rattle.std.specs.Prelude.{◌≡◌, ◌⊎◌, ℕ, ◌+◌, ◌-◌, ◌^�
 use Rattle.room_types.specs.declared.fleet.Terminal.{Terminal}
 use Rattle.room_model.specs.Room.{Room}
 use Rattle.room_http_time.specs.declared.zones.Zone.{Zone}
-pub use Rattle.room_service.specs.Digests.{digits_of}
+pub use Rattle.room_service.specs.Digests.{DigitsOf, IsHeadOf, digits_of}
 use Rattle.room_service.specs.Rooms.{Step}
 use Rattle.room_http.specs.Arrivals.{message as arrived}
 use Rattle.room_http.specs.Talk.{IsReplyTo, IsTalk}
 use Rattle.room_http.specs.Towards.{LeadsToAnother}
 use Rattle.room_http_messages.specs.Messages.{WholeMessage, HasMessage}
+use Rattle.room_service.specs.declared.digests.Head.{Head}
+use Rattle.dispatch_room_journal.specs.Entries.{Begins}
+use Rattle.dispatch_room_journal.specs.Entries as entry
 use Rattle.dispatch_room_replaying.specs.declared.faults.ReplayFault.{ReplayFault}
 use Rattle.dispatch_room_replaying.specs.declared.faults.ReplayFault.TheVariants.{Bad, Differs, Another, ReadFailed, WriteFailed, Want}
 use Rattle.dispatch_room_replaying.specs.declared.faults.Stopped.{Stopped}
@@ -17,21 +20,17 @@ use Rattle.dispatch_room_replaying.specs.Turns.{Open, Play, Turn, head, answered
 use Rattle.dispatch_room_replaying.specs.Turns.{HasNoStatus, BeginsWith, AreTurns, EndsAt}
 use Rattle.dispatch_room_replaying.specs.Faults.{Explains, IsDueTo}
 
--- the digest of a room's rows, with its terminals, in digits
-abbrev pub DigestOf : Type 0
-DigestOf = List Terminal → Room → List ℕ
-
-module _ (step : Step) (zone : Zone) (digest_of : DigestOf) (terminals : List Terminal) where
+module _ (step : Step) (zone : Zone) (digest_of : DigitsOf) (terminals : List Terminal) where
   -- the room after a message, and its answer
   abbrev pub Answers : Room → Play → Room → Type 0
   Answers room p after = IsReplyTo step zone terminals room (timed p) after p.told
 
   -- the room after a turn: a head's digest is that of the room
   abbrev pub Does : Room → Turn → Room → Type 0
-  Does room (head digest) after = (after ≡ room) × (digest_of terminals room ≡ digest)
+  Does room (head digest) after = (after ≡ room) × (IsHeadOf digest_of digest terminals room)
   Does room (answered p status) after = Answers room p after
-  Does room (caught_up p digest) after = (¬ (digest_of terminals room ≡ digest))
-      × Answers room p after × (digest_of terminals after ≡ digest)
+  Does room (caught_up p digest) after = (¬ (IsHeadOf digest_of digest terminals room))
+      × Answers room p after × (IsHeadOf digest_of digest terminals after)
   Does room (tried p) after = Answers room p after
   Does room (left_out at sent) after = after ≡ room
 
@@ -42,14 +41,23 @@ module _ (step : Step) (zone : Zone) (digest_of : DigestOf) (terminals : List Te
 
 -- Where the room is kept by what gives back what was written: the turns lead from the room that it
 -- stood for to the one that it stands for now.
-abbrev pub Leads : Step → Zone → DigestOf → Type 0 → (List Terminal → Room → Type 0)
+abbrev pub Leads : Step → Zone → DigitsOf → Type 0 → (List Terminal → Room → Type 0)
     → (List Terminal → Room → Type 0) → List Turn → Type 0
 Leads step zone digest_of trusted stood stands ts =
     trusted → (terminals : List Terminal) (room : Room) → stood terminals room
     → (after : Room) × IsReplay step zone digest_of terminals room ts after × stands terminals after
 
+-- where a head stands next, the turns lead to a room that has its digest
+abbrev pub MeetsHead : Step → Zone → DigitsOf → Type 0 → (List Terminal → Room → Type 0)
+    → List Turn → List ℕ → Type 0
+MeetsHead step zone digest_of trusted stood ts rest =
+    (digest : Head) (more : List ℕ) → Begins rest (entry.room digest) more
+    → trusted → (terminals : List Terminal) (held : Room) → stood terminals held
+    → (after : Room) × IsReplay step zone digest_of terminals held ts after
+    × (IsHeadOf digest_of digest terminals after)
+
 -- an open message would lead a room to another digest than this, if there is one
-abbrev pub WouldMiss : Step → Zone → DigestOf → List Terminal → Room → Option Open → List ℕ → Type 0
+abbrev pub WouldMiss : Step → Zone → DigitsOf → List Terminal → Room → Option Open → Head → Type 0
 WouldMiss step zone digest_of terminals room None digest = ⊤
 WouldMiss step zone digest_of terminals room (Some open_) digest =
     (whole : WholeMessage) × HasMessage open_.1 whole []
@@ -57,27 +65,28 @@ WouldMiss step zone digest_of terminals room (Some open_) digest =
 
 -- The same, to a room that has another digest than this, and would have another one after an open
 -- message, if there is one. That message was not done.
-abbrev pub LeadsElsewhere : Step → Zone → DigestOf → Type 0 → (List Terminal → Room → Type 0)
-    → (List Terminal → Room → Type 0) → List Turn → Option Open → List ℕ → Type 0
+abbrev pub LeadsElsewhere : Step → Zone → DigitsOf → Type 0 → (List Terminal → Room → Type 0)
+    → (List Terminal → Room → Type 0) → List Turn → Option Open → Head → Type 0
 LeadsElsewhere step zone digest_of trusted stood stands ts open_ digest =
     trusted → (terminals : List Terminal) (room : Room) → stood terminals room
     → (after : Room) × IsReplay step zone digest_of terminals room ts after
-    × (¬ (digest_of terminals after ≡ digest))
+    × (¬ (IsHeadOf digest_of digest terminals after))
     × WouldMiss step zone digest_of terminals after open_ digest × stands terminals after
 
 -- as `Leads`, and what is played is a talk
-abbrev pub LeadsTalking : Step → Zone → DigestOf → Type 0 → (List Terminal → Room → Type 0)
+abbrev pub LeadsTalking : Step → Zone → DigitsOf → Type 0 → (List Terminal → Room → Type 0)
     → (List Terminal → Room → Type 0) → List Turn → Type 0
 LeadsTalking step zone digest_of trusted stood stands ts =
     trusted → (terminals : List Terminal) (room : Room) → stood terminals room
     → (after : Room) × IsReplay step zone digest_of terminals room ts after
     × IsTalk step zone terminals room (arrivals_of ts) after (bytes_of ts) × stands terminals after
 
-module _ (step : Step) (zone : Zone) (digest_of : DigestOf) (trusted : Type 0)
+module _ (step : Step) (zone : Zone) (digest_of : DigitsOf) (trusted : Type 0)
     (stood stands : List Terminal → Room → Type 0) (left : Option (List ℕ)) (until : Option ℕ) where
   -- Why it stopped, after turns of this kind that were done with. One more message may have been
   -- played and not compared (`last`). No status stands after a message that was done with without
-  -- one. The number is that of the message after those that were done with.
+  -- one, and a head that stands after one that was left out is met. The number is that of the
+  -- message after those that were done with.
   pub record StopsAfter (waits : Bool) (Kind : Turn → Type 0) (read_failed write_failed : Bool)
       (stopped : Stopped) (ts last : List Turn) : Type 0 where
     pub kinds : All Kind ts
@@ -87,6 +96,8 @@ module _ (step : Step) (zone : Zone) (digest_of : DigestOf) (trusted : Type 0)
         (LeadsElsewhere step zone digest_of trusted stood stands (ts ++ last)) last
         stopped.fault)
     pub unanswered : ends_unanswered ts ≡ true → BeginsWith left (entries_of ts) HasNoStatus
+    pub met : ends_open ts ≡ true → BeginsWith left (entries_of ts)
+        (MeetsHead step zone digest_of trusted stood ts)
     pub leads : LeadsTalking step zone digest_of trusted stood stands (ts ++ last)
     pub due : IsDueTo read_failed write_failed stopped.fault
     pub number : stopped.number ≡ min (count_by has_message ts + 1) (2 ^ 64 - 1)

@@ -6,11 +6,12 @@ use Rattle.room_model.specs.Room.{Room}
 use Rattle.room_http_time.specs.declared.zones.Zone.{Zone}
 use Rattle.room_service.specs.Rooms.{Step}
 use Rattle.room_http.specs.Talk.{IsReplyTo}
+use Rattle.room_service.specs.declared.digests.Head.{Head}
 use Rattle.dispatch_room_journal.specs.declared.lines.Line.{Line}
-use Rattle.dispatch_room_journal.specs.Entries.{Entry, room, message, answer, IsEntry, line_of, texts_of}
+use Rattle.dispatch_room_journal.specs.Entries.{Entry, room, message, answer, IsEntry, line_of, texts_of, Begins}
 use Rattle.dispatch_room_journal.specs.Looks.{IsLayout}
 use Rattle.dispatch_room_replaying.specs.declared.faults.ReplayFault.{ReplayFault}
-use Rattle.dispatch_room_replaying.specs.declared.faults.ReplayFault.TheVariants.{Differs, Another}
+use Rattle.dispatch_room_replaying.specs.declared.faults.ReplayFault.TheVariants.{Bad, Differs, Another}
 use Rattle.dispatch_room_replaying.specs.declared.entries.Next.{Next}
 use Rattle.dispatch_room_replaying.specs.declared.entries.Next.TheVariants as next
 use Rattle.dispatch_room_replaying.specs.declared.messages.Turned.{Turned}
@@ -19,14 +20,24 @@ use Rattle.dispatch_room_journal.specs.Records.{status_in}
 use Rattle.dispatch_room_replaying.specs.Turns.{Open, Play, Turn, tried, timed, entries_in, entries_of, has_message, is_left_out, ends_open, ends_unanswered, IsPlay, IsTurn, IsReplayed, IsBy}
 use Rattle.dispatch_room_replaying.specs.Turns.{AreBy, StartsBy, HasNoStatus, BeginsWith, EndsAt}
 use Rattle.dispatch_room_replaying.specs.declared.progress.Progress.{Progress}
-use Rattle.dispatch_room_replaying.specs.Faults.{Refuses, Explains, IsDueTo}
-use Rattle.dispatch_room_replaying.specs.Replays.{DigestOf, Leads, LeadsElsewhere, WouldMiss}
+use Rattle.dispatch_room_replaying.specs.Faults.{IsNoMessage, IsWanting, Refuses, Explains, IsDueTo}
+use Rattle.dispatch_room_replaying.specs.Replays.{DigitsOf, Leads, LeadsElsewhere, MeetsHead, WouldMiss, IsHeadOf}
 
 -- what it stands for is what it stood for
 abbrev pub Stays : Type 0 → (List Terminal → Room → Type 0) → (List Terminal → Room → Type 0)
     → Type 0
 Stays trusted stood stands = trusted → (terminals : List Terminal) (room : Room)
     → stood terminals room → stands terminals room
+
+-- the room has this digest
+abbrev pub IsAt : DigitsOf → Type 0 → (List Terminal → Room → Type 0) → Head → Type 0
+IsAt digest_of trusted stood digest = trusted → (terminals : List Terminal) (held : Room)
+    → stood terminals held → IsHeadOf digest_of digest terminals held
+
+-- a head that stands next is the room's
+abbrev pub HasItsHead : DigitsOf → Type 0 → (List Terminal → Room → Type 0) → List ℕ → Type 0
+HasItsHead digest_of trusted stood rest =
+    (digest : Head) (more : List ℕ) → Begins rest (room digest) more → IsAt digest_of trusted stood digest
 
 -- The bytes are one message, and the room answered it; or nothing was done, and why.
 abbrev pub Plays : {A : Type 0} → Step → Zone → Type 0 → (List Terminal → Room → Type 0)
@@ -45,7 +56,7 @@ IsMark (room digest) = ⊤
 IsMark (message at sent) = ⊥
 IsMark (answer status) = ⊤
 
-module _ (step : Step) (zone : Zone) (digest_of : DigestOf) (trusted : Type 0)
+module _ (step : Step) (zone : Zone) (digest_of : DigitsOf) (trusted : Type 0)
     (stood stands : List Terminal → Room → Type 0) where
   -- a turn of the message and of the entries that it takes with it
   pub record TurnOf (at : ℕ) (sent : List ℕ) (taken : List Entry) (left_out : Bool) : Type 0 where
@@ -66,43 +77,58 @@ module _ (step : Step) (zone : Zone) (digest_of : DigestOf) (trusted : Type 0)
   -- this line is a head of another room than the message would lead to
   abbrev pub IsAstray : ℕ → List ℕ → Line → ReplayFault → Type 0
   IsAstray at sent line fault =
-      (fault ≡ Another) × (digest : List ℕ) × (line ≡ line_of (room digest))
+      (fault ≡ Another) × (digest : Head) × (line ≡ line_of (room digest))
       × LeadsElsewhere step zone digest_of trusted stood stands [] (Some (at, sent)) digest
+
+  -- a message is played for this line: it is a status, or a head to which the room has not come
+  abbrev pub IsPlayedForLine : Line → Type 0
+  IsPlayedForLine line =
+      ((status : ℕ) × (line ≡ line_of (answer status)))
+      ⊎ ((digest : Head) × (line ≡ line_of (room digest))
+      × LeadsElsewhere step zone digest_of trusted stood stands [] None digest)
+
+  -- why a message before this line is not played: memory or storage is wanting, or its bytes are no
+  -- message, and it was to be played
+  abbrev pub RefusesAt : List ℕ → Line → ReplayFault → Type 0
+  RefusesAt sent line fault =
+      IsWanting fault ⊎ ((fault ≡ Bad) × IsNoMessage sent × IsPlayedForLine line)
 
   -- a message before this line was not done, or it was and is not as the line says
   abbrev pub StopsAt : ℕ → List ℕ → Line → ReplayFault → Type 0
   StopsAt at sent line fault =
-      (Stays trusted stood stands × (Refuses sent fault ⊎ IsAstray at sent line fault))
+      (Stays trusted stood stands × (RefusesAt sent line fault ⊎ IsAstray at sent line fault))
       ⊎ ((p : Play) × (p.at ≡ at) × (p.sent ≡ sent) × IsPlay p
       × Leads step zone digest_of trusted stood stands (tried p ∷ []) × Deviates p line fault)
 
   -- the message was played, and the room has come to this digest
-  abbrev pub ComesTo : ℕ → List ℕ → List ℕ → Type 0
+  abbrev pub ComesTo : ℕ → List ℕ → Head → Type 0
   ComesTo at sent digest =
       (p : Play) × (p.at ≡ at) × (p.sent ≡ sent) × IsPlay p
       × (trusted → (terminals : List Terminal) (room : Room) → stood terminals room
       → (after : Room) × IsReplyTo step zone terminals room (timed p) after p.told
-      × (digest_of terminals after ≡ digest) × stands terminals after)
+      × (IsHeadOf digest_of digest terminals after) × stands terminals after)
 
   -- where the room has another digest than this, so it would have after the message
-  abbrev pub Misses : ℕ → List ℕ → List ℕ → Type 0
+  abbrev pub Misses : ℕ → List ℕ → Head → Type 0
   Misses at sent digest =
       trusted → (terminals : List Terminal) (held : Room) → stood terminals held
-      → (¬ (digest_of terminals held ≡ digest))
+      → (¬ (IsHeadOf digest_of digest terminals held))
       → WouldMiss step zone digest_of terminals held (Some (at, sent)) digest
 
   -- the room has come to this digest by the message; or nothing was done, and why
-  abbrev pub PlaysTowards : {A : Type 0} → ℕ → List ℕ → List ℕ → Result A ReplayFault → Type 0
+  abbrev pub PlaysTowards : {A : Type 0} → ℕ → List ℕ → Head → Result A ReplayFault → Type 0
   PlaysTowards at sent digest (Ok done) = ComesTo at sent digest
   PlaysTowards at sent digest (Err fault) = Stays trusted stood stands
       × (Refuses sent fault ⊎ ((fault ≡ Another) × Misses at sent digest))
 
-  -- what becomes of a message before this line: it takes the line's entry with it, or is left out
+  -- What becomes of a message before this line: it takes the line's entry with it, or is left out.
+  -- It is left out before no status, and before a head only where the room has the head's digest.
   abbrev pub Settles : ℕ → List ℕ → Line → Result Bool ReplayFault → Type 0
   Settles at sent line (Ok true) =
       (e : Entry) × IsMark e × (line ≡ line_of e) × TurnOf at sent (e ∷ []) false
   Settles at sent line (Ok false) =
       TurnOf at sent [] true × ((status : ℕ) → ¬ (line ≡ line_of (answer status)))
+      × ((digest : Head) → line ≡ line_of (room digest) → IsAt digest_of trusted stood digest)
   Settles at sent line (Err fault) = StopsAt at sent line fault
 
   -- Why it stopped, after a head or not, with the text before: nothing more was done, or one
@@ -119,12 +145,13 @@ module _ (step : Step) (zone : Zone) (digest_of : DigestOf) (trusted : Type 0)
 
   -- what is known of the text before, and after, and whether a read failed
   module _ (before after : Option (List ℕ)) (failed : Bool) where
-    -- the message was left out, and no status follows it
+    -- the message was left out, and no status follows it, nor a head that is not the room's
     abbrev pub LeavesOut : ℕ → Type 0
     LeavesOut at =
         (sent : List ℕ) × TurnOf at sent [] true × IsEntry (message at sent)
         × Consumes before after (texts_of (message at sent ∷ [])) × (failed ≡ false)
         × BeginsWith after [] HasNoStatus
+        × BeginsWith after [] (HasItsHead digest_of trusted stood)
 
     -- What became of a message at this moment. Where it was the last one, nothing is left.
     abbrev pub MessageIs : ℕ → Result Turned ReplayFault → Type 0
@@ -138,22 +165,22 @@ module _ (step : Step) (zone : Zone) (digest_of : DigestOf) (trusted : Type 0)
         (last : List Turn) × StopsIn true before (Some at) true fault failed false last
 
 -- the room has another digest than this, and no message is open
-abbrev pub IsElsewhere : DigestOf → Type 0 → (List Terminal → Room → Type 0)
-    → (List Terminal → Room → Type 0) → Option Open → List ℕ → Type 0
+abbrev pub IsElsewhere : DigitsOf → Type 0 → (List Terminal → Room → Type 0)
+    → (List Terminal → Room → Type 0) → Option Open → Head → Type 0
 IsElsewhere digest_of trusted stood stands open_ digest =
     (open_ ≡ None) × (trusted → (terminals : List Terminal) (held : Room) → stood terminals held
-    → (¬ (digest_of terminals held ≡ digest)) × stands terminals held)
+    → (¬ (IsHeadOf digest_of digest terminals held)) × stands terminals held)
 
-module _ (digest_of : DigestOf) (trusted : Type 0) (stood stands : List Terminal → Room → Type 0)
+module _ (digest_of : DigitsOf) (trusted : Type 0) (stood stands : List Terminal → Room → Type 0)
     (before after : Option (List ℕ)) (failed : Bool) where
   -- What stands next, up to this moment: a head, which was taken and is that of the room; a
   -- message, which is at the front; or the end. A head came before a message.
   abbrev pub NextIs : Option ℕ → Bool → List ℕ → Result Next ReplayFault → Type 0
   NextIs until begun kept (Ok next.Head) =
-      (digest : List ℕ) × IsEntry (room digest)
+      (digest : Head) × IsEntry (room digest)
       × Consumes before after (texts_of (room digest ∷ [])) × (failed ≡ false)
       × (trusted → (terminals : List Terminal) (held : Room) → stood terminals held
-      → (digest_of terminals held ≡ digest) × stands terminals held)
+      → (IsHeadOf digest_of digest terminals held) × stands terminals held)
   NextIs until begun kept (Ok (next.Message at layout)) =
       (sent : List ℕ) × IsLayout kept layout (message at sent) × IsBy until (message at sent)
       × Keeps before after
@@ -175,7 +202,7 @@ pub record IsProgress (progress : Progress) (ts : List Turn) : Type 0 where
 abbrev pub Progresses : Progress → Progress → List Turn → Type 0
 Progresses old new ts = (us : List Turn) → IsProgress old us → IsProgress new (us ++ ts)
 
-module _ (step : Step) (zone : Zone) (digest_of : DigestOf) (trusted : Type 0)
+module _ (step : Step) (zone : Zone) (digest_of : DigitsOf) (trusted : Type 0)
     (stood stands : List Terminal → Room → Type 0) (before after : Option (List ℕ))
     (until : Option ℕ) where
   -- turns of this kind, from the text before to the text after
@@ -185,6 +212,8 @@ module _ (step : Step) (zone : Zone) (digest_of : DigestOf) (trusted : Type 0)
     pub entries : AreBy until (entries_of ts)
     pub read : Consumes before after (texts_of (entries_of ts))
     pub unanswered : ends_unanswered ts ≡ true → BeginsWith after [] HasNoStatus
+    pub met : ends_open ts ≡ true → BeginsWith after []
+        (MeetsHead step zone digest_of trusted stood ts)
     pub leads : Leads step zone digest_of trusted stood stands ts
 
   -- What one call does that takes a turn: whether it goes on, or the end was found; or why it

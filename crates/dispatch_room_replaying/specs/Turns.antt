@@ -1,6 +1,7 @@
 -- Which messages of a journal are played when it is replayed.
 use Rattle.std.specs.Prelude.{◌≡◌, ℕ, ◌<◌, ◌≤◌, ◌⊎◌, ⊤, List, [], ◌∷◌, ◌++◌, map, decimal, All, Bool, true, false, Option, Some, None}
 use Rattle.std.specs.List.{flat_map}
+use Rattle.room_service.specs.declared.digests.Head.{Head}
 use Rattle.dispatch_room_journal.specs.Entries.{Entry, room, message, answer, IsEntry, texts_of, Begins}
 use Rattle.dispatch_room_journal.specs.Records.{status_in}
 use Rattle.room_http_messages.specs.Messages.{WholeMessage, HasMessage}
@@ -24,9 +25,9 @@ pub record Play : Type 0 where
 -- none, is played before a head to which the room has not come, and comes by it (`caught_up`), or
 -- without a look at what follows it (`tried`), or it is left out.
 pub data Turn : Type 0 where
-  head : List ℕ → Turn
+  head : Head → Turn
   answered : Play → ℕ → Turn
-  caught_up : Play → List ℕ → Turn
+  caught_up : Play → Head → Turn
   tried : Play → Turn
   left_out : ℕ → List ℕ → Turn
 
@@ -136,7 +137,7 @@ IsAfter (Some until) at = until < at
 
 -- the first turn is a head
 abbrev pub IsBegun : List Turn → Type 0
-IsBegun ts = (digest : List ℕ) × (more : List Turn) × (ts ≡ head digest ∷ more)
+IsBegun ts = (digest : Head) × (more : List Turn) × (ts ≡ head digest ∷ more)
 
 -- a head came, and then it was the first; or nothing came
 abbrev pub StartsBy : Bool → List Turn → Type 0
@@ -152,7 +153,7 @@ BeginsWith left entries follows =
 -- nothing follows, or a message whose moment is after this one
 abbrev pub EndsAt : Option ℕ → List ℕ → Type 0
 EndsAt until rest = (rest ≡ []) ⊎ ((at : ℕ) × (sent : List ℕ) × (after : List ℕ)
-    × (rest ≡ texts_of (message at sent ∷ []) ++ after) × IsAfter until at)
+    × Begins rest (message at sent) after × IsAfter until at)
 
 -- the last turn leaves a message out
 abbrev pub ends_open : List Turn → Bool

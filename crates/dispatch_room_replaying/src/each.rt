@@ -70,9 +70,10 @@ fn answer_message<R: Source, W: Sink, M: Digested>(
     requires writer { W.has_failed writer.old ≡ false }
     requires front { (sent : List ℕ) × IsLayout inbox.old.kept layout.now (message at sent) }
     ensures ready { M.is_ready room.new }
+    ensures zone { M.zone room.new ≡ M.zone room.old }
     ensures trusted { M.is_trusted room.new → M.is_trusted room.old }
-    ensures turn { EachIs M.step zone.now (digits_of M.digest_of) (M.is_trusted room.new)
-        (M.stands room.old) (M.stands room.new)
+    ensures turn { EachIs M.step zone.now (digits_of M.digest_of (M.zone room.old))
+        (M.is_trusted room.new) (M.stands room.old) (M.stands room.new)
         (prepend_known inbox.old.kept (R.left reader.old))
         (prepend_known inbox.new.kept (R.left reader.new)) (W.held writer.old) (W.held writer.new)
         at (R.has_failed reader.new) (W.has_failed writer.new) result }
@@ -109,9 +110,10 @@ fn answer_turn<R: Source, W: Sink, M: Digested>(
     requires reader { R.has_failed reader.old ≡ false }
     requires writer { W.has_failed writer.old ≡ false }
     ensures ready { M.is_ready room.new }
+    ensures zone { M.zone room.new ≡ M.zone room.old }
     ensures trusted { M.is_trusted room.new → M.is_trusted room.old }
-    ensures turn { AnswersTurn M.step zone.now (digits_of M.digest_of) (M.is_trusted room.new)
-        (M.stands room.old) (M.stands room.new)
+    ensures turn { AnswersTurn M.step zone.now (digits_of M.digest_of (M.zone room.old))
+        (M.is_trusted room.new) (M.stands room.old) (M.stands room.new)
         (prepend_known inbox.old.kept (R.left reader.old))
         (prepend_known inbox.new.kept (R.left reader.new)) (W.held writer.old) (W.held writer.new)
         progress.old progress.new (R.has_failed reader.new) (W.has_failed writer.new) result }
@@ -156,8 +158,10 @@ fn answer_turns<R: Source, W: Sink, M: Digested>(
     requires ready { M.is_ready room.old }
     requires empty { inbox.old.kept ≡ [] }
     ensures ready { M.is_ready room.new }
+    ensures zone { M.zone room.new ≡ M.zone room.old }
     ensures trusted { M.is_trusted room.new → M.is_trusted room.old }
-    ensures answers { AnswersEach M.step zone.now (digits_of M.digest_of) (M.is_trusted room.new)
+    ensures answers { AnswersEach M.step zone.now (digits_of M.digest_of (M.zone room.old))
+        (M.is_trusted room.new)
         (M.stands room.old) (M.stands room.new) (R.left reader.old) (W.held writer.old)
         (W.held writer.new) (R.has_failed reader.new) (W.has_failed writer.new) result }
     ensures kept { M.is_trusted room.new → UnlessStopped result (M.is_kept room.old
@@ -197,8 +201,10 @@ pub fn answer_each<R: Source, W: Sink, M: Digested>(
     requires writer { W.has_failed writer.old ≡ false }
     requires ready { M.is_ready room.old }
     ensures ready { M.is_ready room.new }
+    ensures zone { M.zone room.new ≡ M.zone room.old }
     ensures trusted { M.is_trusted room.new → M.is_trusted room.old }
-    ensures answers { AnswersEach M.step zone.now (digits_of M.digest_of) (M.is_trusted room.new)
+    ensures answers { AnswersEach M.step zone.now (digits_of M.digest_of (M.zone room.old))
+        (M.is_trusted room.new)
         (M.stands room.old) (M.stands room.new) (R.left reader.old) (W.held writer.old)
         (W.held writer.new) (R.has_failed reader.new) (W.has_failed writer.new) result }
     ensures kept { M.is_trusted room.new → UnlessStopped result (M.is_kept room.old

@@ -58,9 +58,10 @@ pub fn next_entry<R: Source, M: Digested>(
     requires ready { M.is_ready room.old }
     requires sound { R.has_failed reader.old ≡ false }
     ensures ready { M.is_ready room.new }
+    ensures zone { M.zone room.new ≡ M.zone room.old }
     ensures trusted { M.is_trusted room.new → M.is_trusted room.old }
-    ensures next { NextIs (digits_of M.digest_of) (M.is_trusted room.new) (M.stands room.old)
-        (M.stands room.new) (prepend_known inbox.old.kept (R.left reader.old))
+    ensures next { NextIs (digits_of M.digest_of (M.zone room.old)) (M.is_trusted room.new)
+        (M.stands room.old) (M.stands room.new) (prepend_known inbox.old.kept (R.left reader.old))
         (prepend_known inbox.new.kept (R.left reader.new)) (R.has_failed reader.new) until.now
         is_begun inbox.new.kept result }
     ensures kept { M.is_trusted room.new → UnlessWant result (M.is_kept room.old
@@ -70,7 +71,7 @@ pub fn next_entry<R: Source, M: Digested>(
         Err(fault) => Err(read_fault(fault)),
         Ok(None) => Ok(Next::End),
         Ok(Some(layout)) => match &layout.line {
-            Line::Room(digest) => match is_at(room, digest) {
+            Line::Room(head) => match is_at(room, head) {
                 Ok(true) => {
                     inbox.remove(&layout);
                     Ok(Next::Head)

@@ -47,9 +47,10 @@ pub fn replay_message<R: Source, M: Digested>(
     requires sound { R.has_failed reader.old ≡ false }
     requires front { (sent : List ℕ) × IsLayout inbox.old.kept layout.now (message at sent) }
     ensures ready { M.is_ready room.new }
+    ensures zone { M.zone room.new ≡ M.zone room.old }
     ensures trusted { M.is_trusted room.new → M.is_trusted room.old }
-    ensures turn { MessageIs M.step zone.now (digits_of M.digest_of) (M.is_trusted room.new)
-        (M.stands room.old) (M.stands room.new)
+    ensures turn { MessageIs M.step zone.now (digits_of M.digest_of (M.zone room.old))
+        (M.is_trusted room.new) (M.stands room.old) (M.stands room.new)
         (prepend_known inbox.old.kept (R.left reader.old))
         (prepend_known inbox.new.kept (R.left reader.new)) (R.has_failed reader.new) at result }
     ensures kept { M.is_trusted room.new → UnlessWant result (M.is_kept room.old

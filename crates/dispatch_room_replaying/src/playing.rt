@@ -8,12 +8,11 @@ ghost use Rattle.room_http_messages.specs.Layouts.{Shows};
 ghost use Rattle.room_http_messages.specs.Messages.{WholeMessage, HasMessage};
 ghost use Rattle.dispatch_room_replaying.specs.Faults.{IsNoMessage, IsWanting, miss_fault};
 ghost use Rattle.dispatch_room_journal.specs.Records.{status_in};
-ghost use Rattle.dispatch_room_replaying.specs.Replays.{UnlessWant, digits_of};
+ghost use Rattle.dispatch_room_replaying.specs.Replays.{IsHeadOf, UnlessWant, digits_of};
 ghost use Rattle.dispatch_room_replaying.specs.Steps.{Plays, PlaysTowards};
 
 use crate::faults::ReplayFault;
 use dispatch_room_journal::digests::digest_of;
-use dispatch_room_journal::lines::DIGEST_DIGITS;
 use dispatch_room_journal::statuses::status_in;
 use itoa::Buffer;
 use room_http::arrivals::Arrived;
@@ -23,7 +22,7 @@ use room_http_messages::looks::{Look, look_at};
 use room_http_messages::messages::Message;
 use room_http_requests::routes::Routes;
 use room_http_time::zones::Zone;
-use room_service::digests::{Digested, Miss};
+use room_service::digests::{Digested, Head, Miss};
 use room_service::rooms::Room;
 use room_types::numbers::Moment;
 use std::alloc::Global;
@@ -63,6 +62,7 @@ pub fn play<M: Room>(
     requires ready { M.is_ready room.old }
     requires fits { length sent.now ≤ INBOX_ROOM }
     ensures ready { M.is_ready room.new }
+    ensures zone { M.zone room.new ≡ M.zone room.old }
     ensures trusted { M.is_trusted room.new → M.is_trusted room.old }
     ensures plays { Plays M.step zone.now (M.is_trusted room.new) (M.stands room.old)
         (M.stands room.new) at sent.now result }
@@ -90,7 +90,8 @@ pub fn play<M: Room>(
     }
 }
 
-/// Plays a message where the room comes to this digest by it. Where not, nothing is done.
+/// Plays a message where the room comes by it to the digest of this head. Where not, nothing is
+/// done.
 pub fn play_towards<M: Digested>(
     alloc: Global,
     routes: &Routes,
@@ -98,14 +99,16 @@ pub fn play_towards<M: Digested>(
     room: &mut M,
     sent: &[u8],
     at: Moment,
-    digest: &[u8; DIGEST_DIGITS],
+    head: &Head,
 ) -> Result<(), ReplayFault>
     requires ready { M.is_ready room.old }
     requires fits { length sent.now ≤ INBOX_ROOM }
     ensures ready { M.is_ready room.new }
+    ensures zone { M.zone room.new ≡ M.zone room.old }
     ensures trusted { M.is_trusted room.new → M.is_trusted room.old }
-    ensures plays { PlaysTowards M.step zone.now (digits_of M.digest_of) (M.is_trusted room.new)
-        (M.stands room.old) (M.stands room.new) at sent.now digest.now result }
+    ensures plays { PlaysTowards M.step zone.now (digits_of M.digest_of (M.zone room.old))
+        (M.is_trusted room.new)
+        (M.stands room.old) (M.stands room.new) at sent.now head.now result }
     ensures kept { M.is_trusted room.new → UnlessWant result (M.is_kept room.old
         → M.is_kept room.new) }
 {
@@ -122,7 +125,7 @@ pub fn play_towards<M: Digested>(
             bytes: sent,
         },
         at,
-        digest,
+        head,
     ) {
         Ok(told) => {
             drop(told);
@@ -149,22 +152,24 @@ pub fn has_status(answer: &[u8], status: u16) -> bool
     Buffer::new().format(status).as_bytes() == status_in(answer)
 }
 
-/// Whether the digest of the room's rows is this one.
-pub fn is_at<M: Digested>(room: &mut M, digest: &[u8; DIGEST_DIGITS]) -> Result<bool, ReplayFault>
+/// Whether the digest of the room's rows is that of this head.
+pub fn is_at<M: Digested>(room: &mut M, head: &Head) -> Result<bool, ReplayFault>
     requires { M.is_ready room.old }
     ensures ready { M.is_ready room.new }
+    ensures zone { M.zone room.new ≡ M.zone room.old }
     ensures trusted { M.is_trusted room.new → M.is_trusted room.old }
     ensures same { M.is_trusted room.new → (terminals : List Terminal) (room_then : Held)
         → M.stands room.old terminals room_then → M.stands room.new terminals room_then }
     ensures says { M.is_trusted room.new → IfOk result (λ is. (terminals : List Terminal)
         (room_then : Held) → M.stands room.old terminals room_then
-        → (IsTrue is ↔ (digits_of M.digest_of terminals room_then ≡ digest.now))) }
+        → (IsTrue is ↔ IsHeadOf (digits_of M.digest_of (M.zone room.old)) head.now
+        terminals room_then)) }
     ensures kept { M.is_trusted room.new → UnlessWant result (M.is_kept room.old
         → M.is_kept room.new) }
     ensures wants { IfErr result IsWanting }
 {
-    match room.digest() {
-        Ok(hash) => Ok(digest_of(&hash).as_slice() == digest.as_slice()),
+    match room.digest(head.version) {
+        Ok(hash) => Ok(digest_of(&hash).as_slice() == head.digits.as_slice()),
         Err(refusal) => Err(ReplayFault::Want(refusal)),
     }
 }

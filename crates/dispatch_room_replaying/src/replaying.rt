@@ -43,8 +43,10 @@ pub fn replay<R: Source, M: Digested>(
     requires reader { R.has_failed reader.old ≡ false }
     requires ready { M.is_ready room.old }
     ensures ready { M.is_ready room.new }
+    ensures zone { M.zone room.new ≡ M.zone room.old }
     ensures trusted { M.is_trusted room.new → M.is_trusted room.old }
-    ensures replay { Replays M.step zone.now (digits_of M.digest_of) (M.is_trusted room.new)
+    ensures replay { Replays M.step zone.now (digits_of M.digest_of (M.zone room.old))
+        (M.is_trusted room.new)
         (M.stands room.old) (M.stands room.new) (R.left reader.old) until.now
         (R.has_failed reader.new) result }
     ensures kept { M.is_trusted room.new → UnlessStopped result (M.is_kept room.old
@@ -73,8 +75,10 @@ fn replay_turns<R: Source, M: Digested>(
     requires ready { M.is_ready room.old }
     requires empty { inbox.old.kept ≡ [] }
     ensures ready { M.is_ready room.new }
+    ensures zone { M.zone room.new ≡ M.zone room.old }
     ensures trusted { M.is_trusted room.new → M.is_trusted room.old }
-    ensures replay { Replays M.step zone.now (digits_of M.digest_of) (M.is_trusted room.new)
+    ensures replay { Replays M.step zone.now (digits_of M.digest_of (M.zone room.old))
+        (M.is_trusted room.new)
         (M.stands room.old) (M.stands room.new) (R.left reader.old) until.now
         (R.has_failed reader.new) result }
     ensures kept { M.is_trusted room.new → UnlessStopped result (M.is_kept room.old
@@ -114,9 +118,10 @@ fn replay_turn<R: Source, M: Digested>(
     requires ready { M.is_ready room.old }
     requires sound { R.has_failed reader.old ≡ false }
     ensures ready { M.is_ready room.new }
+    ensures zone { M.zone room.new ≡ M.zone room.old }
     ensures trusted { M.is_trusted room.new → M.is_trusted room.old }
-    ensures turn { TakesTurn M.step zone.now (digits_of M.digest_of) (M.is_trusted room.new)
-        (M.stands room.old) (M.stands room.new)
+    ensures turn { TakesTurn M.step zone.now (digits_of M.digest_of (M.zone room.old))
+        (M.is_trusted room.new) (M.stands room.old) (M.stands room.new)
         (prepend_known inbox.old.kept (R.left reader.old))
         (prepend_known inbox.new.kept (R.left reader.new)) until.now IsReplayed progress.old
         progress.new (R.has_failed reader.new) result }

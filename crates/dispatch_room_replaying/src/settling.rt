@@ -1,4 +1,5 @@
 //! What becomes of a message, by what follows it in the journal.
+ghost use Rattle.std.specs.Prelude.{◌≡◌};
 ghost use Rattle.std.specs.Prelude.{◌≤◌, length};
 ghost use Rattle.room_http_messages.specs.declared.limits.TheConstants.{INBOX_ROOM};
 ghost use Rattle.dispatch_room_journal.specs.declared.lines.Line.TheVariants.{Answer, Room};
@@ -7,10 +8,10 @@ ghost use Rattle.dispatch_room_replaying.specs.Steps.{Settles};
 
 use crate::faults::ReplayFault;
 use crate::playing::{has_status, is_at, play, play_towards};
-use dispatch_room_journal::lines::{DIGEST_DIGITS, Line};
+use dispatch_room_journal::lines::Line;
 use room_http_requests::routes::Routes;
 use room_http_time::zones::Zone;
-use room_service::digests::Digested;
+use room_service::digests::{Digested, Head};
 use room_types::numbers::Moment;
 use std::alloc::Global;
 
@@ -27,8 +28,10 @@ fn play_answered<M: Digested>(
     requires ready { M.is_ready room.old }
     requires fits { length sent.now ≤ INBOX_ROOM }
     ensures ready { M.is_ready room.new }
+    ensures zone { M.zone room.new ≡ M.zone room.old }
     ensures trusted { M.is_trusted room.new → M.is_trusted room.old }
-    ensures turn { Settles M.step zone.now (digits_of M.digest_of) (M.is_trusted room.new)
+    ensures turn { Settles M.step zone.now (digits_of M.digest_of (M.zone room.old))
+        (M.is_trusted room.new)
         (M.stands room.old) (M.stands room.new) at sent.now (Answer status) result }
     ensures kept { M.is_trusted room.new → UnlessWant result (M.is_kept room.old
         → M.is_kept room.new) }
@@ -55,20 +58,22 @@ fn catch_up<M: Digested>(
     room: &mut M,
     sent: &[u8],
     at: Moment,
-    digest: &[u8; DIGEST_DIGITS],
+    head: &Head,
 ) -> Result<bool, ReplayFault>
     requires ready { M.is_ready room.old }
     requires fits { length sent.now ≤ INBOX_ROOM }
     ensures ready { M.is_ready room.new }
+    ensures zone { M.zone room.new ≡ M.zone room.old }
     ensures trusted { M.is_trusted room.new → M.is_trusted room.old }
-    ensures turn { Settles M.step zone.now (digits_of M.digest_of) (M.is_trusted room.new)
-        (M.stands room.old) (M.stands room.new) at sent.now (Room digest.now) result }
+    ensures turn { Settles M.step zone.now (digits_of M.digest_of (M.zone room.old))
+        (M.is_trusted room.new)
+        (M.stands room.old) (M.stands room.new) at sent.now (Room head.now) result }
     ensures kept { M.is_trusted room.new → UnlessWant result (M.is_kept room.old
         → M.is_kept room.new) }
 {
-    match is_at(room, digest) {
+    match is_at(room, head) {
         Ok(true) => Ok(false),
-        Ok(false) => match play_towards(alloc, routes, zone, room, sent, at, digest) {
+        Ok(false) => match play_towards(alloc, routes, zone, room, sent, at, head) {
             Ok(()) => Ok(true),
             Err(fault) => Err(fault),
         },
@@ -90,15 +95,17 @@ pub fn settle<M: Digested>(
     requires ready { M.is_ready room.old }
     requires fits { length sent.now ≤ INBOX_ROOM }
     ensures ready { M.is_ready room.new }
+    ensures zone { M.zone room.new ≡ M.zone room.old }
     ensures trusted { M.is_trusted room.new → M.is_trusted room.old }
-    ensures turn { Settles M.step zone.now (digits_of M.digest_of) (M.is_trusted room.new)
+    ensures turn { Settles M.step zone.now (digits_of M.digest_of (M.zone room.old))
+        (M.is_trusted room.new)
         (M.stands room.old) (M.stands room.new) at sent.now line.now result }
     ensures kept { M.is_trusted room.new → UnlessWant result (M.is_kept room.old
         → M.is_kept room.new) }
 {
     match line {
         Line::Answer(status) => play_answered(alloc, routes, zone, room, sent, at, *status),
-        Line::Room(digest) => catch_up(alloc, routes, zone, room, sent, at, digest),
+        Line::Room(head) => catch_up(alloc, routes, zone, room, sent, at, head),
         Line::Message { .. } => Ok(false),
     }
 }

@@ -6,6 +6,7 @@ use Rattle.std.proofs.lemmas.List.Elements.{All-append, All-cons, All-head, All-
 use Rattle.std.specs.Prelude.{All, option_and_then}
 use Rattle.sqlite.specs.Held.{state}
 use Rattle.sqlite.specs.State.{HasCleanDisk}
+use Rattle.sqlite_trees.specs.Tree.{Trees}
 use Rattle.sqlite_trees.specs.declared.store.Store.{Ghosts}
 use Rattle.room_types.specs.declared.fleet.Terminal.{Terminal}
 use Rattle.room_model.specs.Enrol.{AreTerminals}
@@ -14,6 +15,7 @@ use Rattle.room_model.specs.WellFormed.{IsWellFormed}
 use Rattle.room_http_time.specs.declared.zones.Zone.{Zone}
 use Rattle.room_store.specs.Keeping.{IsKept, IsRoom, LeavesOneOf}
 use Rattle.room_store.specs.declared.store.Store.{Store}
+use Rattle.room_tables.specs.Stands.{Stands}
 use Rattle.room_http.specs.Runs.{Exchange, IsRun, room_by}
 use Rattle.room_http.specs.Course.{AreFirstIn}
 use Rattle.room_http.specs.Served.{KeepsPromises, Served}
@@ -204,6 +206,13 @@ module _ {S : Type 0} where
   ends_after calls (Some c) most fault go within is = (calls, c, refl, rw length-append (omega (arith, within)), go, has_some fault (fault_after c) is)
 
 -- ---- what is kept
+-- a stop leaves what is kept alone
+pub leaves_kept : {S : Type 0} (g : Ghosts S) (store : Store S) (terminals : List Terminal)
+    (room : Room) → IsRoom g store terminals room → IsKept g store
+    → LeavesOneOf g store terminals (room ∷ [])
+leaves_kept g store terminals room is kept db left =
+    inl (subst (λ (trees : Trees). Stands trees (record { zone = store.plan.zone; terminals = terminals }) room) (sym (kept.alone db left)) (is.tables kept.is_open))
+
 -- more is served only with a store that is sound
 sound_of_none : (end : ServeEnd) (is_sound : Bool) → fault_by end is_sound ≡ None
     → is_sound ≡ false → ⊥
@@ -225,14 +234,14 @@ sound_of_none end.ReadsSpent false none unsound = cc
 module _ {S : Type 0} (g : Ghosts S) (zone : Zone) (came_text : ℕ → List ℕ → List ℕ)
     (told_text : List ℕ → List ℕ) where
   -- where more is served after a connection, what the store holds is kept
-  kept_after : (stage : Stage S) (c : Conversation S) → IsNext g zone came_text told_text stage c
+  pub kept_after : (stage : Stage S) (c : Conversation S) → IsNext g zone came_text told_text stage c
       → GoesOn c → HasCleanDisk (state g c.store.conn) → IsKept g c.store
   kept_after stage c next goes_on clean = elim (next.kept clean) [
     | inl kept ↦ kept
     | inr unsound ↦ absurd (sound_of_none c.end c.store.is_sound goes_on unsound)
   ]
 
-  clean_before : (cs : List (Conversation S)) (stage last : Stage S)
+  pub clean_before : (cs : List (Conversation S)) (stage last : Stage S)
       → AreNext g zone came_text told_text cs stage last → HasCleanDisk (state g last.store.conn)
       → HasCleanDisk (state g stage.store.conn)
   clean_before [] stage last same clean = rw (← same) clean

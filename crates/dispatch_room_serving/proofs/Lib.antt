@@ -2,3 +2,9 @@
 pub mod ConnectionLaws
 -- what the path of a target is
 pub mod LogLemmas
+-- starts, one after another
+pub mod StartLaws
+-- the list that is kept over starts
+pub mod ListLaws
+-- such a list, replayed
+pub mod ReplayLaws

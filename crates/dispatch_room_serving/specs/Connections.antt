@@ -23,8 +23,11 @@ use Rattle.dispatch_room_endings.specs.declared.endings.Done.{Done}
 use Rattle.dispatch_room_endings.specs.declared.endings.Done.TheVariants.{Whole}
 use Rattle.dispatch_room_endings.specs.declared.endings.Failure.{Failure}
 use Rattle.dispatch_room_endings.specs.declared.endings.Failure.TheVariants.{Journal, Memory, Storage}
-use Rattle.dispatch_room_serving.specs.declared.connections.TheConstants.{MOST_READS}
 use Rattle.dispatch_room_serving.specs.Calls.{Grows, Opening}
+
+-- how many reads a connection has at most
+abbrev pub most_reads : ℕ
+most_reads = 100000
 
 -- where serving stands between two connections: what is known of the moments given and of what the
 -- witness keeps, whether it has failed, and the store
@@ -119,6 +122,12 @@ module _ {S : Type 0} where
   abbrev pub GoOn : List (Option (Conversation S)) → Type 0
   GoOn calls = All GoesOn (connected calls)
 
+  -- and after each of these but the last
+  abbrev pub GoOnBefore : List (Conversation S) → Type 0
+  GoOnBefore [] = ⊤
+  GoOnBefore (c ∷ []) = ⊤
+  GoOnBefore (c ∷ d ∷ cs) = GoesOn c × GoOnBefore (d ∷ cs)
+
   -- How serving so many calls ended. Well: all came, and after each more was served. With a fault:
   -- it is that after which no more is served, of the last.
   abbrev pub EndsAs : List (Option (Conversation S)) → ℕ → Result Done Failure → Type 0
@@ -160,21 +169,24 @@ module _ {S : Type 0} (g : Ghosts S) (zone : Zone) (terminals : List Terminal) w
 module _ {S : Type 0} (g : Ghosts S) (zone : Zone) (came_text : ℕ → List ℕ → List ℕ)
     (told_text : List ℕ → List ℕ) where
   -- It was served as one connection is, from where serving stood, and witnessed. The witness fails
-  -- only where something can't be kept. What the store holds afterwards is kept, unless it is shut.
+  -- only where something can't be kept. The zone of the plan stays. What the store holds afterwards
+  -- is kept, unless it is shut.
   pub record IsNext (stage : Stage S) (c : Conversation S) : Type 0 where
     pub begins : stage_before c ≡ stage
-    pub reads : ReadsAtMost MOST_READS c.before.reads c.after.reads
+    pub reads : ReadsAtMost most_reads c.before.reads c.after.reads
     pub talk : ServeIs machine zone c.before c.after (HasCleanDisk (state g c.store.conn))
         (IsRoom g c.from)
         (Stays (IsKept g c.from) (IsRoom g c.store) (LeavesOneOf g c.store))
         (Wants machine zone (IsKept g c.from) (IsRoom g c.store) (LeavesOneOf g c.store))
-        (KnowsNothing c.store.cache) c.course MOST_READS c.end
+        (KnowsNothing c.store.cache) c.course most_reads c.end
     pub none_missed : MissesNone c.before.left c.unread c.before.given c.after.given c.end
     pub witnessed : KeepsEach came_text told_text
+        (HasCleanDisk (state g c.store.conn) → IsKept g c.from → IsKept g c.store)
         (ActsOnEach machine zone (HasCleanDisk (state g c.store.conn)) (IsRoom g c.from)
         (IsRoom g c.store)) c.before.left
-        (tapes_before c) (tapes_after c) c.course
+        (tapes_before c) (tapes_after c) c.end c.course
     pub failed : c.end ≢ end.Unkept → c.after.witness_failed ≡ c.had_failed
+    pub same_zone : c.store.plan.zone ≡ c.from.plan.zone
     pub trusted : HasCleanDisk (state g c.store.conn) → HasCleanDisk (state g c.from.conn)
     pub kept : HasCleanDisk (state g c.store.conn)
         → IsKept g c.store ⊎ (c.store.is_sound ≡ false)

@@ -12,3 +12,7 @@ pub mod LogLines
 pub mod Logs
 -- the room of a database, opened and served
 pub mod Rooms
+-- starts of a room's service, one after another
+pub mod Starts
+-- the list that is kept over all starts
+pub mod Lists

@@ -1,8 +1,6 @@
 -- The room of a database, opened and served.
-use Rattle.std.specs.Prelude.{◌≡◌, ◌⊎◌, ℕ, List, [], if◌then◌else◌, Bool, true, Option, Result, Ok, Err}
+use Rattle.std.specs.Prelude.{◌≡◌, ◌⊎◌, ℕ, List, [], ◌∷◌, if◌then◌else◌, Bool, true, Option, Result, Ok, Err}
 use Rattle.std.specs.Io.KnownBytes.{Appends}
-use Rattle.hex.specs.Hex.{encode_lower}
-use Rattle.sha2.specs.Sha256.{sha256}
 use Rattle.jiff.specs.Placed.{IsPosixZone}
 use Rattle.sqlite.specs.Held.{Held, state}
 use Rattle.sqlite.specs.State.{HasCleanDisk}
@@ -12,9 +10,12 @@ use Rattle.room_model.specs.Room.{Room}
 use Rattle.room_http.specs.Talk.{IsFront}
 use Rattle.room_http_time.specs.Days.{zone_of}
 use Rattle.room_http_time.specs.declared.zones.Zone.{Zone}
-use Rattle.room_store.specs.Keeping.{IsKept, IsRoom}
+use Rattle.room_service.specs.Digests.{IsHeadOf, digits_of}
+use Rattle.room_service.specs.declared.digests.Head.{Head}
+use Rattle.room_service.specs.declared.digests.Version.TheVariants.{Second}
+use Rattle.room_store.specs.Keeping.{IsKept, IsRoom, LeavesOneOf}
 use Rattle.room_store.specs.declared.store.Store.{Store}
-use Rattle.room_store_digest.specs.Texts.{digest_text}
+use Rattle.room_store_digest.specs.Texts.{digest_of}
 use Rattle.dispatch_room_endings.specs.declared.endings.Done.{Done}
 use Rattle.dispatch_room_endings.specs.declared.endings.Failure.{Failure}
 use Rattle.dispatch_room_endings.specs.declared.endings.Failure.TheVariants.{Journal, Memory, Network, Storage}
@@ -26,30 +27,35 @@ abbrev pub IsUnbegun : Failure → Type 0
 IsUnbegun fault = (fault ≡ Network) ⊎ (fault ≡ Journal) ⊎ (fault ≡ Memory) ⊎ (fault ≡ Storage)
 
 module _ {S : Type 0} (g : Ghosts S) where
-  -- The store was looked at, and stands for what it stood for.
+  -- The store was looked at, and stands for what it stood for. Where that was kept, a stop leaves it.
   pub record Looks (old new : Store S) : Type 0 where
+    pub zone : new.plan.zone ≡ old.plan.zone
     pub trusted : HasCleanDisk (state g new.conn) → HasCleanDisk (state g old.conn)
     pub same : HasCleanDisk (state g new.conn) → (terminals : List Terminal) (room : Room)
         → IsRoom g old terminals room → IsRoom g new terminals room
+    pub left : HasCleanDisk (state g new.conn) → IsKept g old
+        → (terminals : List Terminal) (room : Room) → IsRoom g old terminals room
+        → LeavesOneOf g new terminals (room ∷ [])
 
   -- and what was kept is kept
   pub record LooksOnly (old new : Store S) : Type 0 where
     pub looks : Looks old new
     pub kept : HasCleanDisk (state g new.conn) → IsKept g old → IsKept g new
 
-  -- the digest of the room that a store stood for, in digits
-  abbrev pub IsDigestOf : Store S → Store S → List ℕ → Type 0
-  IsDigestOf old new digest =
-      HasCleanDisk (state g new.conn) → (terminals : List Terminal) (room : Room)
-      → IsRoom g old terminals room → digest ≡ encode_lower (sha256 (digest_text terminals room))
+  -- the head tells the digest of all rows of the room that a store stood for
+  abbrev pub IsDigestOf : Store S → Store S → Head → Type 0
+  IsDigestOf old new head = (head.version ≡ Second)
+      × (HasCleanDisk (state g new.conn) → (terminals : List Terminal) (room : Room)
+      → IsRoom g old terminals room
+      → IsHeadOf (digits_of digest_of old.plan.zone) head terminals room)
 
   -- where a watcher wants the digest of the room's rows, or doesn't, and what it keeps of it
-  module _ (wants : Bool) (begun_text : List ℕ → List ℕ) where
+  module _ (wants : Bool) (begun_text : Head → List ℕ) where
     -- what it keeps where serving begins: where it doesn't want the digest, nothing
     pub record IsHead (old new : Store S) (text : List ℕ) : Type 0 where
-      pub digest : List ℕ
-      pub known : wants ≡ true → IsDigestOf old new digest
-      pub told : text ≡ if wants then begun_text digest else []
+      pub head : Head
+      pub known : wants ≡ true → IsDigestOf old new head
+      pub told : text ≡ if wants then begun_text head else []
 
     -- it keeps that; or, where serving doesn't begin, nothing or some first bytes of it
     abbrev pub KeepsHead : Store S → Store S → Option (List ℕ) → Option (List ℕ)

@@ -7,12 +7,12 @@ ghost use Rattle.dispatch_room_journal.specs.Entries.{IsDigest, IsEntry, message
 ghost use Rattle.dispatch_room_journal.specs.Records.{answer_text, message_text, room_text};
 ghost use Rattle.dispatch_room_serving.specs.Journals.{FailsForGood, Lasts, is_message};
 
-use dispatch_room_journal::lines::DIGEST_DIGITS;
 use dispatch_room_journal::statuses::status_of;
 use dispatch_room_journal::writing::{put_answer, put_message, put_room};
 use room_http::arrivals::Arrived;
 use room_http::witnesses::{Asked, Unkept, Witness};
 use room_http_messages::sinks::Sink;
+use room_service::digests::Head;
 use room_types::numbers::Moment;
 
 /// Where a journal is written.
@@ -54,9 +54,9 @@ impl<W: Synced> Journal<W> {
     }
 
     /// A part begins, at a room whose rows have this digest.
-    pub fn begin(&mut self, digest: &[u8; DIGEST_DIGITS]) -> Result<(), Unkept>
-        requires { IsDigest digest.now }
-        ensures kept { KeepsAll (W.held self.old.out) (W.held self.new.out) (room_text digest.now)
+    pub fn begin(&mut self, head: &Head) -> Result<(), Unkept>
+        requires { IsDigest head.now.digits }
+        ensures kept { KeepsAll (W.held self.old.out) (W.held self.new.out) (room_text head.now)
             result }
         ensures lasts { OnOk result
             (Lasts self.old.is_synced (W.lasting self.new.out) (W.held self.new.out)) }
@@ -66,7 +66,7 @@ impl<W: Synced> Journal<W> {
         if self.has_failed {
             return Err(Unkept);
         }
-        let kept = keep_room(&mut self.out, self.is_synced, digest);
+        let kept = keep_room(&mut self.out, self.is_synced, head);
         self.told(kept)
     }
 
@@ -132,20 +132,16 @@ impl<W: Synced> Witness for Journal<W> {
     fn answered(&mut self, _asked: &Asked<'_>, _answer: &[u8]) {}
 }
 
-// Keeps the digest at which a part begins, and makes it last, where that is wanted.
-fn keep_room<W: Synced>(
-    out: &mut W,
-    is_synced: bool,
-    digest: &[u8; DIGEST_DIGITS],
-) -> Result<(), Unkept>
-    requires { IsDigest digest.now }
-    ensures kept { KeepsAll (W.held out.old) (W.held out.new) (room_text digest.now) result }
+// Keeps the head with which a part begins, and makes it last, where that is wanted.
+fn keep_room<W: Synced>(out: &mut W, is_synced: bool, head: &Head) -> Result<(), Unkept>
+    requires { IsDigest head.now.digits }
+    ensures kept { KeepsAll (W.held out.old) (W.held out.new) (room_text head.now) result }
     ensures lasts { OnOk result (Lasts is_synced (W.lasting out.new) (W.held out.new)) }
 {
     if !out.is_sound() {
         return Err(Unkept);
     }
-    match put_room(out, digest) {
+    match put_room(out, head) {
         Ok(()) if !is_synced || out.sync() => Ok(()),
         _ => Err(Unkept),
     }

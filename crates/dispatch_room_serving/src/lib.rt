@@ -5,6 +5,7 @@ pub mod callers;
 pub mod connections;
 pub mod journal_files;
 pub mod journals;
+pub mod laws;
 pub mod log_lines;
 pub mod logs;
 pub mod serving;

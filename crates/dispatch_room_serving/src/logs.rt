@@ -1,6 +1,6 @@
 //! A log of what is served: a line for each message.
-ghost use Rattle.std.specs.Prelude.{◌≡◌, [], None, false};
-ghost use Rattle.dispatch_room_serving.specs.Logged.{request_of};
+ghost use Rattle.std.specs.Prelude.{◌≡◌, [], None, false, true};
+ghost use Rattle.dispatch_room_serving.specs.Logged.{PutsAll, PutsLine, request_of};
 ghost use Rattle.dispatch_room_serving.specs.Logs.{asked_by};
 
 use crate::log_lines::{Asker, Line, Request, Visible, path_of, utc};
@@ -9,8 +9,11 @@ use room_http::arrivals::Arrived;
 use room_http::witnesses::{Asked, Unkept, Witness};
 use room_types::numbers::Moment;
 use std::alloc::Global;
-use std::io::Write;
+use std::io::{ErrorKind, Write};
 use std::time::{Clock, Duration};
+
+// How often a write of a line is tried at most.
+const MOST_TRIES: u32 = u32::MAX;
 
 /// A log, with a line for each message that is answered: the moment of its answer, who asked, its
 /// method and path, the status, and the milliseconds from the message whole to the answer written,
@@ -47,7 +50,10 @@ impl<'a, E: Write, T: Clock> Log<'a, E, T> {
     }
 
     // Writes a line at once, and tells whether it could.
-    fn put(&mut self, asked: &Asked<'_>, answer: &[u8]) -> bool {
+    fn put(&mut self, asked: &Asked<'_>, answer: &[u8]) -> bool
+        ensures { PutsLine result (E.contents self.old.out.now) (E.contents self.new.out.now)
+            asked.now answer.now }
+    {
         let line = Line {
             at: utc(asked.at),
             asker: Asker { who: asked.who },
@@ -58,10 +64,30 @@ impl<'a, E: Write, T: Clock> Log<'a, E, T> {
             millis: self.now().saturating_sub(self.began).as_millis(),
         };
         match format!(in self.alloc; "{line}\n") {
-            Ok(line) => self.out.write_all(line.as_bytes()).is_ok(),
+            Ok(line) => put_all(self.out, line.as_bytes()),
             Err(_) => false,
         }
     }
+}
+
+// Writes all the bytes, and tells whether it could. A write that a signal interrupts is tried
+// again.
+fn put_all<E: Write>(out: &mut E, bytes: &[u8]) -> bool
+    ensures { PutsAll result (E.contents out.old) (E.contents out.new) bytes.now }
+{
+    let mut written = 0;
+    'tries: for _try in 0..MOST_TRIES {
+        if written == bytes.len() {
+            return true;
+        }
+        match out.write(&bytes[written..]) {
+            Ok(0) => return false,
+            Ok(count) => written += count,
+            Err(error) if error.kind() == ErrorKind::Interrupted => {}
+            Err(_) => return false,
+        }
+    }
+    false
 }
 
 // The method and the path of a message.
@@ -100,7 +126,13 @@ impl<'a, E: Write, T: Clock> Witness for Log<'a, E, T> {
         Ok(())
     }
 
-    fn answered(&mut self, asked: &Asked<'_>, answer: &[u8]) {
+    // Beside what each witness ensures: the line is written, unless the log is none or given up.
+    fn answered(&mut self, asked: &Asked<'_>, answer: &[u8])
+        ensures line { self.old.goes_on ≡ true → PutsLine self.new.goes_on
+            (E.contents self.old.out.now) (E.contents self.new.out.now) asked.now answer.now }
+        ensures silent { self.old.goes_on ≡ false
+            → E.contents self.new.out.now ≡ E.contents self.old.out.now }
+    {
         if self.goes_on {
             self.goes_on = self.put(asked, answer);
         }

@@ -13,6 +13,7 @@ use dispatch_room_journal::digests::digest_of;
 use dispatch_room_opening::rooms::{Worked, open_room};
 use room_http_time::clocks::Clock;
 use room_http_time::zones::Zone;
+use room_service::digests::{Head, Version};
 use room_store::digests::digest_of_room;
 use room_store::store::Store;
 use sqlite::{Alter, Connection};
@@ -128,11 +129,17 @@ fn announce<S: Alter, N: Watcher>(room: &mut Store<S>, watcher: &mut N) -> Resul
     if !watcher.wants_digest() {
         return Ok(());
     }
-    match digest_of_room(room) {
-        Ok(digest) => match watcher.begins(&digest_of(&digest)) {
-            Ok(()) => Ok(()),
-            Err(_) => Err(Failure::Journal),
-        },
+    match digest_of_room(room, Version::Second) {
+        Ok(digest) => {
+            let head = Head {
+                version: Version::Second,
+                digits: digest_of(&digest),
+            };
+            match watcher.begins(&head) {
+                Ok(()) => Ok(()),
+                Err(_) => Err(Failure::Journal),
+            }
+        }
         Err(refusal) => Err(refused(refusal)),
     }
 }

@@ -6,9 +6,9 @@ ghost use Rattle.dispatch_room_serving.specs.Journals.{failed_by, held_by};
 use crate::journals::{Journal, Synced};
 use crate::logs::Log;
 use crate::watchers::Watcher;
-use dispatch_room_journal::lines::DIGEST_DIGITS;
 use room_http::arrivals::Arrived;
 use room_http::witnesses::{Asked, Unkept, Witness};
+use room_service::digests::Head;
 use room_types::numbers::Moment;
 use std::io::Write;
 use std::time::Clock;
@@ -68,9 +68,9 @@ impl<'a, E: Write, T: Clock, W: Synced> Watcher for Watch<'a, E, T, W> {
         self.journal.is_some()
     }
 
-    fn begins(&mut self, digest: &[u8; DIGEST_DIGITS]) -> Result<(), Unkept> {
+    fn begins(&mut self, head: &Head) -> Result<(), Unkept> {
         match &mut self.journal {
-            Some(journal) => journal.begin(digest),
+            Some(journal) => journal.begin(head),
             None => Ok(()),
         }
     }

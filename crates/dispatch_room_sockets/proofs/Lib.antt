@@ -1,1 +1,2 @@
 mod StreamLaws
+mod PartingLaws

@@ -2,6 +2,6 @@
 use Rattle.std.specs.Prelude.{ℕ, List, ◌≤◌, length, Option}
 use Rattle.std.specs.Io.KnownBytes.{Consumes}
 
--- The bytes that are known to come lose some at their front, of which there are 16 MiB at most.
-abbrev pub ThrowsAway : Option (List ℕ) → Option (List ℕ) → Type 0
-ThrowsAway old new = (bytes : List ℕ) × Consumes old new bytes × (length bytes ≤ 16777216)
+-- The bytes that are known to come lose some at their front, so many at most.
+abbrev pub ThrowsAway : ℕ → Option (List ℕ) → Option (List ℕ) → Type 0
+ThrowsAway most old new = (bytes : List ℕ) × Consumes old new bytes × (length bytes ≤ most)

@@ -1,5 +1,5 @@
 //! A socket that is read from.
-ghost use Rattle.std.specs.Prelude.{◌≡◌, ◌≤◌, ◌-◌, ◌+◌, ◌↔◌, IfOk, IfSome, IsTrue, false, is_err, min, if◌then◌else◌, length, ◌==◌, ◌||◌};
+ghost use Rattle.std.specs.Prelude.{◌≡◌, ◌≤◌, ◌-◌, ◌+◌, IfOk, IfSome, false, not, is_err, min, if◌then◌else◌, length, ◌==◌, ◌||◌};
 ghost use Rattle.std.specs.Io.KnownBytes.{ReadConsumes};
 ghost use Rattle.room_http_messages.specs.Streams.{found_end, known_count, CountsBy};
 ghost use Rattle.room_http_messages.specs.declared.limits.TheConstants.{INBOX_ROOM};
@@ -13,10 +13,8 @@ use std::io::Read;
 use std::net::OpenStream;
 use std::time::{Clock, Duration};
 
-// How many bytes are thrown away by one read, and in how many reads.
+// How many bytes are thrown away by one read.
 const PIECE: usize = 4096;
-
-const MOST_PIECES: u32 = 4096;
 
 /// A socket that is read from, each read until a moment that its pace tells.
 #[derive(Drop)]
@@ -131,32 +129,30 @@ impl<'a, T: Read + OpenStream, C: Clock> SocketReader<'a, T, C> {
 
     /// Whether the peer may still send: no read has failed or found the end.
     pub(crate) fn is_open(&self) -> bool
-        ensures { IsTrue result ↔ ((self.now.lost ≡ false) × (self.now.ended ≡ false)) }
+        ensures { result ≡ not (self.now.lost || self.now.ended) }
     {
         !self.lost && !self.ended
     }
 
-    /// Reads what still comes and throws it away: until it ends, until nothing comes for as long as
-    /// a connection may idle, until a moment, or so many bytes.
-    pub(crate) fn drain(&mut self, moment: Duration)
-        ensures { ThrowsAway (T.remaining self.old.stream) (T.remaining self.new.stream) }
+    /// Reads a piece of what still comes and throws it away, and says whether more may come. It
+    /// waits until a moment, and no longer than a connection may idle.
+    pub(crate) fn throw_away(&mut self, moment: Duration) -> bool
+        ensures { ThrowsAway 4096 (T.remaining self.old.stream) (T.remaining self.new.stream) }
     {
+        let Ok(now) = self.clock.monotonic() else {
+            return false;
+        };
+        let silent = earlier(now.saturating_add(self.idle), moment);
         let mut piece = [0; PIECE];
-        for _piece in 0..MOST_PIECES {
-            let Ok(now) = self.clock.monotonic() else {
-                return;
-            };
-            let silent = earlier(now.saturating_add(self.idle), moment);
-            match read_until(
-                &mut self.stream,
-                self.clock,
-                &mut self.told,
-                silent,
-                &mut piece,
-            ) {
-                Ok(0) | Err(_) => return,
-                Ok(_) => {}
-            }
+        match read_until(
+            &mut self.stream,
+            self.clock,
+            &mut self.told,
+            silent,
+            &mut piece,
+        ) {
+            Ok(0) | Err(_) => false,
+            Ok(_) => true,
         }
     }
 }

@@ -61,7 +61,7 @@ module _ (came : ℕ → List ℕ → List ℕ) (told : List ℕ → List ℕ) w
   answer_is (Refused r head_only) (message m) answer is = absurd is
   answer_is (Refused r head_only) (refused s without) answer is = refl
 
-  module _ (unmoved : Type 0) (moved : Timed → List ℕ → Type 0) (arrived : Arrived) (o : Arrival)
+  module _ (lasts unmoved : Type 0) (moved : Timed → List ℕ → Type 0) (arrived : Arrived) (o : Arrival)
       (shown : IsShown arrived o) (at : ℕ) (within : at ≤ LAST_MOMENT)
       (given gives : Option (List ℕ)) (moment : Appends given gives (at ∷ [])) where
     abbrev coming : List ℕ
@@ -70,29 +70,32 @@ module _ (came : ℕ → List ℕ → List ℕ) (told : List ℕ → List ℕ) w
     abbrev Here : Option (List ℕ) → Option (List ℕ) → Option (List ℕ) → Option (List ℕ)
         → Result (Unit {0}) ServeEnd → Type 0
     Here kept keeps held holds =
-        KeepsOne came told unmoved moved (record { given = given; kept = kept; held = held }) (record { given = gives; kept = keeps; held = holds }) at o
+        KeepsOne came told lasts unmoved moved (record { given = given; kept = kept; held = held }) (record { given = gives; kept = keeps; held = holds }) at o
 
     is_record : (answer : List ℕ) → IsRecord came told (o, at) answer
         (coming ++ told_of told arrived answer)
     is_record answer = (coming, come arrived o at within shown, ap (λ t. coming ++ t) (answer_is arrived o answer shown))
 
     -- it could not be kept as it came
-    pub kept_none : (kept keeps held : Option (List ℕ)) → unmoved
+    pub kept_none : (kept keeps held : Option (List ℕ)) → lasts → unmoved
         → ((front : List ℕ) × IsFront front coming × Appends kept keeps front)
         → Here kept keeps held held (Err Unkept)
-    kept_none kept keeps held still cut = (
+    kept_none kept keeps held same still cut = (
       cut.0,
       [],
-      inl (still, inl (coming, come arrived o at within shown, cut.1, refl)),
+      inl (still, inl (same, (coming, come arrived o at within shown, cut.1, refl), refl)),
       record { given = moment; kept = cut.2; held = Appends-none held },
     )
 
-    -- memory or storage was wanting
-    pub kept_want : (kept comes last held holds : Option (List ℕ)) (r : Refusal) (wrote : List ℕ)
+    -- memory or storage was wanting, however serving ended by that
+    pub kept_want : (end : ServeEnd) (kept comes last held holds : Option (List ℕ)) (r : Refusal)
+        (wrote : List ℕ)
         → unmoved → IsWant r → Appends kept comes coming → last ≡ comes
         → IsFront wrote (fixed_bytes r (is_head_only o)) → Appends held holds wrote
-        → Here kept last held holds (Err Closed)
-    kept_want kept comes last held holds r wrote still want first same front written = (
+        → (tail wrote : List ℕ) × IsBegun came told end lasts unmoved (moved (o, at)) (o, at) tail wrote
+        × Grow (record { given = given; kept = kept; held = held })
+        (record { given = gives; kept = last; held = holds }) (at ∷ []) tail wrote
+    kept_want end kept comes last held holds r wrote still want first same front written = (
       coming,
       wrote,
       inl (still, inr (come arrived o at within shown, (r, want, front))),
@@ -100,7 +103,8 @@ module _ (came : ℕ → List ℕ → List ℕ) (told : List ℕ → List ℕ) w
     )
 
     -- the room has acted, and these are the bytes of its answer
-    module _ (answer bytes : List ℕ) (are : answer ≡ bytes) (acts : moved (o, at) bytes) where
+    module _ (answer bytes : List ℕ) (are : answer ≡ bytes) (acts : moved (o, at) bytes)
+        (stays : lasts) where
       acted : moved (o, at) answer
       acted = rw are acts
 
@@ -112,7 +116,7 @@ module _ (came : ℕ → List ℕ → List ℕ) (told : List ℕ → List ℕ) w
       kept_part kept comes keeps held first cut = (
         coming ++ cut.0,
         [],
-        inr (answer, acted, inl (coming, cut.0, come arrived o at within shown, (cut.1.0, sym (answer_is arrived o answer shown) ∙ cut.1.1), refl, refl)),
+        inr (answer, acted, stays, inl ((coming, cut.0, come arrived o at within shown, (cut.1.0, sym (answer_is arrived o answer shown) ∙ cut.1.1), refl, refl), refl)),
         record {
           given = moment;
           kept = Appends-more kept comes keeps coming cut.0 first cut.2;
@@ -147,7 +151,7 @@ module _ (came : ℕ → List ℕ → List ℕ) (told : List ℕ → List ℕ) w
       kept_cut kept comes keeps last held holds wrote first second same front written = (
         coming ++ told_of told arrived answer,
         wrote,
-        inr (answer, acted, inr (is_record answer, front)),
+        inr (answer, acted, stays, inr (is_record answer, front)),
         record {
           given = moment;
           kept = rw same
@@ -218,19 +222,21 @@ module _ (came : ℕ → List ℕ → List ℕ) (told : List ℕ → List ℕ) w
         (stood stands : List Terminal → Room → Type 0) (outs : List Timed)
         (answers : List (List ℕ))
         → Noted step zone left old remains new trusted stood stands outs answers
-        → KeepsEach came told (ActsOnEach step zone trusted stood stands) left old new
+        → (end : ServeEnd) (lasts : Type 0) → lasts
+        → KeepsEach came told lasts (ActsOnEach step zone trusted stood stands) left old new end
         (record { outs = outs; answers = answers; last = None })
-    Noted-ends remains new trusted stood stands outs answers before = record {
+    Noted-ends remains new trusted stood stands outs answers before end lasts same = record {
       text = before.text;
       kept = before.kept;
-      ends = inl (refl, before.moved, (λ stream known. let begins = before.begins stream known in (begins.0, begins.2, tt)), ([], inl refl, rw append-nil before.grew));
+      ends = inl (refl, same, before.moved, (λ stream known. let begins = before.begins stream known in (begins.0, begins.2, tt)), ([], inl refl, rw append-nil before.grew));
     }
 
     -- one more arrival
     module _ (early_left remains : Option (List ℕ)) (mid : Tapes) (early late : Type 0)
         (stood stays stands : List Terminal → Room → Type 0) (earlier : late → early)
         (outs : List Timed) (answers : List (List ℕ))
-        (noted : Noted step zone left old early_left mid early stood stays outs answers) (same : Keeps early_left remains) (new : Tapes) (after : Option (List ℕ)) (o : Arrival) (pass : Passes remains after o) (at : ℕ) where
+        (noted : Noted step zone left old early_left mid early stood stays outs answers) (same : Keeps early_left remains) (new : Tapes) (after : Option (List ℕ)) (o : Arrival) (pass : Passes remains after o) (at : ℕ)
+        (lasts later : Type 0) (both : later → lasts) where
       before : Noted step zone left old remains mid early stood stays outs answers
       before = Noted-kept early_left remains mid early stood stays outs answers noted same
 
@@ -241,7 +247,7 @@ module _ (came : ℕ → List ℕ → List ℕ) (told : List ℕ → List ℕ) w
       Now = ActsOnEach step zone late stood stands
 
       abbrev One : Result (Unit {0}) ServeEnd → Type 0
-      One = KeepsOne came told (Unmoved late stays stands) (Acts step zone late stays stands) mid new at o
+      One = KeepsOne came told later (Unmoved late stays stands) (Acts step zone late stays stands) mid new at o
 
       same_moves : Unmoved late stays stands → Now outs answers
       same_moves still trust terminals room standing =
@@ -305,61 +311,64 @@ module _ (came : ℕ → List ℕ → List ℕ) (told : List ℕ → List ℕ) w
       }
 
       -- it was answered, and closes
-      pub Noted-closes : (one : One (Ok tt)) → KeepsEach came told Now left old new
+      pub Noted-closes : (one : One (Ok tt)) → lasts → KeepsEach came told lasts Now left old new Closed
           (record { outs = outs ++ (o, at) ∷ []; answers = answers ++ one.0 ∷ []; last = None })
-      Noted-closes one = record {
+      Noted-closes one same = record {
         text = before.text ++ one.1;
         kept = AreKept-push outs answers before.text (o, at) one.0 one.1 before.kept one.3;
         ends = inl (
           refl,
+          same,
           one_moves one.0 one.2,
           (λ stream known. let begins = begins_more stream known in (begins.0, begins.2, tt)),
           ([], inl refl, rw append-nil (grow_one one.1 one.0 one.4)),
         );
       }
 
-      stopped : Unmoved late stays stands → DoesNothing mid new
-          → KeepsEach came told Now left old new (Course-to ClockFault)
-      stopped still none = record {
+      stopped : later → Unmoved late stays stands → DoesNothing mid new
+          → KeepsEach came told lasts Now left old new ClockFault (Course-to ClockFault)
+      stopped same still none = record {
         text = before.text;
         kept = before.kept;
         ends = inl (
           refl,
+          both same,
           same_moves still,
           (λ stream known. let begins = before.begins stream known in (begins.0, begins.2, tt)),
           (none.0, none.1, simp append-nil at (grow_more none.0 [] [] none.2)),
         );
       }
 
-      begun_after : (tail wrote : List ℕ)
-          → IsBegun came told (Unmoved late stays stands)
+      begun_after : (end : ServeEnd) (tail wrote : List ℕ)
+          → IsBegun came told end later (Unmoved late stays stands)
           (Acts step zone late stays stands (o, at)) (o, at) tail wrote
-          → IsBegun came told (Now outs answers)
+          → IsBegun came told end lasts (Now outs answers)
           (λ answer. Now (outs ++ (o, at) ∷ []) (answers ++ answer ∷ []))
           (o, at) tail wrote
-      begun_after tail wrote (inl none) = inl (same_moves none.0, none.1)
-      begun_after tail wrote (inr some) = inr (some.0, one_moves some.0 some.1, some.2)
+      begun_after end tail wrote (inl (still, inl cut)) = inl (same_moves still, inl (both cut.0, cut.1, cut.2))
+      begun_after end tail wrote (inl (still, inr want)) = inl (same_moves still, inr want)
+      begun_after end tail wrote (inr some) = inr (some.0, one_moves some.0 some.1, both some.2, some.3)
 
-      begun : (tail wrote : List ℕ)
-          → IsBegun came told (Unmoved late stays stands)
+      begun : (end : ServeEnd) (tail wrote : List ℕ)
+          → IsBegun came told end later (Unmoved late stays stands)
           (Acts step zone late stays stands (o, at)) (o, at) tail wrote
           → Grow mid new (at ∷ []) tail wrote
-          → KeepsEach came told Now left old new
+          → KeepsEach came told lasts Now left old new end
           (record { outs = outs; answers = answers; last = Some (o, at) })
-      begun tail wrote is grew = record {
+      begun end tail wrote is grew = record {
         text = before.text;
         kept = before.kept;
-        ends = inr ((o, at), refl, tail, wrote, has_next, begun_after tail wrote is, grow_next tail wrote grew);
+        ends = inr ((o, at), refl, tail, wrote, has_next, begun_after end tail wrote is, grow_next tail wrote grew);
       }
 
       -- serving ended with it
       pub Noted-breaks : (end : ServeEnd) → One (Err end)
-          → KeepsEach came told Now left old new (Course-to end)
-      Noted-breaks ClockFault one = stopped one.0 one.1
-      Noted-breaks Closed one = begun one.0 one.1 one.2 one.3
-      Noted-breaks Cut one = begun one.0 one.1 one.2 one.3
-      Noted-breaks ReadFault one = begun one.0 one.1 one.2 one.3
-      Noted-breaks WriteFault one = begun one.0 one.1 one.2 one.3
-      Noted-breaks Unkept one = begun one.0 one.1 one.2 one.3
-      Noted-breaks ReadsSpent one = begun one.0 one.1 one.2 one.3
-      Noted-breaks Memory one = begun one.0 one.1 one.2 one.3
+          → KeepsEach came told lasts Now left old new end (Course-to end)
+      Noted-breaks ClockFault one = stopped one.0 one.1 one.2
+      Noted-breaks Closed one = begun Closed one.0 one.1 one.2 one.3
+      Noted-breaks Cut one = begun Cut one.0 one.1 one.2 one.3
+      Noted-breaks ReadFault one = begun ReadFault one.0 one.1 one.2 one.3
+      Noted-breaks WriteFault one = begun WriteFault one.0 one.1 one.2 one.3
+      Noted-breaks Unkept one = begun Unkept one.0 one.1 one.2 one.3
+      Noted-breaks ReadsSpent one = begun ReadsSpent one.0 one.1 one.2 one.3
+      Noted-breaks Memory one = begun Memory one.0 one.1 one.2 one.3

@@ -8,3 +8,4 @@ pub mod RunLemmas
 pub mod PromiseLaws
 pub mod LawLemmas
 pub mod ServedLaws
+pub mod ExchangeLemmas

@@ -12,7 +12,7 @@ use Rattle.room_service.specs.Rooms.{IsWant, Step}
 use Rattle.room_http.specs.declared.arrivals.Arrived.{Arrived}
 use Rattle.room_http.specs.declared.arrivals.Arrived.TheVariants.{Message, Refused}
 use Rattle.room_http.specs.declared.serving.ServeEnd.{ServeEnd}
-use Rattle.room_http.specs.declared.serving.ServeEnd.TheVariants.{ClockFault}
+use Rattle.room_http.specs.declared.serving.ServeEnd.TheVariants.{ClockFault, Unkept}
 use Rattle.room_http.specs.Arrivals.{Arrival, Begins, HasNext, IsAlone, is_head_only, message, refused}
 use Rattle.room_http.specs.Course.{Course}
 use Rattle.room_http.specs.Talk.{IsFront, IsReplyTo, Timed}
@@ -139,39 +139,42 @@ module _ (came : ℕ → List ℕ → List ℕ) (told : List ℕ → List ℕ) w
   abbrev pub IsUnfinished : Timed → List ℕ → List ℕ → List ℕ → Type 0
   IsUnfinished x answer tail wrote = IsRecord x answer tail × IsFront wrote answer
 
-  -- So much is kept and was written of an arrival with which serving ended: of one on which the
-  -- room has not acted, or has, with this answer.
-  abbrev pub IsBegun : Type 0 → (List ℕ → Type 0) → Timed → List ℕ → List ℕ → Type 0
-  IsBegun unmoved moved x tail wrote =
-      (unmoved × (IsCutShort x tail wrote ⊎ IsWanting x tail wrote))
-      ⊎ ((answer : List ℕ) × moved answer
-      × (IsUnwritten x answer tail wrote ⊎ IsUnfinished x answer tail wrote))
+  -- So much is kept and was written of an arrival with which serving ended so: of one on which the
+  -- room has not acted, or has, with this answer. Less than that was to be kept, only where serving
+  -- ended since it could not be. What was kept of the room still is, but where it wanted something.
+  abbrev pub IsBegun : ServeEnd → Type 0 → Type 0 → (List ℕ → Type 0) → Timed → List ℕ → List ℕ
+      → Type 0
+  IsBegun end lasts unmoved moved x tail wrote =
+      (unmoved × ((lasts × IsCutShort x tail wrote × (end ≡ Unkept)) ⊎ IsWanting x tail wrote))
+      ⊎ ((answer : List ℕ) × moved answer × lasts
+      × ((IsUnwritten x answer tail wrote × (end ≡ Unkept)) ⊎ IsUnfinished x answer tail wrote))
 
   -- what was kept and written of one arrival at its moment, where the room has not acted on it, or
   -- has acted and this is its answer
-  abbrev pub KeepsOne : Type 0 → (Timed → List ℕ → Type 0) → Tapes → Tapes → ℕ → Arrival
+  abbrev pub KeepsOne : Type 0 → Type 0 → (Timed → List ℕ → Type 0) → Tapes → Tapes → ℕ → Arrival
       → Result (Unit {0}) ServeEnd → Type 0
-  KeepsOne unmoved moved old new at o (Ok done) = (answer text : List ℕ)
+  KeepsOne lasts unmoved moved old new at o (Ok done) = (answer text : List ℕ)
       × moved (o, at) answer × IsRecord (o, at) answer text × Grow old new (at ∷ []) text answer
-  KeepsOne unmoved moved old new at o (Err ClockFault) = unmoved × DoesNothing old new
-  KeepsOne unmoved moved old new at o (Err end) =
-      (tail wrote : List ℕ) × IsBegun unmoved (moved (o, at)) (o, at) tail wrote
+  KeepsOne lasts unmoved moved old new at o (Err ClockFault) = lasts × unmoved × DoesNothing old new
+  KeepsOne lasts unmoved moved old new at o (Err end) =
+      (tail wrote : List ℕ) × IsBegun end lasts unmoved (moved (o, at)) (o, at) tail wrote
       × Grow old new (at ∷ []) tail wrote
 
-  -- What was kept and written of a connection, where `moved` says on which arrivals the room has
-  -- acted, and what their answers are: the arrivals of the course were answered, each after its
-  -- record was kept, and no more was done; or of the last one so much.
-  pub record KeepsEach (moved : List Timed → List (List ℕ) → Type 0) (left : Option (List ℕ))
-      (old new : Tapes) (course : Course) : Type 0 where
+  -- What was kept and written of a connection that ended so, where `moved` says on which arrivals
+  -- the room has acted, and what their answers are, and `lasts` that what was kept of the room still
+  -- is: the arrivals of the course were answered, each after its record was kept, and no more was
+  -- done; or of the last one so much.
+  pub record KeepsEach (lasts : Type 0) (moved : List Timed → List (List ℕ) → Type 0)
+      (left : Option (List ℕ)) (old new : Tapes) (end : ServeEnd) (course : Course) : Type 0 where
     pub text : List ℕ
     pub kept : AreKept course.outs course.answers text
-    pub ends : ((course.last ≡ None) × moved course.outs course.answers
+    pub ends : ((course.last ≡ None) × lasts × moved course.outs course.answers
         × BeginsThen left course.outs (λ rest. ⊤)
         × ((late : List ℕ) × IsNoMoment late
         × Grow old new (map (λ x. x.1) course.outs ++ late) text (concat course.answers)))
         ⊎ ((x : Timed) × (course.last ≡ Some x) × (tail wrote : List ℕ)
         × BeginsThen left course.outs (HasNext x.0)
-        × IsBegun (moved course.outs course.answers)
+        × IsBegun end lasts (moved course.outs course.answers)
         (λ answer. moved (course.outs ++ x ∷ []) (course.answers ++ answer ∷ [])) x tail wrote
         × Grow old new (map (λ x. x.1) (course.outs ++ x ∷ [])) (text ++ tail)
         (concat course.answers ++ wrote))

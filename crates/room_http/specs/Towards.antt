@@ -8,25 +8,25 @@ use Rattle.room_http.specs.declared.arrivals.Arrived.{Arrived}
 use Rattle.room_http.specs.Arrivals.{Arrival, IsShown}
 use Rattle.room_http.specs.Talk.{Finds, IsReplyTo, Timed, replied}
 use Rattle.room_http_time.specs.declared.zones.Zone.{Zone}
-use Rattle.room_service.specs.Digests.{IsMiss}
+use Rattle.room_service.specs.Digests.{DigitsOf, IsHeadOf, IsMiss}
 use Rattle.room_service.specs.Rooms.{Step}
+use Rattle.room_service.specs.declared.digests.Head.{Head}
 use Rattle.room_service.specs.declared.digests.Miss.{Miss}
 use Rattle.room_service.specs.declared.digests.Miss.TheVariants.{Another}
 
--- after this arrival the room would have another digest than this
-abbrev pub LeadsToAnother : Step → Zone → (List Terminal → Room → List ℕ) → List Terminal → Room
-    → Timed → List ℕ → Type 0
-LeadsToAnother step zone digest_of terminals room x digest =
+-- after this arrival the room would have another digest than that of this head
+abbrev pub LeadsToAnother : Step → Zone → DigitsOf → List Terminal → Room → Timed → Head → Type 0
+LeadsToAnother step zone digits_of terminals room x head =
     (found : Result Event Refusal) × Finds zone terminals x found
-    × (¬ (digest_of terminals (replied step found room).0 ≡ digest))
+    × (¬ (IsHeadOf digits_of head terminals (replied step found room).0))
 
--- The bytes are the answer, and the room is the one after it, which has the digest. Or there are
+-- The bytes are the answer, and the room is the one after it, of which the head tells. Or there are
 -- none, and the room is as it was: it would have come to another digest, if it hasn't the digest
 -- already; or memory or storage is wanting. What was kept is kept, unless memory or storage is
 -- wanting.
-pub record RepliesTowards {M A : Type 0} (step : Step) (digest_of : List Terminal → Room → List ℕ)
+pub record RepliesTowards {M A : Type 0} (step : Step) (digits_of : DigitsOf)
     (is_trusted is_kept : M → Type 0) (stands : M → List Terminal → Room → Type 0) (old new : M)
-    (zone : Zone) (request : Arrived) (at : ℕ) (digest : List ℕ)
+    (zone : Zone) (request : Arrived) (at : ℕ) (head : Head)
     (result : Result (Vec ℕ A) Miss) : Type 0 where
   pub trusted : is_trusted new → is_trusted old
   pub wants : IfErr result IsMiss
@@ -34,9 +34,9 @@ pub record RepliesTowards {M A : Type 0} (step : Step) (digest_of : List Termina
       → MatchResult result
       (λ bytes. (o : Arrival) → IsShown request o
       → (after : Room) × IsReplyTo step zone terminals room (o, at) after bytes.items
-      × (digest_of terminals after ≡ digest) × stands new terminals after)
+      × IsHeadOf digits_of head terminals after × stands new terminals after)
       (λ miss. stands new terminals room
-      × (miss ≡ Another → (¬ (digest_of terminals room ≡ digest)) → (o : Arrival)
-      → IsShown request o → LeadsToAnother step zone digest_of terminals room (o, at) digest))
+      × (miss ≡ Another → (¬ (IsHeadOf digits_of head terminals room)) → (o : Arrival)
+      → IsShown request o → LeadsToAnother step zone digits_of terminals room (o, at) head))
   pub kept : is_trusted new → is_kept old
       → MatchResult result (λ _. is_kept new) (λ miss. miss ≡ Another → is_kept new)

@@ -39,6 +39,7 @@ pub fn answer<W: Sink, M: Room, C: Clock, N: Witness>(
     requires sound { W.has_failed writer.old ≡ false }
     requires bounded { IsBounded arrived.now }
     ensures ready { M.is_ready room.new }
+    ensures zone { M.zone room.new ≡ M.zone room.old }
     ensures trusted { M.is_trusted room.new → M.is_trusted room.old }
     ensures ends { IfErr result EndsAnswering }
     ensures answers { (o : Arrival) → IsShown arrived.now o → (at : ℕ) × Answers M.step zone.now
@@ -49,6 +50,7 @@ pub fn answer<W: Sink, M: Room, C: Clock, N: Witness>(
         (Wants M.step zone.now (M.is_kept room.old) (M.stands room.new) (M.leaves_one_of room.new))
         (M.has_failed room.new) at o result
         × KeepsOne N.came N.told
+        (M.is_trusted room.new → M.is_kept room.old → M.is_kept room.new)
         (Unmoved (M.is_trusted room.new) (M.stands room.old) (M.stands room.new))
         (Acts M.step zone.now (M.is_trusted room.new) (M.stands room.old) (M.stands room.new))
         (record {

@@ -35,6 +35,7 @@ fn token(field: Option<&[u8]>) -> Option<Token>
 fn terminal<M: Room>(alloc: Global, room: &mut M, message: &Message) -> Result<Who, Refusal>
     requires { M.is_ready room.old }
     ensures ready { M.is_ready room.new }
+    ensures zone { M.zone room.new ≡ M.zone room.old }
     ensures terminal { FindsTerminal M.is_trusted M.has_failed M.stands room.old room.new
         (option_map (λ text. text.now) message.now.terminal) result }
     ensures looks { LooksOnly M.is_trusted M.is_kept M.stands M.leaves_one_of room.old room.new
@@ -91,6 +92,7 @@ pub fn event_of<M: Room>(
 ) -> Result<Event, Refusal>
     requires { M.is_ready room.old }
     ensures ready { M.is_ready room.new }
+    ensures zone { M.zone room.new ≡ M.zone room.old }
     ensures event { FindsMessage M.is_trusted M.has_failed M.stands room.old room.new zone.now
         message.now at result }
     ensures looks { LooksOnly M.is_trusted M.is_kept M.stands M.leaves_one_of room.old room.new

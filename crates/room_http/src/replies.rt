@@ -29,6 +29,7 @@ pub fn reply<M: Room>(
 ) -> Result<Vec<u8>, Refusal>
     requires { M.is_ready room.old }
     ensures ready { M.is_ready room.new }
+    ensures zone { M.zone room.new ≡ M.zone room.old }
     ensures reply { Replies M.step M.is_trusted M.has_failed M.stands room.old room.new zone.now
         arrived.now at result }
     ensures keeps { KeepsReply M.step M.is_trusted M.is_kept M.stands M.leaves_one_of

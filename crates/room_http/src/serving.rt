@@ -67,6 +67,7 @@ pub fn serve<R: Source, W: Sink, M: Room, C: Clock, N: Witness>(
     requires writer { W.has_failed writer.old ≡ false }
     requires ready { M.is_ready room.old }
     ensures ready { M.is_ready room.new }
+    ensures zone { M.zone room.new ≡ M.zone room.old }
     ensures reads { ReadsAtMost budget (R.reads reader.old) (R.reads reader.new) }
     ensures trusted { M.is_trusted room.new → M.is_trusted room.old }
     ensures run { OneCourse
@@ -97,6 +98,7 @@ pub fn serve<R: Source, W: Sink, M: Room, C: Clock, N: Witness>(
         (M.is_trusted room.new) (M.is_kept room.old)
         (M.stands room.old) (M.stands room.new) (M.leaves_one_of room.new))
         (λ course. KeepsEach N.came N.told
+        (M.is_trusted room.new → M.is_kept room.old → M.is_kept room.new)
         (ActsOnEach M.step zone.now (M.is_trusted room.new) (M.stands room.old) (M.stands room.new))
         (R.left reader.old)
         (record {
@@ -109,7 +111,7 @@ pub fn serve<R: Source, W: Sink, M: Room, C: Clock, N: Witness>(
           kept = N.held witness.new;
           held = W.held writer.new;
         })
-        course) }
+        result course) }
     ensures kept { M.is_trusted room.new → M.is_kept room.new ⊎ M.is_shut room.new }
     ensures failed { result ≢ endings.Unkept
         → N.has_failed witness.new ≡ N.has_failed witness.old }

@@ -1,4 +1,5 @@
 //! The answer to what has arrived, where the room comes to a digest by it.
+ghost use Rattle.std.specs.Prelude.{◌≡◌};
 ghost use Rattle.room_service.specs.Digests.{digits_of};
 ghost use Rattle.room_http.specs.Towards.{RepliesTowards};
 
@@ -7,13 +8,13 @@ use crate::events::event_of;
 use room_http_answers::replies::render;
 use room_http_requests::routes::Routes;
 use room_http_time::zones::Zone;
-use room_service::digests::{Digested, Miss};
+use room_service::digests::{Digested, Head, Miss};
 use room_types::numbers::Moment;
 use room_types::refusals::Refusal;
 use std::alloc::Global;
 
-/// The bytes of the answer to what has arrived, where the room comes by it to the digest of these
-/// digits. The room has acted on it once they are there; where not, it is as it was. What is
+/// The bytes of the answer to what has arrived, where the room comes by it to the digest of this
+/// head. The room has acted on it once they are there; where not, it is as it was. What is
 /// refused before it reaches the room leaves it at the digest that it has, which is another.
 pub fn reply_towards<M: Digested>(
     alloc: Global,
@@ -22,12 +23,13 @@ pub fn reply_towards<M: Digested>(
     room: &mut M,
     arrived: &Arrived,
     at: Moment,
-    digits: &[u8; 64],
+    head: &Head,
 ) -> Result<Vec<u8>, Miss>
     requires { M.is_ready room.old }
     ensures ready { M.is_ready room.new }
-    ensures reply { RepliesTowards M.step (digits_of M.digest_of) M.is_trusted M.is_kept M.stands
-        room.old room.new zone.now arrived.now at digits.now result }
+    ensures zone { M.zone room.new ≡ M.zone room.old }
+    ensures reply { RepliesTowards M.step (digits_of M.digest_of (M.zone room.old)) M.is_trusted
+        M.is_kept M.stands room.old room.new zone.now arrived.now at head.now result }
 {
     let (head_only, closing) = (arrived.head_only(), arrived.is_closing());
     let message = match arrived {
@@ -36,7 +38,7 @@ pub fn reply_towards<M: Digested>(
     };
     let mut asker = None;
     match event_of(alloc, routes, zone, room, message, at, &mut asker) {
-        Ok(event) => room.act_towards(alloc, &event, digits, |answer| {
+        Ok(event) => room.act_towards(alloc, &event, head, |answer| {
             render(alloc, answer, at, head_only, closing)
         }),
         Err(Refusal::Memory) => Err(Miss::Want(Refusal::Memory)),

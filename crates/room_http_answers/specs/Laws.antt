@@ -1,5 +1,5 @@
 -- What an answer and its moment alone decide.
-use Rattle.std.specs.Prelude.{◌≡◌, ℕ, List, Bool, Result}
+use Rattle.std.specs.Prelude.{◌≡◌, ◌<◌, ℕ, List, Bool, Result}
 use Rattle.room_types.specs.declared.answers.Answer.{Answer}
 use Rattle.room_types.specs.declared.refusals.Refusal.{Refusal}
 use Rattle.room_http_answers.specs.Replies.{IsReply}
@@ -10,3 +10,9 @@ IsOneReply =
     (answer : Result Answer Refusal) (at : ℕ) (head_only closing : Bool) (bytes others : List ℕ)
     → IsReply answer at head_only closing bytes → IsReply answer at head_only closing others
     → bytes ≡ others
+
+-- each answer has bytes at each moment before the year 10000
+abbrev pub IsAlwaysThere : Type 0
+IsAlwaysThere =
+    (answer : Result Answer Refusal) (at : ℕ) (head_only closing : Bool) → at < 253_402_300_800
+    → (bytes : List ℕ) × IsReply answer at head_only closing bytes

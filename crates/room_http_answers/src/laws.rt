@@ -1,8 +1,13 @@
 //! What an answer and its moment alone decide. A law is the contract of a function that does
 //! nothing.
-ghost use Rattle.room_http_answers.specs.Laws.{IsOneReply};
+ghost use Rattle.room_http_answers.specs.Laws.{IsAlwaysThere, IsOneReply};
 
 /// An answer has the same bytes whenever it is made for the same moment.
 pub fn one_reply()
     ensures { IsOneReply }
+{}
+
+/// It has bytes at each moment before the year 10000, the last that a date of HTTP can tell.
+pub fn a_reply_is_there()
+    ensures { IsAlwaysThere }
 {}

@@ -1,2 +1,3 @@
 pub mod DayLemmas
 pub mod SpanLaws
+pub mod ZoneLaws

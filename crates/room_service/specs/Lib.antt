@@ -1,4 +1,4 @@
 -- what a room does with an event, and who shows a token
 pub mod Rooms
--- the digest of a room in digits, and why a room does not come to one
+-- the digests of a room in digits, what a head tells of a room, and why a room comes to none
 pub mod Digests

@@ -7,15 +7,33 @@ ghost use Rattle.room_types.specs.declared.refusals.Refusal.{Refusal as Why};
 ghost use Rattle.room_types.specs.declared.refusals.Refusal.TheVariants.{Memory};
 ghost use Rattle.room_model.specs.Room.{Room as Held};
 ghost use Rattle.room_model.specs.Step.{IsAddressed};
-ghost use Rattle.room_service.specs.Digests.{IsMiss, digits_of};
+ghost use Rattle.room_service.specs.Digests.{IsHeadOf, IsMiss, digits_of};
 ghost use Rattle.room_service.specs.Rooms.{IsWant};
 ghost use Rattle.room_service.specs.declared.digests.Miss.TheVariants.{Another};
+ghost use Rattle.room_service.specs.declared.digests.Version.{Version as Which};
 
 use crate::rooms::Room;
 use room_types::answers::Answer;
 use room_types::asks::Event;
 use room_types::refusals::Refusal;
 use std::alloc::Global;
+
+/// Which digest of a room's rows.
+#[derive(Clone, Copy)]
+pub enum Version {
+    /// Of all rows but that of the zone, as lists of version 1 have it.
+    First,
+    /// Of all rows.
+    Second,
+}
+
+/// What a list tells of the room at which a part begins: which digest of its rows, and that in
+/// digits.
+#[derive(Clone, Copy)]
+pub struct Head {
+    pub version: Version,
+    pub digits: [u8; 64],
+}
 
 /// Why a room did not come to a digest.
 #[derive(Clone, Copy)]
@@ -28,17 +46,19 @@ pub enum Miss {
 
 /// A room that tells the digest of its rows.
 pub trait Digested: Room {
-    // The digest of a room's rows, with its terminals.
-    ghost digest_of: { List Terminal → Held → List ℕ };
+    // The digest of this version of a room's rows, with the zone of its days and its terminals.
+    ghost digest_of: { Which → List ℕ → List Terminal → Held → List ℕ };
 
-    /// The digest of the room's rows. A refusal is want of memory or of storage.
-    fn digest(&mut self) -> Result<[u8; 32], Refusal>
+    /// The digest of this version of the room's rows. A refusal is want of memory or of storage.
+    fn digest(&mut self, version: Version) -> Result<[u8; 32], Refusal>
         requires { Self.is_ready self.old }
         ensures ready { Self.is_ready self.new }
+        ensures zone { Self.zone self.new ≡ Self.zone self.old }
         ensures trusted { Self.is_trusted self.new → Self.is_trusted self.old }
         ensures known { Self.is_trusted self.new
             → IfOk result (λ digest. (terminals : List Terminal) (room : Held)
-            → Self.stands self.old terminals room → digest ≡ digest_of terminals room) }
+            → Self.stands self.old terminals room
+            → digest ≡ digest_of version (Self.zone self.old) terminals room) }
         ensures same { Self.is_trusted self.new → (terminals : List Terminal) (room : Held)
             → Self.stands self.old terminals room → Self.stands self.new terminals room }
         ensures kept { Self.is_trusted self.new → OnOk result (Self.is_kept self.old
@@ -49,13 +69,13 @@ pub trait Digested: Room {
         ensures wants { IfErr result IsWant };
 
     /// Acts on an event of a known terminal, as `act` does, where the room comes by it to the
-    /// digest of these digits. Where it would come to another one, it stays as it was, and that is
+    /// digest of this head. Where it would come to another one, it stays as it was, and that is
     /// told.
     fn act_towards<F: FnOnce(&Result<Answer, Refusal>) -> Result<Vec<u8>, Refusal>>(
         &mut self,
         alloc: Global,
         event: &Event,
-        digits: &[u8; 64],
+        head: &Head,
         render: F,
     ) -> Result<Vec<u8>, Miss>
         requires ready { Self.is_ready self.old }
@@ -63,6 +83,7 @@ pub trait Digested: Room {
         requires memory { (answer : Result Told Why) (r : _)
             → FnOnceReturnsAt F.FnOnce render answer r → IfErr r (λ e. e ≡ Memory) }
         ensures ready { Self.is_ready self.new }
+        ensures zone { Self.zone self.new ≡ Self.zone self.old }
         ensures trusted { Self.is_trusted self.new → Self.is_trusted self.old }
         ensures bytes { Self.is_trusted self.new
             → IfOk result (λ bytes. (terminals : List Terminal) (room : Held)
@@ -72,11 +93,13 @@ pub trait Digested: Room {
             → OnOk result ((terminals : List Terminal) (room : Held)
             → Self.stands self.old terminals room → IsAddressed event.now room
             → Self.stands self.new terminals (Self.step event.now room).0
-            × (digits_of digest_of terminals (Self.step event.now room).0 ≡ digits.now)) }
+            × IsHeadOf (digits_of digest_of (Self.zone self.old)) head.now terminals
+            (Self.step event.now room).0) }
         ensures another { Self.is_trusted self.new → IfErr result (λ e. e ≡ Another
             → (terminals : List Terminal) (room : Held) → Self.stands self.old terminals room
             → IsAddressed event.now room
-            → ¬ (digits_of digest_of terminals (Self.step event.now room).0 ≡ digits.now)) }
+            → ¬ (IsHeadOf (digits_of digest_of (Self.zone self.old)) head.now terminals
+            (Self.step event.now room).0)) }
         ensures same { Self.is_trusted self.new
             → OnErr result ((terminals : List Terminal) (room : Held)
             → Self.stands self.old terminals room → Self.stands self.new terminals room) }

@@ -1,5 +1,5 @@
 //! What a connection is served with: a room that events act on, and who its terminals are.
-ghost use Rattle.std.specs.Prelude.{◌≡◌, ◌⊎◌, List, [], ◌∷◌, Result, Ok, IfOk, IfErr, OnOk, OnErr};
+ghost use Rattle.std.specs.Prelude.{◌≡◌, ◌⊎◌, ℕ, List, [], ◌∷◌, Result, Ok, IfOk, IfErr, OnOk, OnErr};
 ghost use Rattle.std.specs.Fn.{FnOnceReturnsAt};
 ghost use Rattle.room_types.specs.declared.answers.Answer.{Answer as Told};
 ghost use Rattle.room_types.specs.declared.fleet.Terminal.{Terminal};
@@ -42,10 +42,14 @@ pub trait Room {
     // What it does with an event of a known terminal.
     ghost step: { Step };
 
+    // The zone of its days, as its plan names it: no call changes it.
+    ghost zone: { Self → List ℕ };
+
     /// Who shows a token: none where no terminal has it. A refusal is want of memory or of storage.
     fn who(&mut self, alloc: Global, token: &Token) -> Result<Option<Who>, Refusal>
         requires { is_ready self.old }
         ensures ready { is_ready self.new }
+        ensures zone { zone self.new ≡ zone self.old }
         ensures trusted { is_trusted self.new → is_trusted self.old }
         ensures known { is_trusted self.new
             → IfOk result (λ who. (terminals : List Terminal) (room : Held)
@@ -74,6 +78,7 @@ pub trait Room {
         requires memory { (answer : Result Told Why) (r : _)
             → FnOnceReturnsAt F.FnOnce render answer r → IfErr r (λ e. e ≡ Memory) }
         ensures ready { is_ready self.new }
+        ensures zone { zone self.new ≡ zone self.old }
         ensures trusted { is_trusted self.new → is_trusted self.old }
         ensures bytes { is_trusted self.new
             → IfOk result (λ bytes. (terminals : List Terminal) (room : Held)

@@ -1,7 +1,5 @@
 -- An event that was decided by reads, and whose changes were then written.
-use Rattle.std.proofs.Common.{List, arith, subst, ◌≡◌, ℕ}
-use Rattle.hex.specs.Hex.{encode_lower}
-use Rattle.sha2.specs.Sha256.{sha256}
+use Rattle.std.proofs.Common.{List, arith, subst, ◌≡◌}
 use Rattle.sqlite.specs.State.{HasCleanDisk, IsUnchanged, State, Survives}
 use Rattle.sqlite.proofs.StateLemmas.{survives_then}
 use Rattle.room_place.specs.Plans.{Layout}
@@ -10,13 +8,15 @@ use Rattle.room_types.specs.declared.changes.Change.{Change}
 use Rattle.room_model.specs.Decisions.{changes_of}
 use Rattle.room_model.specs.Room.{Room, apply}
 use Rattle.room_model.specs.Step.{decided, room_after}
+use Rattle.room_service.specs.Digests.{IsHeadOf, digits_of}
+use Rattle.room_service.specs.declared.digests.Head.{Head}
 use Rattle.room_tables.specs.Stands.{House, Stands}
 use Rattle.room_tables.proofs.RoomReads.{kept}
 use Rattle.room_store_writes.specs.Writing.{Commits}
 use Rattle.room_store_cache.specs.declared.cache.Cache.{Cache}
 use Rattle.room_store.specs.Acting.{IsFor}
-use Rattle.room_store.specs.Towards.{digits_after}
-use Rattle.room_store_digest.specs.Texts.{digest_text}
+use Rattle.room_store.specs.Towards.{IsHeadAfter}
+use Rattle.room_store_digest.specs.Texts.{digest_of}
 use Rattle.room_store_digest.specs.Towards.{Misses, Reaches}
 use Rattle.sqlite_trees.specs.Tree.{Trees}
 
@@ -56,15 +56,15 @@ module _ (old mid new : State) (layout : Layout) (known : Cache) (event : Event)
 
 -- before the reads and after them: what the changes lead to, the event leads to
 module _ (old mid : State) (layout : Layout) (known : Cache) (event : Event)
-    (changes : List Change) (digits : List ℕ)
+    (changes : List Change) (head : Head)
     (same : HasCleanDisk mid → IsUnchanged old mid)
     (is : HasCleanDisk mid → (house : House) (room : Room) → IsFor old.now.trees layout known event house room → changes ≡ changes_of (decided event room)) where
   pub reached : {db : Trees} → HasCleanDisk mid → (house : House) (room : Room)
-      → IsFor old.now.trees layout known event house room → Reaches changes digits mid.now.trees db
-      → digits_after event house.terminals room ≡ digits
-  reached clean house room h reaches = subst (λ cs. encode_lower (sha256 (digest_text house.terminals (apply room cs))) ≡ digits) (is clean house room h) (reaches house room (kept old mid (same clean) house room h.stands)).1
+      → IsFor old.now.trees layout known event house room → Reaches changes head mid.now.trees db
+      → IsHeadAfter event house.zone house.terminals room head
+  reached clean house room h reaches = subst (λ cs. IsHeadOf (digits_of digest_of house.zone) head house.terminals (apply room cs)) (is clean house room h) (reaches house room (kept old mid (same clean) house room h.stands)).1
 
   pub missed : HasCleanDisk mid → (house : House) (room : Room)
-      → IsFor old.now.trees layout known event house room → Misses changes digits mid.now.trees
-      → ¬ (digits_after event house.terminals room ≡ digits)
-  missed clean house room h misses = subst (λ cs. ¬ (encode_lower (sha256 (digest_text house.terminals (apply room cs))) ≡ digits)) (is clean house room h) (misses house room (kept old mid (same clean) house room h.stands))
+      → IsFor old.now.trees layout known event house room → Misses changes head mid.now.trees
+      → ¬ (IsHeadAfter event house.zone house.terminals room head)
+  missed clean house room h misses = subst (λ cs. ¬ (IsHeadOf (digits_of digest_of house.zone) head house.terminals (apply room cs))) (is clean house room h) (misses house room (kept old mid (same clean) house room h.stands))

@@ -1,5 +1,5 @@
 -- Events that are to lead to a digest.
-use Rattle.std.proofs.Common.{◌≡◌, inl, inr, refl, List, ℕ}
+use Rattle.std.proofs.Common.{◌≡◌, inl, inr, refl, List}
 use Rattle.sqlite.specs.State.{State, Survives}
 use Rattle.sqlite.proofs.StateLemmas.{survives_weaker}
 use Rattle.sqlite_trees.specs.Tree.{Trees}
@@ -8,6 +8,7 @@ use Rattle.room_model.specs.Room.{Room, apply}
 use Rattle.room_tables.specs.Stands.{House, Stands}
 use Rattle.room_tables_schema.specs.declared.faults.Fault.TheVariants.{Memory, Storage}
 use Rattle.room_service.specs.Digests.{IsMiss}
+use Rattle.room_service.specs.declared.digests.Head.{Head}
 use Rattle.room_service.specs.declared.digests.Miss.TheVariants as miss
 use Rattle.room_store_digest.specs.Towards.{Reaches}
 use Rattle.room_store_digest.specs.declared.towards.Undone.{Undone}
@@ -26,9 +27,9 @@ told_another Another is = refl
 told_another (Want fault) is = absurd (cc)
 
 -- a stop leaves the room after the changes
-pub reaches_weaker : (changes : List Change) (digits : List ℕ) (old new : State) (from : Trees)
-    → Survives old new (Reaches changes digits from)
+pub reaches_weaker : (changes : List Change) (head : Head) (old new : State) (from : Trees)
+    → Survives old new (Reaches changes head from)
     → Survives old new (λ db. (house : House) (room : Room) → Stands from house room
     → Stands db house (apply room changes))
-reaches_weaker changes digits old new from =
-    survives_weaker old new (Reaches changes digits from) (λ db. (house : House) (room : Room) → Stands from house room → Stands db house (apply room changes)) (λ _ db left house room h. (left house room h).0)
+reaches_weaker changes head old new from =
+    survives_weaker old new (Reaches changes head from) (λ db. (house : House) (room : Room) → Stands from house room → Stands db house (apply room changes)) (λ _ db left house room h. (left house room h).0)

@@ -1,14 +1,14 @@
 -- The digest that an event leads to.
 use Rattle.std.specs.Prelude.{ℕ, List}
-use Rattle.hex.specs.Hex.{encode_lower}
-use Rattle.sha2.specs.Sha256.{sha256}
 use Rattle.room_types.specs.declared.asks.Event.{Event}
 use Rattle.room_types.specs.declared.fleet.Terminal.{Terminal}
 use Rattle.room_model.specs.Room.{Room}
 use Rattle.room_model.specs.Step.{room_after}
-use Rattle.room_store_digest.specs.Texts.{digest_text}
+use Rattle.room_service.specs.Digests.{IsHeadOf, digits_of}
+use Rattle.room_service.specs.declared.digests.Head.{Head}
+use Rattle.room_store_digest.specs.Texts.{digest_of}
 
--- the digest of the room after this event, in digits
-abbrev pub digits_after : Event → List Terminal → Room → List ℕ
-digits_after event terminals room =
-    encode_lower (sha256 (digest_text terminals (room_after event room)))
+-- the head tells of the room after this event, in this zone
+abbrev pub IsHeadAfter : Event → List ℕ → List Terminal → Room → Head → Type 0
+IsHeadAfter event zone terminals room head =
+    IsHeadOf (digits_of digest_of zone) head terminals (room_after event room)

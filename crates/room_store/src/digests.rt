@@ -1,17 +1,16 @@
 //! The digest of the room that a store keeps, by which it is known again.
 ghost use Rattle.std.specs.Prelude.{◌≡◌, List, [], ◌∷◌, Ok, IsTrue, IfOk, IfErr, OnOk};
-ghost use Rattle.sha2.specs.Sha256.{sha256};
 ghost use Rattle.sqlite.specs.Held.{state};
 ghost use Rattle.sqlite.specs.State.{HasCleanDisk};
 ghost use Rattle.room_types.specs.declared.fleet.Terminal.{Terminal};
 ghost use Rattle.room_model.specs.Room.{Room};
 ghost use Rattle.room_service.specs.Rooms.{IsWant};
-ghost use Rattle.room_store_digest.specs.Texts.{digest_text};
+ghost use Rattle.room_store_digest.specs.Texts.{digest_of};
 ghost use Rattle.room_store.specs.Keeping.{IsKept, IsReady, IsRoom, LeavesOneOf};
 
 use crate::faults::refusal_of;
 use crate::store::Store;
-use room_service::digests::{Digested, Miss};
+use room_service::digests::{Digested, Head, Miss, Version};
 use room_store_digest::digests::digest_in;
 use room_tables_schema::faults::Fault;
 use room_types::answers::Answer;
@@ -21,26 +20,26 @@ use sqlite::Alter;
 use std::alloc::Global;
 
 impl<S: Alter> Digested for Store<S> {
-    ghost digest_of = { λ terminals room. sha256 (digest_text terminals room) };
+    ghost digest_of = { digest_of };
 
-    fn digest(&mut self) -> Result<[u8; 32], Refusal> {
-        digest_of_room(self)
+    fn digest(&mut self, version: Version) -> Result<[u8; 32], Refusal> {
+        digest_of_room(self, version)
     }
 
     fn act_towards<F: FnOnce(&Result<Answer, Refusal>) -> Result<Vec<u8>, Refusal>>(
         &mut self,
         alloc: Global,
         event: &Event,
-        digits: &[u8; 64],
+        head: &Head,
         render: F,
     ) -> Result<Vec<u8>, Miss> {
-        Store::act_towards(self, alloc, event, digits, render)
+        Store::act_towards(self, alloc, event, head, render)
     }
 }
 
-/// The SHA-256 of the room with its terminals, whatever its zone is. The room stays as it was. A
-/// refusal is of memory or of storage.
-pub fn digest_of_room<S: Alter>(store: &mut Store<S>) -> Result<[u8; 32], Refusal>
+/// The digest of this version of the room with its terminals. The room stays as it was. A refusal is
+/// of memory or of storage.
+pub fn digest_of_room<S: Alter>(store: &mut Store<S>, version: Version) -> Result<[u8; 32], Refusal>
     requires ready { IsReady S.Store store.old }
     ensures ready { IsReady S.Store store.new }
     ensures plan { store.new.plan ≡ store.old.plan }
@@ -49,7 +48,7 @@ pub fn digest_of_room<S: Alter>(store: &mut Store<S>) -> Result<[u8; 32], Refusa
     ensures known { HasCleanDisk (state S.Store store.new.conn)
         → IfOk result (λ digest. (terminals : List Terminal) (room : Room)
         → IsRoom S.Store store.old terminals room
-        → digest ≡ sha256 (digest_text terminals room)) }
+        → digest ≡ digest_of version store.old.plan.zone terminals room) }
     ensures same { HasCleanDisk (state S.Store store.new.conn)
         → (terminals : List Terminal) (room : Room) → IsRoom S.Store store.old terminals room
         → IsRoom S.Store store.new terminals room }
@@ -63,7 +62,7 @@ pub fn digest_of_room<S: Alter>(store: &mut Store<S>) -> Result<[u8; 32], Refusa
     if !store.is_sound {
         return Err(Refusal::Storage);
     }
-    let digest = digest_in(&mut store.conn);
+    let digest = digest_in(&mut store.conn, version);
     // The transaction that it was read in is undone, and that may have shut the connection.
     store.test_file();
     told(digest, store.is_sound)

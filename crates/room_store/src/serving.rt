@@ -36,6 +36,8 @@ impl<S: Alter> Room for Store<S> {
 
     ghost step = { machine };
 
+    ghost zone = { λ held. held.plan.zone };
+
     fn who(&mut self, _: Global, token: &Token) -> Result<Option<Who>, Refusal> {
         Store::who(self, token)
     }

@@ -20,7 +20,7 @@ ghost use Rattle.room_tables.specs.Stands.{Stands};
 ghost use Rattle.room_store_writes.specs.Writing.{IsSettled, Leaves};
 ghost use Rattle.room_store_cache.specs.Cache.{KnowsNothing};
 ghost use Rattle.room_store.specs.Keeping.{IsReady, IsRoom, ShowsRoom};
-ghost use Rattle.room_store.specs.Towards.{digits_after};
+ghost use Rattle.room_store.specs.Towards.{IsHeadAfter};
 ghost use Rattle.room_store_writes.specs.Houses.{house_of};
 
 use crate::acting::{act_on, know_number};
@@ -28,7 +28,7 @@ use crate::faults::refusal_of;
 use crate::knowing::{keep, place_of};
 use crate::towards::act_towards_on;
 use room_place::plans::Plan;
-use room_service::digests::Miss;
+use room_service::digests::{Head, Miss};
 use room_store_cache::cache::Cache;
 use room_tables::terminals::terminal_at;
 use room_tables_schema::testing::is_room;
@@ -201,13 +201,13 @@ impl<S: Alter> Store<S> {
         }
     }
 
-    /// Acts on an addressed event, as `act` does, where the room comes by it to the digest of these
-    /// digits. Where it would come to another one, that is told, and the room is kept as it was.
+    /// Acts on an addressed event, as `act` does, where the room comes by it to the digest of this
+    /// head. Where it would come to another one, that is told, and the room is kept as it was.
     pub fn act_towards<F: FnOnce(&Result<Answer, Refusal>) -> Result<Vec<u8>, Refusal>>(
         &mut self,
         alloc: Global,
         event: &Event,
-        digits: &[u8; 64],
+        head: &Head,
         render: F,
     ) -> Result<Vec<u8>, Miss>
         requires ready { IsReady S.Store self.old }
@@ -227,11 +227,11 @@ impl<S: Alter> Store<S> {
             → OnOk result ((terminals : List Known) (room : Room)
             → IsRoom S.Store self.old terminals room → IsAddressed event.now room
             → IsRoom S.Store self.new terminals (room_after event.now room)
-            × (digits_after event.now terminals room ≡ digits.now)) }
+            × IsHeadAfter event.now self.old.plan.zone terminals room head.now) }
         ensures another { HasCleanDisk (state S.Store self.new.conn)
             → IfErr result (λ miss. miss ≡ Another → (terminals : List Known) (room : Room)
             → IsRoom S.Store self.old terminals room → IsAddressed event.now room
-            → ¬ (digits_after event.now terminals room ≡ digits.now)) }
+            → ¬ (IsHeadAfter event.now self.old.plan.zone terminals room head.now)) }
         ensures settled { HasCleanDisk (state S.Store self.new.conn)
             → MatchResult result (λ _. IsSettled (state S.Store self.new.conn))
             (λ miss. miss ≡ Another → IsSettled (state S.Store self.new.conn)) }
@@ -255,7 +255,7 @@ impl<S: Alter> Store<S> {
             &self.plan,
             &mut self.cache,
             event,
-            digits,
+            head,
             render,
         ) {
             Ok(bytes) => Ok(bytes),

@@ -16,12 +16,12 @@ ghost use Rattle.room_store_writes.specs.Writing.{Commits, Leaves};
 ghost use Rattle.room_store_cache.specs.Cache.{IsCacheOf};
 ghost use Rattle.room_store.specs.Acting.{IsFor};
 ghost use Rattle.room_store.specs.Faults.{miss_of};
-ghost use Rattle.room_store.specs.Towards.{digits_after};
+ghost use Rattle.room_store.specs.Towards.{IsHeadAfter};
 
 use crate::acting::{Prepared, prepare};
 use crate::faults::refusal_of;
 use room_place::plans::Plan;
-use room_service::digests::Miss;
+use room_service::digests::{Head, Miss};
 use room_store_cache::cache::Cache;
 use room_store_digest::towards::{Undone, write_towards};
 use room_types::answers::Answer;
@@ -30,7 +30,7 @@ use room_types::refusals::Refusal;
 use sqlite::{Alter, Connection};
 use std::alloc::Global;
 
-/// Acts on an event as `act_on` does, where the room comes by it to the digest of these digits.
+/// Acts on an event as `act_on` does, where the room comes by it to the digest of this head.
 /// Where it would come to another one, nothing is changed.
 pub(crate) fn act_towards_on<
     S: Alter,
@@ -41,7 +41,7 @@ pub(crate) fn act_towards_on<
     plan: &Plan,
     cache: &mut Cache,
     event: &Event,
-    digits: &[u8; 64],
+    head: &Head,
     render: F,
 ) -> Result<Vec<u8>, Miss>
     requires room { HasRoomSchema S.Store conn.old }
@@ -66,11 +66,11 @@ pub(crate) fn act_towards_on<
     ensures reaches { HasCleanDisk (state S.Store conn.new)
         → OnOk result ((house : House) (room : Room)
         → IsFor (state S.Store conn.old).now.trees plan.now cache.old event.now house room
-        → digits_after event.now house.terminals room ≡ digits.now) }
+        → IsHeadAfter event.now house.zone house.terminals room head.now) }
     ensures another { HasCleanDisk (state S.Store conn.new)
         → IfErr result (λ miss. miss ≡ Another → (house : House) (room : Room)
         → IsFor (state S.Store conn.old).now.trees plan.now cache.old event.now house room
-        → ¬ (digits_after event.now house.terminals room ≡ digits.now)) }
+        → ¬ (IsHeadAfter event.now house.zone house.terminals room head.now)) }
     ensures err { HasCleanDisk (state S.Store conn.new)
         → OnErr result (Leaves (state S.Store conn.old) (state S.Store conn.new)) }
     ensures wants { IfErr result IsMiss }
@@ -87,7 +87,7 @@ pub(crate) fn act_towards_on<
         Err(refusal) => return Err(Miss::Want(refusal)),
     };
     let Prepared { changes, bytes } = prepared;
-    if let Err(undone) = write_towards(conn, changes.as_slice(), digits) {
+    if let Err(undone) = write_towards(conn, changes.as_slice(), head) {
         return Err(miss_of(undone));
     }
     cache.follow(changes.as_slice());

@@ -1,5 +1,5 @@
 -- Rooms whose texts are the same are the same.
-use Rattle.std.proofs.Common.{◌≡◌, ◌++◌, ℕ, List, [], ◌∷◌, map, Option, Some, None, refl, sym, ap, ◌∙◌}
+use Rattle.std.proofs.Common.{◌≡◌, ◌++◌, ℕ, List, [], ◌∷◌, drop, length, map, Option, Some, None, refl, sym, ap, ◌∙◌}
 use Rattle.std.specs.List.{AllByRecursion}
 use Rattle.std.specs.Prelude.{slice_index_or}
 use Rattle.std.specs.declared.cmp.Ordering.{Ordering}
@@ -7,6 +7,8 @@ use Rattle.sqlite.specs.Values.{or_null}
 use Rattle.sqlite_value.specs.declared.value.Value.TheVariants.{Text}
 use Rattle.sqlite_value.specs.Order.{Row}
 use Rattle.room_model.specs.Room.{Room}
+use Rattle.room_service.specs.declared.digests.Version.{Version}
+use Rattle.room_service.specs.declared.digests.Version.TheVariants.{First, Second}
 use Rattle.room_types.specs.declared.fleet.Terminal.{Terminal}
 use Rattle.room_types.specs.Codes.{merged_into}
 use Rattle.room_tables_sql.specs.Typed.{IsFaithful, number_or_null}
@@ -26,7 +28,7 @@ use Rattle.room_tables_rows.specs.Terminals.{crew_of, terminal_row}
 use Rattle.room_tables_rows.specs.Turns.{turn_row}
 use Rattle.room_tables_rows.specs.Vehicles.{vehicle_row}
 use Rattle.room_tables_rows.specs.Stands.{House, numbered}
-use Rattle.room_store_digest.specs.Texts.{digest_text, table_text, tables_of}
+use Rattle.room_store_digest.specs.Texts.{digest_text, table_text, tables_in, tables_of}
 use Rattle.room_store_digest.proofs.Told.{IsStored, each_told, table_told}
 
 -- ---- no row of a room holds a real number
@@ -44,9 +46,9 @@ all_stored : {X : Type 0} (row : X → Row) → ((x : X) → AllByRecursion IsSt
 all_stored row each [] = tt
 all_stored row each (x ∷ xs) = (each x, all_stored row each xs)
 
-tables_stored : (terminals : List Terminal) (room : Room)
+rest_stored : (terminals : List Terminal) (room : Room)
     → AllByRecursion (AllByRecursion (AllByRecursion IsStored)) (tables_of terminals room)
-tables_stored terminals room = (
+rest_stored terminals room = (
   all_stored area_row (λ x. (tt, (tt, (tt, (tt, (tt, (tt, tt))))))) (numbered 1 room.plan),
   (
     all_stored terminal_row (λ t. (tt, (tt, (tt, (text_or_none (crew_of t.who), tt))))) terminals,
@@ -84,6 +86,20 @@ tables_stored terminals room = (
   ),
 )
 
+tables_stored : (version : Version) (zone : List ℕ) (terminals : List Terminal) (room : Room)
+    → AllByRecursion (AllByRecursion (AllByRecursion IsStored))
+    (tables_in version zone terminals room)
+tables_stored First zone terminals room = rest_stored terminals room
+tables_stored Second zone terminals room =
+    (all_stored meta_row (λ z. (tt, (tt, (tt, tt)))) (zone ∷ []), rest_stored terminals room)
+
+same_number : (version : Version) (zone elsewhere : List ℕ) (terminals others : List Terminal)
+    (room another : Room)
+    → length (tables_in version zone terminals room)
+    ≡ length (tables_in version elsewhere others another)
+same_number First zone elsewhere terminals others room another = refl
+same_number Second zone elsewhere terminals others room another = refl
+
 -- ---- rows that are the same
 
 -- lists of rows are the same where they are written the same
@@ -98,40 +114,63 @@ written {row = row} is (x ∷ xs) (y ∷ ys) e =
     let first = sym (is.read_back x) ∙ ap is.read head ∙ is.read_back y in
     λ i. first i ∷ written is xs ys tail i
 
-module _ (terminals others : List Terminal) (room another : Room) (s t : List ℕ)
-    (e : digest_text terminals room ++ s ≡ digest_text others another ++ t) where
-  same_tables : (tables_of terminals room ≡ tables_of others another) × (s ≡ t)
-  unfolding digest_text
-  same_tables = each_told (AllByRecursion (AllByRecursion IsStored)) table_text table_told (tables_of terminals room) (tables_of others another) s t (tables_stored terminals room) (tables_stored others another) refl e
+module _ (zone elsewhere : List ℕ) (terminals others : List Terminal) (room another : Room) where
+  -- tables of which the digest of a version is
+  same_rest : (version : Version)
+      → tables_in version zone terminals room ≡ tables_in version elsewhere others another
+      → tables_of terminals room ≡ tables_of others another
+  same_rest First e = e
+  same_rest Second e = ap (drop 1) e
 
-  at : (k : ℕ) → slice_index_or (tables_of terminals room) k []
-      ≡ slice_index_or (tables_of others another) k []
-  at k = ap (λ tables. slice_index_or tables k []) same_tables.0
+  same_zone : (version : Version)
+      → tables_in version zone terminals room ≡ tables_in version elsewhere others another
+      → version ≡ Second → zone ≡ elsewhere
+  same_zone First e is = absurd (cc is)
+  same_zone Second e is =
+      let rows : map meta_row (zone ∷ []) ≡ map meta_row (elsewhere ∷ []) = ap (λ tables. slice_index_or tables 0 []) e in
+      let all : zone ∷ [] ≡ elsewhere ∷ [] = written meta_faithful (zone ∷ []) (elsewhere ∷ []) rows in
+      cc
 
-  pub same_terminals : terminals ≡ others
-  same_terminals = written terminal_faithful terminals others (at 1)
+  -- and the rows in them
+  module _ (e : tables_of terminals room ≡ tables_of others another) where
+    at : (k : ℕ) → slice_index_or (tables_of terminals room) k []
+        ≡ slice_index_or (tables_of others another) k []
+    at k = ap (λ tables. slice_index_or tables k []) e
 
-  pub same_room : room ≡ another
-  same_room i = record {
-    plan = numbered-injective 1 room.plan another.plan (written area_faithful (numbered 1 room.plan) (numbered 1 another.plan) (at 0)) i;
-    divisions = written division_faithful room.divisions another.divisions (at 2) i;
-    incidents = written incident_faithful room.incidents another.incidents (at 3) i;
-    calls = written call_faithful room.calls another.calls (at 4) i;
-    vehicles = written vehicle_faithful room.vehicles another.vehicles (at 5) i;
-    turns = written turn_faithful room.turns another.turns (at 6) i;
-    assignments = written assignment_faithful room.assignments another.assignments (at 7) i;
-    points = written point_faithful room.points another.points (at 8) i;
-    loans = written loan_faithful room.loans another.loans (at 9) i;
-    offers = written offer_faithful room.offers another.offers (at 11) i;
-    reports = written report_faithful room.reports another.reports (at 10) i;
-  }
+    same_terminals : terminals ≡ others
+    same_terminals = written terminal_faithful terminals others (at 1)
+
+    same_room : room ≡ another
+    same_room i = record {
+      plan = numbered-injective 1 room.plan another.plan (written area_faithful (numbered 1 room.plan) (numbered 1 another.plan) (at 0)) i;
+      divisions = written division_faithful room.divisions another.divisions (at 2) i;
+      incidents = written incident_faithful room.incidents another.incidents (at 3) i;
+      calls = written call_faithful room.calls another.calls (at 4) i;
+      vehicles = written vehicle_faithful room.vehicles another.vehicles (at 5) i;
+      turns = written turn_faithful room.turns another.turns (at 6) i;
+      assignments = written assignment_faithful room.assignments another.assignments (at 7) i;
+      points = written point_faithful room.points another.points (at 8) i;
+      loans = written loan_faithful room.loans another.loans (at 9) i;
+      offers = written offer_faithful room.offers another.offers (at 11) i;
+      reports = written report_faithful room.reports another.reports (at 10) i;
+    }
 
 -- ---- the texts of two rooms
 
-module _ (terminals others : List Terminal) (room another : Room)
-    (e : digest_text terminals room ≡ digest_text others another) where
-  ended : digest_text terminals room ++ [] ≡ digest_text others another ++ []
-  ended = ap (λ l. l ++ []) e
+module _ (version : Version) (zone elsewhere : List ℕ) (terminals others : List Terminal)
+    (room another : Room)
+    (e : digest_text version zone terminals room ≡ digest_text version elsewhere others another) where
+  same_tables : tables_in version zone terminals room ≡ tables_in version elsewhere others another
+  unfolding digest_text
+  same_tables = (each_told (AllByRecursion (AllByRecursion IsStored)) table_text table_told
+      (tables_in version zone terminals room) (tables_in version elsewhere others another) [] []
+      (tables_stored version zone terminals room) (tables_stored version elsewhere others another)
+      (same_number version zone elsewhere terminals others room another) (ap (λ l. l ++ []) e)).0
 
-  pub text_tells : (terminals ≡ others) × (room ≡ another)
-  text_tells = (same_terminals terminals others room another [] [] ended, same_room terminals others room another [] [] ended)
+  pub text_tells : (terminals ≡ others) × (room ≡ another) × (version ≡ Second → zone ≡ elsewhere)
+  text_tells =
+      let rest = same_rest zone elsewhere terminals others room another version same_tables in (
+        same_terminals zone elsewhere terminals others room another rest,
+        same_room zone elsewhere terminals others room another rest,
+        same_zone zone elsewhere terminals others room another version same_tables,
+      )

@@ -1,11 +1,12 @@
 -- The texts that read the tables of a room.
-use Rattle.std.proofs.Common.{List, [], ◌∷◌, ℕ, map, subst}
+use Rattle.std.proofs.Common.{List, [], ◌∷◌, ℕ, drop, map, subst}
 use Rattle.std.specs.List.{AllByRecursion}
 use Rattle.std.specs.declared.cmp.Ordering.{Ordering}
 use Rattle.sqlite_schema.specs.declared.schema.Table.{Table}
 use Rattle.sqlite_trees.specs.Tree.{Trees}
 use Rattle.sqlite_value.specs.Order.{Row}
 use Rattle.room_model.specs.Room.{Room}
+use Rattle.room_service.specs.declared.digests.Version.TheVariants.{First, Second}
 use Rattle.room_tables_schema.specs.Schema.{room_schema}
 use Rattle.room_tables_sql.specs.Statements.{Selects}
 use Rattle.room_tables_sql.specs.Tables.{Holds}
@@ -39,11 +40,13 @@ use Rattle.room_tables_rows.specs.declared.terminals.TheConstants.{ALL_TERMINALS
 use Rattle.room_tables_rows.specs.declared.turns.TheConstants.{ALL_TURNS}
 use Rattle.room_tables_rows.specs.declared.vehicles.TheConstants.{ALL_VEHICLES}
 use Rattle.room_store_digest.specs.Reading.{IsKnown, ReadEach, ReadsTable}
-use Rattle.room_store_digest.specs.Texts.{tables_of}
+use Rattle.room_store_digest.specs.Texts.{tables_in}
 use Rattle.room_store_digest.specs.declared.digests.TheConstants.{WHOLE_TABLES}
 
-pub whole_known : AllByRecursion IsKnown (map (λ text. text.now) WHOLE_TABLES)
-whole_known = (all_areas_means.plain, (all_terminals_means.plain, (all_divisions_means.plain, (all_incidents_means.plain, (all_calls_means.plain, (all_vehicles_means.plain, (all_turns_means.plain, (all_assignments_means.plain, (all_points_means.plain, (all_loans_means.plain, (all_reports_means.plain, (all_offers_means.plain, tt))))))))))))
+-- ---- the tables but that of the zone
+
+pub first_known : AllByRecursion IsKnown (map (λ text. text.now) (drop 1 WHOLE_TABLES))
+first_known = (all_areas_means.plain, (all_terminals_means.plain, (all_divisions_means.plain, (all_incidents_means.plain, (all_calls_means.plain, (all_vehicles_means.plain, (all_turns_means.plain, (all_assignments_means.plain, (all_points_means.plain, (all_loans_means.plain, (all_reports_means.plain, (all_offers_means.plain, tt))))))))))))
 
 -- the text of a whole table reads what the table stands for
 reads_whole : {X K : Type 0} {order : K → K → Ordering} {key : X → K} {row : X → Row}
@@ -59,10 +62,11 @@ reads_whole {row = row} {table = table} is text selects trees xs stands = record
   stands = subst (λ p. Holds p table.primary (trees table.tree) (map row xs)) is.places_are stands;
 }
 
--- the texts of all tables read what they stand for
-pub whole_read : (trees : Trees) (house : House) (room : Room) → Stands trees house room
-    → ReadEach (map (λ text. text.now) WHOLE_TABLES) trees (tables_of house.terminals room)
-whole_read trees house room h = (
+-- the texts of these tables read what they stand for
+pub first_read : (trees : Trees) (house : House) (room : Room) → Stands trees house room
+    → ReadEach (map (λ text. text.now) (drop 1 WHOLE_TABLES)) trees
+    (tables_in First house.zone house.terminals room)
+first_read trees house room h = (
   reads_whole areas_held ALL_AREAS.now all_areas_means trees (numbered 1 room.plan) h.areas,
   (
     reads_whole terminals_held ALL_TERMINALS.now all_terminals_means trees house.terminals h.terminals,
@@ -98,4 +102,17 @@ whole_read trees house room h = (
       ),
     ),
   ),
+)
+
+-- ---- and all tables
+
+pub second_known : AllByRecursion IsKnown (map (λ text. text.now) WHOLE_TABLES)
+second_known = (all_meta_means.plain, first_known)
+
+pub second_read : (trees : Trees) (house : House) (room : Room) → Stands trees house room
+    → ReadEach (map (λ text. text.now) WHOLE_TABLES) trees
+    (tables_in Second house.zone house.terminals room)
+second_read trees house room h = (
+  reads_whole meta_held ALL_META.now all_meta_means trees (house.zone ∷ []) h.meta,
+  first_read trees house room h,
 )

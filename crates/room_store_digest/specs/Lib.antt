@@ -1,4 +1,4 @@
--- rows as bytes, and the text of a room
+-- rows as bytes, the text of a room, and its digests
 pub mod Texts
 -- what is added to a hash
 pub mod Hashing

@@ -1,10 +1,13 @@
--- A room's rows as bytes, from which they can be read back.
+-- A room's rows as bytes, from which they can be read back, and the digests of these.
 use Rattle.std.specs.Prelude.{◌+◌, ◌/◌, ◌%◌, if◌then◌else◌, nat_le, ℕ, zero, suc, pos, negsuc, List, [], ◌∷◌, ◌++◌, length, map}
 use Rattle.std.specs.List.{flat_map}
+use Rattle.sha2.specs.Sha256.{sha256}
 use Rattle.sqlite_value.specs.Order.{Row}
 use Rattle.sqlite_value.specs.declared.value.Value.{Value}
 use Rattle.sqlite_value.specs.declared.value.Value.TheVariants.{Null, Int, Real, Text, Blob}
 use Rattle.room_model.specs.Room.{Room}
+use Rattle.room_service.specs.declared.digests.Version.{Version}
+use Rattle.room_service.specs.declared.digests.Version.TheVariants.{First, Second}
 use Rattle.room_types.specs.declared.fleet.Terminal.{Terminal}
 use Rattle.room_tables_rows.specs.Areas.{area_row}
 use Rattle.room_tables_rows.specs.Assignments.{assignment_row}
@@ -12,6 +15,7 @@ use Rattle.room_tables_rows.specs.Calls.{call_row}
 use Rattle.room_tables_rows.specs.Divisions.{division_row}
 use Rattle.room_tables_rows.specs.Incidents.{incident_row}
 use Rattle.room_tables_rows.specs.Loans.{loan_row}
+use Rattle.room_tables_rows.specs.Meta.{meta_row}
 use Rattle.room_tables_rows.specs.Offers.{offer_row}
 use Rattle.room_tables_rows.specs.Points.{point_row}
 use Rattle.room_tables_rows.specs.Reports.{report_row}
@@ -69,6 +73,16 @@ tables_of terminals room =
     ∷ map offer_row room.offers
     ∷ []
 
--- the rows of a room and its terminals, table by table
-unfoldable pub digest_text : List Terminal → Room → List ℕ
-digest_text terminals room = flat_map table_text (tables_of terminals room)
+-- the rows of the tables of which the digest of a version is: the second has that of the zone too
+abbrev pub tables_in : Version → List ℕ → List Terminal → Room → List (List Row)
+tables_in First zone terminals room = tables_of terminals room
+tables_in Second zone terminals room = (meta_row zone ∷ []) ∷ tables_of terminals room
+
+-- a room's rows, table by table, of which the digest of a version is
+unfoldable pub digest_text : Version → List ℕ → List Terminal → Room → List ℕ
+digest_text version zone terminals room =
+    flat_map table_text (tables_in version zone terminals room)
+
+-- the digest of this version of a room
+abbrev pub digest_of : Version → List ℕ → List Terminal → Room → List ℕ
+digest_of version zone terminals room = sha256 (digest_text version zone terminals room)

@@ -1,7 +1,6 @@
 //! The digest of a room that is kept in tables.
 ghost use Rattle.std.specs.Prelude.{◌≡◌, ◌<◌, false, List, length, map, IfOk, OnOk};
 ghost use Rattle.std.specs.List.{AllByRecursion, flat_map};
-ghost use Rattle.sha2.specs.Sha256.{sha256};
 ghost use Rattle.sqlite.specs.Held.{state};
 ghost use Rattle.sqlite.specs.State.{HasCleanDisk, Survives};
 ghost use Rattle.sqlite_value.specs.Order.{Row};
@@ -12,15 +11,18 @@ ghost use Rattle.room_tables_sql.specs.Outcomes.{ReadsInside};
 ghost use Rattle.room_store_writes.specs.Writing.{Leaves};
 ghost use Rattle.room_store_digest.specs.Hashing.{Adds};
 ghost use Rattle.room_store_digest.specs.Reading.{IsKnown, ReadEach, ReadsTable};
-ghost use Rattle.room_store_digest.specs.Texts.{digest_text, table_text};
+ghost use Rattle.room_store_digest.specs.Texts.{digest_of, table_text, tables_in};
+ghost use Rattle.sqlite_trees.specs.Tree.{Trees};
 
 use crate::hashing::add_rows;
+use room_service::digests::Version;
 use room_tables_rows::areas::ALL_AREAS;
 use room_tables_rows::assignments::ALL_ASSIGNMENTS;
 use room_tables_rows::calls::ALL_CALLS;
 use room_tables_rows::divisions::ALL_DIVISIONS;
 use room_tables_rows::incidents::ALL_INCIDENTS;
 use room_tables_rows::loans::ALL_LOANS;
+use room_tables_rows::meta::ALL_META;
 use room_tables_rows::offers::ALL_OFFERS;
 use room_tables_rows::points::ALL_POINTS;
 use room_tables_rows::reports::ALL_REPORTS;
@@ -32,8 +34,10 @@ use room_tables_sql::reading::select_inside;
 use sha2::{Digest, Sha256};
 use sqlite::{Alter, Connection, Transaction};
 
-// Selects all rows of each table but `meta`, the tables in the order in which they are made.
-const WHOLE_TABLES: [&str; 12] = [
+// Selects all rows of each table, the tables in the order in which they are made. The first is that
+// of the zone.
+const WHOLE_TABLES: [&str; 13] = [
+    ALL_META,
     ALL_AREAS,
     ALL_TERMINALS,
     ALL_DIVISIONS,
@@ -48,15 +52,15 @@ const WHOLE_TABLES: [&str; 12] = [
     ALL_OFFERS,
 ];
 
-/// The SHA-256 of all rows of a room, read in a transaction that is undone. All stays as it was,
+/// The digest of this version of a room, read in a transaction that is undone. All stays as it was,
 /// but that a fault may have shut the connection.
-pub fn digest_in<S: Alter>(conn: &mut Connection<S>) -> Result<[u8; 32], Fault>
+pub fn digest_in<S: Alter>(conn: &mut Connection<S>, version: Version) -> Result<[u8; 32], Fault>
     requires room { HasRoomSchema S.Store conn.old }
     requires outside { conn.old.in_transaction ≡ false }
     ensures digest { HasCleanDisk (state S.Store conn.new)
         → IfOk result (λ digest. (house : House) (room : Room)
         → Stands (state S.Store conn.old).now.trees house room
-        → digest ≡ sha256 (digest_text house.terminals room)) }
+        → digest ≡ digest_of version house.zone house.terminals room) }
     ensures leaves { HasCleanDisk (state S.Store conn.new)
         → Leaves (state S.Store conn.old) (state S.Store conn.new) }
     ensures ended { conn.new.in_transaction ≡ false }
@@ -65,25 +69,43 @@ pub fn digest_in<S: Alter>(conn: &mut Connection<S>) -> Result<[u8; 32], Fault>
     // Outside a transaction the tables are as they were committed.
     let _ = conn.is_autocommit();
     let mut tx = conn.transaction();
-    let digest = digest_inside(&mut tx);
+    let digest = digest_inside(&mut tx, version);
     tx.rollback();
     digest
 }
 
-/// The SHA-256 of all rows of a room as a transaction sees them, table by table, but that of its
-/// version and its zone, on which no other row depends. Two tables are never in memory at once.
-pub fn digest_inside<S: Alter>(tx: &mut Transaction<'_, S>) -> Result<[u8; 32], Fault>
+/// The digest of this version of a room as a transaction sees it: the SHA-256 of its rows, table by
+/// table. Two tables are never in memory at once.
+pub fn digest_inside<S: Alter>(
+    tx: &mut Transaction<'_, S>,
+    version: Version,
+) -> Result<[u8; 32], Fault>
     requires room { HasRoomSchema S.Store tx.old.conn.now }
     ensures same_reference { tx.new.conn.ghost_name ≡ tx.old.conn.ghost_name }
     ensures digest { HasCleanDisk (state S.Store tx.new.conn.now)
         → IfOk result (λ digest. (house : House) (room : Room)
         → Stands (state S.Store tx.old.conn.now).now.trees house room
-        → digest ≡ sha256 (digest_text house.terminals room)) }
+        → digest ≡ digest_of version house.zone house.terminals room) }
     ensures reads { ReadsInside S.Store tx.old.conn.now tx.new.conn.now result }
 {
     let mut hasher = Sha256::new();
-    add_tables(tx, &mut hasher, &WHOLE_TABLES)?;
+    add_tables(tx, &mut hasher, texts_of(version))?;
     Ok(hasher.finalize())
+}
+
+// The texts that select the rows of which a digest is. That of the first version leaves the zone
+// out.
+fn texts_of(version: Version) -> &'static [&'static str]
+    ensures known { AllByRecursion IsKnown (map (λ text. text.now) result.now) }
+    ensures some { 0 < length result.now }
+    ensures read { (trees : Trees) (house : House) (room : Room) → Stands trees house room
+        → ReadEach (map (λ text. text.now) result.now) trees
+        (tables_in version house.zone house.terminals room) }
+{
+    match version {
+        Version::First => &WHOLE_TABLES[1..],
+        Version::Second => &WHOLE_TABLES,
+    }
 }
 
 // Adds the rows of several tables, by the texts that select them.

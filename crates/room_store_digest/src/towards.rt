@@ -13,6 +13,7 @@ ghost use Rattle.room_store_digest.specs.Towards.{Misses, Reaches};
 ghost use Rattle.room_store_digest.specs.declared.towards.Undone.TheVariants.{Another, Want};
 
 use crate::digests::digest_inside;
+use room_service::digests::Head;
 use room_store_writes::writing::{end, put_each};
 use room_tables_schema::faults::Fault;
 use room_types::changes::Change;
@@ -43,12 +44,12 @@ impl From<Error> for Undone {
     }
 }
 
-/// Makes all changes where the room comes by them to the digest of these digits, or none. What a
-/// stop may leave is what it could before, or the room after all of them, which has the digest.
+/// Makes all changes where the room comes by them to the digest of this head, or none. What a stop
+/// may leave is what it could before, or the room after all of them, which has the digest.
 pub fn write_towards<S: Alter>(
     conn: &mut Connection<S>,
     changes: &[Change],
-    digits: &[u8; 64],
+    head: &Head,
 ) -> Result<(), Undone>
     requires room { HasRoomSchema S.Store conn.old }
     requires outside { conn.old.in_transaction ≡ false }
@@ -57,19 +58,19 @@ pub fn write_towards<S: Alter>(
         → OnOk result (Commits (state S.Store conn.old) (state S.Store conn.new)
         (Stands (state S.Store conn.old).now.trees) (λ room. apply room changes.now)) }
     ensures reaches { HasCleanDisk (state S.Store conn.new)
-        → OnOk result (Reaches changes.now digits.now (state S.Store conn.old).now.trees
+        → OnOk result (Reaches changes.now head.now (state S.Store conn.old).now.trees
         (state S.Store conn.new).now.trees) }
     ensures another { HasCleanDisk (state S.Store conn.new)
         → IfErr result (λ e. e ≡ Another
-        → Misses changes.now digits.now (state S.Store conn.old).now.trees) }
+        → Misses changes.now head.now (state S.Store conn.old).now.trees) }
     ensures err { HasCleanDisk (state S.Store conn.new)
         → OnErr result (Leaves (state S.Store conn.old) (state S.Store conn.new)) }
     ensures ended { conn.new.in_transaction ≡ false }
     ensures survives { Survives (state S.Store conn.old) (state S.Store conn.new)
-        (Reaches changes.now digits.now (state S.Store conn.old).now.trees) }
+        (Reaches changes.now head.now (state S.Store conn.old).now.trees) }
 {
     let mut tx = conn.transaction();
-    let done = make_towards(&mut tx, changes, digits);
+    let done = make_towards(&mut tx, changes, head);
     end(tx, done)
 }
 
@@ -77,23 +78,23 @@ pub fn write_towards<S: Alter>(
 fn make_towards<S: Alter>(
     tx: &mut Transaction<'_, S>,
     changes: &[Change],
-    digits: &[u8; 64],
+    head: &Head,
 ) -> Result<(), Undone>
     requires inside { MayWrite S.Store tx.old.conn.now }
     ensures same_reference { tx.new.conn.ghost_name ≡ tx.old.conn.ghost_name }
     ensures ok { HasCleanDisk (state S.Store tx.new.conn.now)
         → OnOk result (MakesAll (state S.Store tx.old.conn.now)
         (state S.Store tx.new.conn.now) changes.now
-        × Reaches changes.now digits.now (state S.Store tx.old.conn.now).now.trees
+        × Reaches changes.now head.now (state S.Store tx.old.conn.now).now.trees
         (state S.Store tx.new.conn.now).now.trees) }
     ensures another { HasCleanDisk (state S.Store tx.new.conn.now)
         → IfErr result (λ e. e ≡ Another
-        → Misses changes.now digits.now (state S.Store tx.old.conn.now).now.trees) }
+        → Misses changes.now head.now (state S.Store tx.old.conn.now).now.trees) }
     ensures commits { CommitsNothing S.Store tx.old.conn.now tx.new.conn.now }
 {
     put_each(tx, changes)?;
-    let hash = digest_inside(tx)?;
-    if is_written(&hash, digits) {
+    let hash = digest_inside(tx, head.version)?;
+    if is_written(&hash, &head.digits) {
         Ok(())
     } else {
         Err(Undone::Another)

@@ -19,14 +19,14 @@ returns-in-End-clause-turn g c =
 
 pub returns-in-Head-clause-turn : goal.returns-in-Head-clause-turn
 returns-in-Head-clause-turn g c =
-    let x = head_turn _ _ (digits_of g.M.Digested.digest_of) _ _ _ _ _ None IsPlayed (λ digest. tt) _ _ _ _ c.note_head.ensures _ c.in-Head.is c.in-Ok.ensures.next in
+    let x = head_turn _ _ (digits_of g.M.Digested.digest_of (g.M.Room.zone c.args.room.now)) _ _ _ _ _ None IsPlayed (λ digest. tt) _ _ _ _ c.note_head.ensures _ c.in-Head.is c.in-Ok.ensures.next in
     (head x.0 ∷ [], x.1, x.2, λ _. (x.3, c.requires.writer, refl {a = 1}), λ never. absurd (cc never), Appends-none (g.W.Sink.held c.args.writer.now))
 
 pub returns-in-Err-answer_message-clause-turn : goal.returns-in-Err-answer_message-clause-turn
 returns-in-Err-answer_message-clause-turn g c =
-    let turn = c.in-Err-answer_message.ensures.turn in (
+    let turn = (rw c.next_entry.ensures.zone at c.in-Err-answer_message.ensures.turn) in (
       turn.0,
-      stops_message _ _ (digits_of g.M.Digested.digest_of) _ _ c.answer_message.ensures.trusted _ _ _ _ _ None _ _ c.in-Message.at _ _ c.in-Message.is c.args.progress.now c.in-Ok.ensures.next
+      stops_message _ _ (digits_of g.M.Digested.digest_of (g.M.Room.zone c.args.room.now)) _ _ c.answer_message.ensures.trusted _ _ _ _ _ None _ _ c.in-Message.at _ _ c.in-Message.is c.args.progress.now c.in-Ok.ensures.next
           false c.in-Err-answer_message.fault _ _ turn.0 turn.1,
       refl {a = c.args.progress.now},
       turn.2,
@@ -36,8 +36,8 @@ returns-in-Err-answer_message-clause-turn g c =
 
 pub returns-in-Ok-answer_message-clause-turn : goal.returns-in-Ok-answer_message-clause-turn
 returns-in-Ok-answer_message-clause-turn g c =
-    each_turn _ _ (digits_of g.M.Digested.digest_of) _ _ c.answer_message.ensures.trusted _ _ _ _ _ _ _ _ _ _ _ _ c.in-Message.at _ _ c.in-Message.is c.args.progress.now _ c.note_message.ensures
-    c.in-Ok.ensures.next c.in-Ok-answer_message.ensures.turn
+    each_turn _ _ (digits_of g.M.Digested.digest_of (g.M.Room.zone c.args.room.now)) _ _ c.answer_message.ensures.trusted _ _ _ _ _ _ _ _ _ _ _ _ c.in-Message.at _ _ c.in-Message.is c.args.progress.now _ c.note_message.ensures
+    c.in-Ok.ensures.next (rw c.next_entry.ensures.zone at c.in-Ok-answer_message.ensures.turn)
 
 pub returns-in-Err-answer_message-clause-kept : goal.returns-in-Err-answer_message-clause-kept
 returns-in-Err-answer_message-clause-kept g c = λ trust.

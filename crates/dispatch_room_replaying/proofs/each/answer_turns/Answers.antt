@@ -21,6 +21,7 @@ turns-init g c = record {
     Appends-none (g.W.Sink.held c.args.writer.now),
     refl,
   );
+  zone = refl;
   trusted = λ trust. trust;
   kept = λ trust was. was;
   reader = c.requires.reader;
@@ -31,7 +32,7 @@ turns-init g c = record {
 pub turns-preserved : goal.turns-preserved
 turns-preserved g c =
     let going = c.turns.invariant.going in
-    let turn = c.in-Ok-true.ensures.turn in
+    let turn = (rw c.turns.invariant.zone at c.in-Ok-true.ensures.turn) in
     let earlier = c.answer_turn.ensures.trusted in record {
       going = (
         going.0 ++ turn.0,
@@ -40,6 +41,7 @@ turns-preserved g c =
         frames_more _ _ _ going.0 turn.0 going.3 turn.5,
         omega (arith, length-append going.0 turn.0, going.4, (turn.3 c.in-Ok-true.field-0-test).2),
       );
+      zone = c.answer_turn.ensures.zone ∙ c.turns.invariant.zone;
       trusted = λ trust. c.turns.invariant.trusted (earlier trust);
       kept = λ trust was. c.in-Ok-true.ensures.kept trust (c.turns.invariant.kept (earlier trust) was);
       reader = (turn.3 c.in-Ok-true.field-0-test).0;
@@ -50,7 +52,7 @@ turns-preserved g c =
 pub returns-in-Ok-false-clause-answers : goal.returns-in-Ok-false-clause-answers
 returns-in-Ok-false-clause-answers g c =
     let going = c.turns.invariant.going in
-    let turn = c.in-Ok-false.ensures.turn in
+    let turn = (rw c.turns.invariant.zone at c.in-Ok-false.ensures.turn) in
     let progress = turn.2 going.0 going.2 in
     let x = ended _ _ _ _ _ c.answer_turn.ensures.trusted _ _ _ going.0 turn.0 _ _ _ IsPlayed going.1 _ _ turn.1 (turn.4 c.in-Ok-false.field-0-test) progress in
     (going.0 ++ turn.0, x.0, x.1, x.2, progress.records, frames_more _ _ _ going.0 turn.0 going.3 turn.5)
@@ -58,7 +60,7 @@ returns-in-Ok-false-clause-answers g c =
 pub returns-in-Err-clause-answers : goal.returns-in-Err-clause-answers
 returns-in-Err-clause-answers g c =
     let going = c.turns.invariant.going in
-    let turn = c.in-Err.ensures.turn in
+    let turn = (rw c.turns.invariant.zone at c.in-Err.ensures.turn) in
     let stops = stopped _ _ _ _ _ c.answer_turn.ensures.trusted _ _ _ going.0 turn.0 _ _ _ IsPlayed going.1 false c.turns.progress going.2 c.in-Err.fault _ _ _
     (c.stopped.ensures ∙ ap (λ (p : Progress). record { fault = c.in-Err.fault; number = min (p.records + 1) (2 ^ 64 - 1) }) turn.2) turn.1 in
     (going.0, turn.0, stops, (turn.3, turn.4, Appends-more _ _ _ (frames_of going.0) turn.3 going.3 turn.5))
@@ -66,7 +68,7 @@ returns-in-Err-clause-answers g c =
 pub returns-clause-answers : goal.returns-clause-answers
 returns-clause-answers g c =
     let going = c.turns.invariant.going in
-    let stops = exhausted _ _ (digits_of g.M.Digested.digest_of) _ _ _ _ _ None IsPlayed going.0 false c.turns.progress _ _ _ going.1 going.2 c.stopped-2.ensures (omega (arith, going.4))
+    let stops = exhausted _ _ (digits_of g.M.Digested.digest_of (g.M.Room.zone c.args.room.now)) _ _ _ _ _ None IsPlayed going.0 false c.turns.progress _ _ _ going.1 going.2 c.stopped-2.ensures (omega (arith, going.4))
     c.turns.invariant.reader c.turns.invariant.writer in
     (going.0, [], stops, ([], ([], refl), subst (λ (t : List ℕ). Appends (g.W.Sink.held c.args.writer.now) (g.W.Sink.held c.turns.writer) t) (sym (append-nil (frames_of going.0))) going.3))
 

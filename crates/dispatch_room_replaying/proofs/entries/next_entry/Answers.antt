@@ -8,8 +8,8 @@ use Rattle.dispatch_room_replaying.proofs.entries.next_entry.Goals as goal
 pub returns-in-Ok-true-clause-next : goal.returns-in-Ok-true-clause-next
 returns-in-Ok-true-clause-next g c =
     let read = rw c.in-Ok-Some.field-0-is at c.in-Ok-Some.ensures.read in
-    let front = layout_of_room _ c.in-Ok-Some.layout read.says.0.0 c.in-Room.digest read.says.0.1 c.in-Room.is in (
-      c.in-Room.digest,
+    let front = layout_of_room _ c.in-Ok-Some.layout read.says.0.0 c.in-Room.head read.says.0.1 c.in-Room.is in (
+      c.in-Room.head,
       front.begins.0,
       taken _ _ _ _ c.in-Ok-Some.layout _ front read.same c.remove.ensures.kept,
       read.says.1,
@@ -40,13 +40,13 @@ returns-in-Ok-false-clause-next g c =
       c.is_at.ensures.same,
       λ waits text known.
           let first = read.first text known in
-          let front = layout_of_room text c.in-Ok-Some.layout first.0 c.in-Room.digest first.1 c.in-Room.is in (
+          let front = layout_of_room text c.in-Ok-Some.layout first.0 c.in-Room.head first.1 c.in-Room.is in (
             text,
             refl,
             (
               refl,
               None,
-              c.in-Room.digest,
+              c.in-Room.head,
               (drop c.in-Ok-Some.layout.end text, front.begins),
               (
                 refl,

@@ -18,32 +18,32 @@ returns-in-End-clause-turn g c =
 
 pub returns-in-Head-clause-turn : goal.returns-in-Head-clause-turn
 returns-in-Head-clause-turn g c =
-    let x = head_turn _ _ (digits_of g.M.Digested.digest_of) _ _ _ _ _ _ IsReplayed (λ digest. tt) _ _ _ _ c.note_head.ensures _ c.in-Head.is c.in-Ok.ensures.next in
+    let x = head_turn _ _ (digits_of g.M.Digested.digest_of (g.M.Room.zone c.args.room.now)) _ _ _ _ _ _ IsReplayed (λ digest. tt) _ _ _ _ c.note_head.ensures _ c.in-Head.is c.in-Ok.ensures.next in
     (head x.0 ∷ [], x.1, x.2, λ _. (x.3, refl {a = 1}), λ never. absurd (cc never))
 
 pub returns-in-Err-replay_message-clause-turn : goal.returns-in-Err-replay_message-clause-turn
 returns-in-Err-replay_message-clause-turn g c =
-    let turn = c.in-Err-replay_message.ensures.turn in (
+    let turn = (rw c.next_entry.ensures.zone at c.in-Err-replay_message.ensures.turn) in (
       turn.0,
-      stops_message _ _ (digits_of g.M.Digested.digest_of) _ _ c.replay_message.ensures.trusted _ _ _ _ _ _ _ _ c.in-Message.at _ _ c.in-Message.is c.args.progress.now c.in-Ok.ensures.next
+      stops_message _ _ (digits_of g.M.Digested.digest_of (g.M.Room.zone c.args.room.now)) _ _ c.replay_message.ensures.trusted _ _ _ _ _ _ _ _ c.in-Message.at _ _ c.in-Message.is c.args.progress.now c.in-Ok.ensures.next
           true c.in-Err-replay_message.fault _ _ turn.0 turn.1,
       refl,
     )
 
 pub returns-in-Ok-Played-clause-turn : goal.returns-in-Ok-Played-clause-turn
 returns-in-Ok-Played-clause-turn g c =
-    takes_message _ _ (digits_of g.M.Digested.digest_of) _ _ c.replay_message.ensures.trusted _ _ _ _ _ _ _ _ c.in-Message.at _ _ c.in-Message.is _ c.in-Ok.ensures.next
-    _ _ _ Played _ c.in-Ok-Played.field-0-is c.in-Ok-Played.ensures.turn c.note_message.ensures
+    takes_message _ _ (digits_of g.M.Digested.digest_of (g.M.Room.zone c.args.room.now)) _ _ c.replay_message.ensures.trusted _ _ _ _ _ _ _ _ c.in-Message.at _ _ c.in-Message.is _ c.in-Ok.ensures.next
+    _ _ _ Played _ refl (rw (c.in-Ok-Played.field-0-is, c.next_entry.ensures.zone) at c.in-Ok-Played.ensures.turn) c.note_message.ensures
 
 pub returns-in-Ok-LeftOut-clause-turn : goal.returns-in-Ok-LeftOut-clause-turn
 returns-in-Ok-LeftOut-clause-turn g c =
-    takes_message _ _ (digits_of g.M.Digested.digest_of) _ _ c.replay_message.ensures.trusted _ _ _ _ _ _ _ _ c.in-Message.at _ _ c.in-Message.is _ c.in-Ok.ensures.next
-    _ _ _ LeftOut _ c.in-Ok-LeftOut.field-0-is c.in-Ok-LeftOut.ensures.turn c.note_message-in-Ok-LeftOut.ensures
+    takes_message _ _ (digits_of g.M.Digested.digest_of (g.M.Room.zone c.args.room.now)) _ _ c.replay_message.ensures.trusted _ _ _ _ _ _ _ _ c.in-Message.at _ _ c.in-Message.is _ c.in-Ok.ensures.next
+    _ _ _ LeftOut _ refl (rw (c.in-Ok-LeftOut.field-0-is, c.next_entry.ensures.zone) at c.in-Ok-LeftOut.ensures.turn) c.note_message-in-Ok-LeftOut.ensures
 
 pub returns-in-Ok-Last-clause-turn : goal.returns-in-Ok-Last-clause-turn
 returns-in-Ok-Last-clause-turn g c =
-    takes_message _ _ (digits_of g.M.Digested.digest_of) _ _ c.replay_message.ensures.trusted _ _ _ _ _ _ _ _ c.in-Message.at _ _ c.in-Message.is _ c.in-Ok.ensures.next
-    _ _ _ Last _ c.in-Ok-Last.field-0-is c.in-Ok-Last.ensures.turn c.note_message-in-Ok-Last.ensures
+    takes_message _ _ (digits_of g.M.Digested.digest_of (g.M.Room.zone c.args.room.now)) _ _ c.replay_message.ensures.trusted _ _ _ _ _ _ _ _ c.in-Message.at _ _ c.in-Message.is _ c.in-Ok.ensures.next
+    _ _ _ Last _ refl (rw (c.in-Ok-Last.field-0-is, c.next_entry.ensures.zone) at c.in-Ok-Last.ensures.turn) c.note_message-in-Ok-Last.ensures
 
 pub returns-in-Err-replay_message-clause-kept : goal.returns-in-Err-replay_message-clause-kept
 returns-in-Err-replay_message-clause-kept g c = λ trust.

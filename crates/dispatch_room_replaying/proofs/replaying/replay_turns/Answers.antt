@@ -16,6 +16,7 @@ turns-init g c = record {
     new_progress _ c.new-progress.ensures,
     refl,
   );
+  zone = refl;
   trusted = λ trust. trust;
   kept = λ trust was. was;
   reader = c.requires.reader;
@@ -25,7 +26,7 @@ turns-init g c = record {
 pub turns-preserved : goal.turns-preserved
 turns-preserved g c =
     let going = c.turns.invariant.going in
-    let turn = c.in-Ok-true.ensures.turn in
+    let turn = (rw c.turns.invariant.zone at c.in-Ok-true.ensures.turn) in
     let earlier = c.replay_turn.ensures.trusted in record {
       going = (
         going.0 ++ turn.0,
@@ -33,6 +34,7 @@ turns-preserved g c =
         turn.2 going.0 going.2,
         omega (arith, length-append going.0 turn.0, going.3, (turn.3 c.in-Ok-true.field-0-test).1),
       );
+      zone = c.replay_turn.ensures.zone ∙ c.turns.invariant.zone;
       trusted = λ trust. c.turns.invariant.trusted (earlier trust);
       kept = λ trust was. c.in-Ok-true.ensures.kept trust (c.turns.invariant.kept (earlier trust) was);
       reader = (turn.3 c.in-Ok-true.field-0-test).0;
@@ -42,7 +44,7 @@ turns-preserved g c =
 pub returns-in-Ok-false-clause-replay : goal.returns-in-Ok-false-clause-replay
 returns-in-Ok-false-clause-replay g c =
     let going = c.turns.invariant.going in
-    let turn = c.in-Ok-false.ensures.turn in
+    let turn = (rw c.turns.invariant.zone at c.in-Ok-false.ensures.turn) in
     let progress = turn.2 going.0 going.2 in
     let x = ended _ _ _ _ _ c.replay_turn.ensures.trusted _ _ _ going.0 turn.0 _ _ _ IsReplayed going.1 _ _ turn.1 (turn.4 c.in-Ok-false.field-0-test) progress in
     (going.0 ++ turn.0, x.0, x.1, x.2, ap (λ r. r.records) c.done.ensures ∙ progress.records, ap (λ r. r.is_open) c.done.ensures ∙ progress.opens)
@@ -50,7 +52,7 @@ returns-in-Ok-false-clause-replay g c =
 pub returns-in-Err-clause-replay : goal.returns-in-Err-clause-replay
 returns-in-Err-clause-replay g c =
     let going = c.turns.invariant.going in
-    let turn = c.in-Err.ensures.turn in
+    let turn = (rw c.turns.invariant.zone at c.in-Err.ensures.turn) in
     let stops = stopped _ _ _ _ _ c.replay_turn.ensures.trusted _ _ _ going.0 turn.0 _ _ _ IsReplayed going.1 true c.turns.progress going.2 c.in-Err.fault _ _ _
     (c.stopped.ensures ∙ ap (λ (p : Progress). record { fault = c.in-Err.fault; number = min (p.records + 1) (2 ^ 64 - 1) }) turn.2) turn.1 in
     (going.0, turn.0, stops)
@@ -58,7 +60,7 @@ returns-in-Err-clause-replay g c =
 pub returns-clause-replay : goal.returns-clause-replay
 returns-clause-replay g c =
     let going = c.turns.invariant.going in
-    let stops = exhausted _ _ (digits_of g.M.Digested.digest_of) _ _ _ _ _ _ IsReplayed going.0 true c.turns.progress _ _ _ going.1 going.2 c.stopped-2.ensures (omega (arith, going.3))
+    let stops = exhausted _ _ (digits_of g.M.Digested.digest_of (g.M.Room.zone c.args.room.now)) _ _ _ _ _ _ IsReplayed going.0 true c.turns.progress _ _ _ going.1 going.2 c.stopped-2.ensures (omega (arith, going.3))
     c.turns.invariant.reader refl in
     (going.0, [], stops)
 

@@ -44,6 +44,7 @@ returns-clause-attended g c =
       none_missed = c.serve-end.ensures.none_missed;
       witnessed = c.serve-end.ensures.run.witnessed;
       failed = c.serve-end.ensures.failed;
+      same_zone = c.serve-end.ensures.zone;
       trusted = c.serve-end.ensures.trusted;
       kept = c.serve-end.ensures.kept;
     })

@@ -4,6 +4,7 @@ use Rattle.dispatch_room_endings.specs.declared.endings.Failure.{Failure}
 use Rattle.dispatch_room_endings.specs.declared.endings.Failure.TheVariants.{Journal}
 use Rattle.room_store.specs.declared.store.Store.{Store}
 use Rattle.sqlite_trees.specs.declared.store.Store.{Ghosts}
+use Rattle.room_service.specs.declared.digests.Head.{Head}
 use Rattle.dispatch_room_serving.specs.Rooms.{Announces, KeepsHead, LooksOnly}
 use Rattle.dispatch_room_serving.proofs.serving.begin_and_serve.Goals as goal
 
@@ -14,7 +15,7 @@ same_failed : (result : Result (Unit {0}) Failure)
 same_failed (Ok told) well old new is = is
 same_failed (Err fault) well old new is = absurd (well fault refl)
 
-module _ {S : Type 0} (g : Ghosts S) (wants : Bool) (begun : List ℕ → List ℕ) (old new : Store S) (kept keeps : Option (List ℕ)) where
+module _ {S : Type 0} (g : Ghosts S) (wants : Bool) (begun : Head → List ℕ) (old new : Store S) (kept keeps : Option (List ℕ)) where
   announced : (result : Result (Unit {0}) Failure) → ((fault : Failure) → result ≡ Err fault → ⊥) → Announces g wants begun old new kept keeps result
       → LooksOnly g old new × KeepsHead g wants begun old new kept keeps (Ok tt)
   announced (Ok told) well is = is

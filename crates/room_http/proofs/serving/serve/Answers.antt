@@ -29,6 +29,7 @@ messages-init g c =
       reader = c.requires.reader;
       writer = c.requires.writer;
       ready = c.requires.ready;
+      zone = refl;
       unfailed = refl;
     }
 
@@ -62,7 +63,7 @@ returns-in-Err-clause-run g c =
     let count = reads_by _ _ _ _ _ _ c.messages.invariant.spent read.ensures.read.spent c.messages.invariant.reads read.ensures.read.count in
     one_course _ _ _ _ _ _ _ _ _ (g.met.M.Room.fits _) _ _ _ c.args.budget c.in-Err.end
     (stops _ _ _ _ _ _ _ _ _ run.0 run.2 read.new.inbox _ read.ensures.read.same read.new.budget _ _ _ _ _ _ _ _ run.1 c.args.budget count read.result c.in-Err.end read.ensures.says c.in-Err.ensures.err)
-    (Noted-ends _ _ _ _ _ _ _ _ _ _ _ _ _ (Noted-kept _ _ _ _ _ _ _ _ _ _ _ _ _ _ run.3 read.ensures.read.same))
+    (Noted-ends _ _ _ _ _ _ _ _ _ _ _ _ _ (Noted-kept _ _ _ _ _ _ _ _ _ _ _ _ _ _ run.3 read.ensures.read.same) c.in-Err.end _ c.messages.invariant.kept)
 
 pub returns-in-Err-answer-clause-run : goal.returns-in-Err-answer-clause-run
 returns-in-Err-answer-clause-run g c =
@@ -74,7 +75,7 @@ returns-in-Err-answer-clause-run g c =
     one_course _ _ _ _ _ _ _ _ _ (g.met.M.Room.fits _) _ _ _ c.args.budget c.in-Err-answer.end
     (ends _ _ _ _ _ _ _ (g.M.Room.leaves_one_of c.messages.room) _ _ _ _ run.0 run.2 read.ensures.read.same _ _ _ _ _ (g.M.Room.leaves_one_of c.answer.new.room) c.in-Err-answer.ensures.trusted (λ trust. c.messages.invariant.kept (c.in-Err-answer.ensures.trusted trust))
     _ shown.0 passes run.1 c.args.budget answers.0 c.in-Err-answer.end answers.1)
-    (Noted-breaks _ _ _ _ _ _ _ (prepend_known read.new.inbox (g.R.Source.left read.new.reader)) _ _ _ _ _ (g.M.Room.stands c.answer.new.room) c.in-Err-answer.ensures.trusted run.0 run.1 run.3 read.ensures.read.same _ _ shown.0 passes answers.0 c.in-Err-answer.end answers.2)
+    (Noted-breaks _ _ _ _ _ _ _ (prepend_known read.new.inbox (g.R.Source.left read.new.reader)) _ _ _ _ _ (g.M.Room.stands c.answer.new.room) c.in-Err-answer.ensures.trusted run.0 run.1 run.3 read.ensures.read.same _ _ shown.0 passes answers.0 _ _ (λ later trust was. later trust (c.messages.invariant.kept (c.in-Err-answer.ensures.trusted trust) was)) c.in-Err-answer.end answers.2)
 
 pub returns-then-is_closing-clause-run : goal.returns-then-is_closing-clause-run
 returns-then-is_closing-clause-run g c =
@@ -86,7 +87,7 @@ returns-then-is_closing-clause-run g c =
     one_course _ _ _ _ _ _ _ _ _ (g.met.M.Room.fits _) _ _ _ c.args.budget Closed
     (closes _ _ _ _ _ _ _ (g.M.Room.leaves_one_of c.messages.room) _ _ _ _ run.0 run.2 read.ensures.read.same _ _ _ _ _ (g.M.Room.leaves_one_of c.answer.new.room) c.in_default-answer.ensures.trusted (λ trust. c.messages.invariant.kept (c.in_default-answer.ensures.trusted trust))
     _ shown.0 passes (run.1 ++ answers.2.0 ∷ []) c.args.budget answers.0 answers.1 (sym (c.is_closing.ensures shown.0 shown.2) ∙ c.if-is_closing.true))
-    (Noted-closes _ _ _ _ _ _ _ (prepend_known read.new.inbox (g.R.Source.left read.new.reader)) _ _ _ _ _ (g.M.Room.stands c.answer.new.room) c.in_default-answer.ensures.trusted run.0 run.1 run.3 read.ensures.read.same _ _ shown.0 passes answers.0 answers.2)
+    (Noted-closes _ _ _ _ _ _ _ (prepend_known read.new.inbox (g.R.Source.left read.new.reader)) _ _ _ _ _ (g.M.Room.stands c.answer.new.room) c.in_default-answer.ensures.trusted run.0 run.1 run.3 read.ensures.read.same _ _ shown.0 passes answers.0 _ (g.M.Room.is_trusted c.answer.new.room → g.M.Room.is_kept c.messages.room → g.M.Room.is_kept c.answer.new.room) (λ later trust was. later trust (c.messages.invariant.kept (c.in_default-answer.ensures.trusted trust) was)) answers.2 (λ trust was. c.in_default-answer.ensures.kept trust (c.messages.invariant.kept (c.in_default-answer.ensures.trusted trust) was)))
 
 pub returns-in-Err-clause-none_missed : goal.returns-in-Err-clause-none_missed
 returns-in-Err-clause-none_missed g c =
@@ -132,7 +133,7 @@ messages-preserved g c =
         run.1 ++ answers.2.0 ∷ [],
         Going-more _ _ _ _ _ _ _ (g.M.Room.leaves_one_of c.messages.room) _ _ _ _ run.0 run.2 read.ensures.read.same new _ _ (g.M.Room.has_failed c.answer.new.room) (g.M.Room.stands c.answer.new.room) (g.M.Room.leaves_one_of c.answer.new.room) c.in_default-answer.ensures.trusted
             (λ trust. c.messages.invariant.kept (c.in_default-answer.ensures.trusted trust)) _ shown.0 after answers.0 answers.1 goes,
-        Noted-more _ _ _ _ _ _ _ _ _ _ _ _ _ (g.M.Room.stands c.answer.new.room) c.in_default-answer.ensures.trusted run.0 run.1 run.3 read.ensures.read.same _ _ shown.0 after answers.0 answers.2 goes,
+        Noted-more _ _ _ _ _ _ _ _ _ _ _ _ _ (g.M.Room.stands c.answer.new.room) c.in_default-answer.ensures.trusted run.0 run.1 run.3 read.ensures.read.same _ _ shown.0 after answers.0 (Unit {0}) (Unit {0}) (λ same. same) answers.2 goes,
       );
       trusted = λ trust. c.messages.invariant.trusted (c.in_default-answer.ensures.trusted trust);
       kept = λ trust was. c.in_default-answer.ensures.kept trust (c.messages.invariant.kept (c.in_default-answer.ensures.trusted trust) was);
@@ -141,6 +142,7 @@ messages-preserved g c =
       reader = (read_goes_on kept left read.new.budget _ _ read.result shown.0 read.ensures.says shown.1 goes).0;
       writer = answers.1.1;
       ready = c.in_default-answer.ensures.ready;
+      zone = c.in_default-answer.ensures.zone ∙ c.messages.invariant.zone;
       unfailed = c.in_default-answer.ensures.failed (λ is. absurd (cc)) ∙ c.messages.invariant.unfailed;
     }
 
@@ -158,11 +160,11 @@ returns-in_default-clause-run g c =
     let going = Going-none g.M.Room.step c.args.zone.now _ _ _ _ (λ terminals room standing. (standing, λ was. g.met.M.Room.leaves_it _ terminals room was standing)) in
     one_course _ _ _ _ _ (Unit {0}) _ _ _ (g.met.M.Room.fits _) (record { outs = []; answers = []; last = None }) _ _ c.args.budget Memory
     (refl, (refl, Going-ends _ _ _ _ _ _ _ _ _ _ _ _ _ _ _ _ (λ rest. ⊤) going (λ rest known. tt)), CountsBy-none _)
-    (Noted-ends _ _ _ _ _ _ _ _ _ _ _ _ _ (Noted-none g.N.Witness.came g.N.Witness.told g.M.Room.step c.args.zone.now _ _ _ _))
+    (Noted-ends _ _ _ _ _ _ _ _ _ _ _ _ _ (Noted-none g.N.Witness.came g.N.Witness.told g.M.Room.step c.args.zone.now _ _ _ _) Memory _ (λ trust was. was))
 
 pub returns-in_default-new-clause-run : goal.returns-in_default-new-clause-run
 returns-in_default-new-clause-run g c =
     let going = Going-none g.M.Room.step c.args.zone.now _ _ _ _ (λ terminals room standing. (standing, λ was. g.met.M.Room.leaves_it _ terminals room was standing)) in
     one_course _ _ _ _ _ (Unit {0}) _ _ _ (g.met.M.Room.fits _) (record { outs = []; answers = []; last = None }) _ _ c.args.budget Memory
     (refl, (refl, Going-ends _ _ _ _ _ _ _ _ _ _ _ _ _ _ _ _ (λ rest. ⊤) going (λ rest known. tt)), CountsBy-none _)
-    (Noted-ends _ _ _ _ _ _ _ _ _ _ _ _ _ (Noted-none g.N.Witness.came g.N.Witness.told g.M.Room.step c.args.zone.now _ _ _ _))
+    (Noted-ends _ _ _ _ _ _ _ _ _ _ _ _ _ (Noted-none g.N.Witness.came g.N.Witness.told g.M.Room.step c.args.zone.now _ _ _ _) Memory _ (λ trust was. was))

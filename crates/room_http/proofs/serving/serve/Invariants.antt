@@ -25,6 +25,7 @@ invariant-messages g l = record {
   reader : g.R.Source.has_failed l.reader ≡ false;
   writer : g.W.Sink.has_failed l.writer ≡ false;
   ready : g.M.Room.is_ready l.room;
+  zone : g.M.Room.zone l.room ≡ g.M.Room.zone l.initial.room;
   unfailed : g.N.Witness.has_failed l.witness ≡ g.N.Witness.has_failed l.initial.witness;
 }
 

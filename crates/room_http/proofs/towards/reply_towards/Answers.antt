@@ -8,8 +8,9 @@ use Rattle.room_http_messages.specs.declared.messages.Message.{Message as Given}
 use Rattle.room_http_messages.specs.Layouts.{Shows}
 use Rattle.room_http_messages.specs.Messages.{WholeMessage}
 use Rattle.room_http_time.specs.declared.zones.Zone.{Zone}
-use Rattle.room_service.specs.Digests.{digits_of}
+use Rattle.room_service.specs.Digests.{DigitsOf, IsHeadOf, digits_of}
 use Rattle.room_service.specs.Rooms.{Step}
+use Rattle.room_service.specs.declared.digests.Head.{Head}
 use Rattle.room_service.specs.declared.digests.Miss.{Miss}
 use Rattle.room_service.specs.declared.digests.Miss.TheVariants.{Another}
 use Rattle.room_http.specs.declared.arrivals.Arrived.{Arrived}
@@ -22,13 +23,13 @@ use Rattle.room_http.specs.Towards.{LeadsToAnother}
 use Rattle.room_http.proofs.towards.reply_towards.Goals as goal
 
 -- what is refused in the place of a message leaves the room at its digest
-stays_elsewhere : (step : Step) (zone : Zone) (digest_of : List Terminal → Room → List ℕ)
+stays_elsewhere : (step : Step) (zone : Zone) (digits_of : DigitsOf)
     (terminals : List Terminal) (room : Room) (arrived : Arrived) (r : Refusal) (without : _)
-    (at : ℕ) (digest : List ℕ) (o : Arrival) → arrived ≡ Refused r without → IsShown arrived o
-    → (¬ (digest_of terminals room ≡ digest))
-    → LeadsToAnother step zone digest_of terminals room (o, at) digest
-stays_elsewhere step zone digest_of terminals room arrived r without at digest (message m) is shown elsewhere = absurd (rw is at shown)
-stays_elsewhere step zone digest_of terminals room arrived r without at digest (refused s other) is shown elsewhere =
+    (at : ℕ) (head : Head) (o : Arrival) → arrived ≡ Refused r without → IsShown arrived o
+    → (¬ (IsHeadOf digits_of head terminals room))
+    → LeadsToAnother step zone digits_of terminals room (o, at) head
+stays_elsewhere step zone digits_of terminals room arrived r without at head (message m) is shown elsewhere = absurd (rw is at shown)
+stays_elsewhere step zone digits_of terminals room arrived r without at head (refused s other) is shown elsewhere =
     let same = rw is at shown in (Err r, ap Err same.0, elsewhere)
 
 -- what a message asks for was found
@@ -54,7 +55,7 @@ returns-in-Refused-clause-reply g c = record {
   wants = inl refl;
   says = λ trust terminals room stood. (
     stood,
-    λ is elsewhere o shown. stays_elsewhere g.M.Room.step c.args.zone.now (digits_of g.M.Digested.digest_of) terminals room c.args.arrived.now c.in-Refused.refusal c.in-Refused.head_only c.args.at c.args.digits.now o c.in-Refused.is shown elsewhere,
+    λ is elsewhere o shown. stays_elsewhere g.M.Room.step c.args.zone.now (digits_of g.M.Digested.digest_of (g.M.Room.zone c.args.room.now)) terminals room c.args.arrived.now c.in-Refused.refusal c.in-Refused.head_only c.args.at c.args.head.now o c.in-Refused.is shown elsewhere,
   );
   kept = λ trust kept is. kept;
 }
@@ -68,7 +69,7 @@ returns-in-Ok-clause-reply g c = record {
       let asks = c.in-Ok.ensures.event.says early terminals room stood in
       let still = c.event_of.ensures.event.same early terminals room stood in
       let asked = λ (o : Arrival) (shown : IsShown c.args.arrived.now o). finds c.args.zone.now terminals c.args.arrived.now c.in-Message.message c.in-Message.bytes c.args.at (Ok c.in-Ok.event) o c.in-Message.is shown asks.0 in
-      says c.act_towards.result (c.act_towards.ensures.bytes trust) (c.act_towards.ensures.after trust) (c.act_towards.ensures.another trust) (c.act_towards.ensures.same trust)
+      says c.act_towards.result (c.act_towards.ensures.bytes trust) (rw c.event_of.ensures.zone at (c.act_towards.ensures.after trust)) (rw c.event_of.ensures.zone at (c.act_towards.ensures.another trust)) (c.act_towards.ensures.same trust)
       (λ bytes told after o shown.
       let there = after terminals room still asks.1 in
       let rendered = told terminals room still asks.1 in

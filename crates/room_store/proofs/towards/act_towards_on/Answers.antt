@@ -31,12 +31,12 @@ returns-clause-cache g c clean house room h =
 pub returns-clause-survives : goal.returns-clause-survives
 returns-clause-survives g c =
     acted_survives _ _ _ c.args.plan.now c.args.cache.now c.args.event.now c.as_slice.result.now c.in-Ok.ensures.reads.ok
-    (λ sound house room h. c.as_slice.ensures ∙ c.in-Ok.ensures.changes sound house room h) c.prepare.ensures.reads.survives (reaches_weaker c.as_slice.result.now c.args.digits.now _ _ _ c.write_towards.ensures.survives)
+    (λ sound house room h. c.as_slice.ensures ∙ c.in-Ok.ensures.changes sound house room h) c.prepare.ensures.reads.survives (reaches_weaker c.as_slice.result.now c.args.head.now _ _ _ c.write_towards.ensures.survives)
 
 pub returns-in-Err-write_towards-clause-survives : goal.returns-in-Err-write_towards-clause-survives
 returns-in-Err-write_towards-clause-survives g c =
     acted_survives _ _ _ c.args.plan.now c.args.cache.now c.args.event.now c.as_slice.result.now c.in-Ok.ensures.reads.ok
-    (λ sound house room h. c.as_slice.ensures ∙ c.in-Ok.ensures.changes sound house room h) c.prepare.ensures.reads.survives (reaches_weaker c.as_slice.result.now c.args.digits.now _ _ _ c.write_towards.ensures.survives)
+    (λ sound house room h. c.as_slice.ensures ∙ c.in-Ok.ensures.changes sound house room h) c.prepare.ensures.reads.survives (reaches_weaker c.as_slice.result.now c.args.head.now _ _ _ c.write_towards.ensures.survives)
 
 pub prepare-requires-clause-room : goal.prepare-requires-clause-room
 prepare-requires-clause-room g c = c.requires.room
@@ -78,13 +78,13 @@ returns-clause-ended g c = c.write_towards.ensures.ended
 pub returns-clause-reaches : goal.returns-clause-reaches
 returns-clause-reaches g c clean house room h =
     let early : HasCleanDisk (state g.S.Store c.prepare.new.conn) = omega (arith, c.write_towards.ensures.survives.clean) in
-    reached _ _ c.args.plan.now c.args.cache.now c.args.event.now c.as_slice.result.now c.args.digits.now c.in-Ok.ensures.reads.ok
+    reached _ _ c.args.plan.now c.args.cache.now c.args.event.now c.as_slice.result.now c.args.head.now c.in-Ok.ensures.reads.ok
     (λ sound house room h. c.as_slice.ensures ∙ c.in-Ok.ensures.changes sound house room h) early house room h (c.in_default.ensures.reaches clean)
 
 pub returns-in-Err-write_towards-clause-another : goal.returns-in-Err-write_towards-clause-another
 returns-in-Err-write_towards-clause-another g c clean is house room h =
     let early : HasCleanDisk (state g.S.Store c.prepare.new.conn) = omega (arith, c.write_towards.ensures.survives.clean) in
-    missed _ _ c.args.plan.now c.args.cache.now c.args.event.now c.as_slice.result.now c.args.digits.now c.in-Ok.ensures.reads.ok
+    missed _ _ c.args.plan.now c.args.cache.now c.args.event.now c.as_slice.result.now c.args.head.now c.in-Ok.ensures.reads.ok
     (λ sound house room h. c.as_slice.ensures ∙ c.in-Ok.ensures.changes sound house room h) early house room h
     (c.in-Err-write_towards.ensures.another clean (told_another c.in-Err-write_towards.undone (sym c.miss_of.ensures ∙ is)))
 

@@ -1,6 +1,5 @@
 use Rattle.std.proofs.Common.{arith, rules, ◌≡◌}
 use Rattle.std.specs.Prelude.{IfOk}
-use Rattle.sha2.specs.Sha256.{sha256}
 use Rattle.sqlite.specs.Held.{state}
 use Rattle.sqlite.specs.State.{HasCleanDisk, Survives}
 use Rattle.sqlite.proofs.Callers.{survives_begin}
@@ -9,7 +8,7 @@ use Rattle.room_tables_rows.specs.Stands.{House, Stands}
 use Rattle.room_tables_sql.proofs.ReadLaws.{still}
 use Rattle.room_store_writes.specs.Writing.{Leaves}
 use Rattle.room_store_writes.proofs.CommitLaws.{undone_leaves}
-use Rattle.room_store_digest.specs.Texts.{digest_text}
+use Rattle.room_store_digest.specs.Texts.{digest_of}
 use Rattle.room_store_digest.proofs.Inside.{outside, reads_commit}
 use Rattle.room_store_digest.proofs.digests.digest_in.Goals as goal
 
@@ -19,7 +18,7 @@ returns-clause-digest g c =
     let last = state g.S.Store c.digest_inside-digest.new.tx.conn.now in
     let end = state g.S.Store c.rollback.new.self.0 in
     let begun = c.transaction-tx.ensures.begun in
-    let all : HasCleanDisk end → IfOk c.digest_inside-digest.result (λ digest. (house : House) (room : Room) → Stands old.now.trees house room → digest ≡ sha256 (digest_text house.terminals room)) = λ clean.
+    let all : HasCleanDisk end → IfOk c.digest_inside-digest.result (λ digest. (house : House) (room : Room) → Stands old.now.trees house room → digest ≡ digest_of c.args.version house.zone house.terminals room) = λ clean.
     let early : HasCleanDisk last = omega (arith, c.rollback.ensures.survives.clean) in
     rw begun at c.digest_inside-digest.ensures.digest early in
     search rules

@@ -9,12 +9,12 @@ use Rattle.room_store_digest.proofs.towards.write_towards.Given.{Over}
 use Rattle.room_store_digest.proofs.towards.write_towards.Goals.{After-conn-1}
 use Rattle.room_store_digest.proofs.towards.write_towards.Goals as goal
 
-whole : (g : Over) (c : After-conn-1 g) → IsWhole g.S.Store c.args.conn.now c.conn-1.given.0 c.end.result (Reaches c.args.changes.now c.args.digits.now)
+whole : (g : Over) (c : After-conn-1 g) → IsWhole g.S.Store c.args.conn.now c.conn-1.given.0 c.end.result (Reaches c.args.changes.now c.args.head.now)
 whole g c =
     let done = c.make_towards-done in
     let same : c.end.new.tx.0 ≡ c.conn-1.given.0 = search rules in
-    subst (λ end. IsWhole g.S.Store c.args.conn.now end c.end.result (Reaches c.args.changes.now c.args.digits.now)) same
-    (is_whole g.S.Store c.args.conn.now c.transaction-tx.result.conn.now done.new.tx.conn.now c.end.new.tx.0 done.result c.end.result (Reaches c.args.changes.now c.args.digits.now) c.transaction-tx.ensures.begun
+    subst (λ end. IsWhole g.S.Store c.args.conn.now end c.end.result (Reaches c.args.changes.now c.args.head.now)) same
+    (is_whole g.S.Store c.args.conn.now c.transaction-tx.result.conn.now done.new.tx.conn.now c.end.new.tx.0 done.result c.end.result (Reaches c.args.changes.now c.args.head.now) c.transaction-tx.ensures.begun
     (λ clean _. sym (c.requires.settled clean).committed) done.ensures.commits (λ clean. on_ok_weaker done.result (λ made. (made.0.schema, made.1)) (done.ensures.ok clean))
     c.end.ensures.well c.end.ensures.ok c.end.ensures.err c.end.ensures.survives)
 

@@ -1,0 +1,787 @@
+-- The list that is kept over all starts is replayed from the room that the first of them found.
+use Rattle.std.proofs.Common.{◌≡◌, ◌∙◌, ◌+◌, ◌≤◌, ◌<◌, ◌⊎◌, inl, inr, sym, ap, subst, refl, arith, ℕ, zero, suc, List, [], ◌∷◌, ◌++◌, length, length-append, append-nil, append_assoc, true, Option, Some, None, Ok}
+use Rattle.std.specs.Prelude.{All}
+use Rattle.std.specs.Int.{to_be_bytes, w32}
+use Rattle.std.specs.Io.KnownBytes.{Appends}
+use Rattle.std.specs.List.{flat_map}
+use Rattle.std.proofs.lemmas.List.{append_cancel_left}
+use Rattle.std.proofs.lemmas.List.Elements.{All-append, All-from_recursion, All-head, All-nil, All-tail}
+use Rattle.hex.proofs.HexLemmas.{length-encode_with}
+use Rattle.hex.specs.Hex.{lower_digits}
+use Rattle.jiff.specs.Placed.{IsPosixZone}
+use Rattle.sha2.proofs.Facts256.{length-sha256}
+use Rattle.sha2.specs.Sha256.{digest_bytes, sha256}
+use Rattle.sqlite.specs.Held.{state}
+use Rattle.sqlite.specs.State.{HasCleanDisk}
+use Rattle.sqlite_trees.specs.Tree.{Trees}
+use Rattle.sqlite_trees.specs.declared.store.Store.{Ghosts}
+use Rattle.room_types.specs.declared.asks.Event.{Event}
+use Rattle.room_types.specs.declared.fleet.Terminal.{Terminal}
+use Rattle.room_model.specs.Room.{Room}
+use Rattle.room_service.specs.Digests.{DigitsOf, IsHeadOf, digits_of}
+use Rattle.room_service.specs.Rooms.{machine}
+use Rattle.room_service.specs.declared.digests.Head.{Head}
+use Rattle.room_service.specs.declared.digests.Version.{Version}
+use Rattle.room_service.specs.declared.digests.Version.TheVariants.{Second}
+use Rattle.room_http_time.specs.Days.{zone_of}
+use Rattle.room_http_time.specs.declared.moments.TheConstants.{LAST_MOMENT}
+use Rattle.room_http_time.specs.declared.zones.Zone.{Zone}
+use Rattle.room_http.specs.Arrivals.{message as arrived, refused}
+use Rattle.room_http.specs.Course.{AreFirstIn}
+use Rattle.room_http.specs.Kept.{AreKept as AreRecords, AreReplies, IsCome}
+use Rattle.room_http.specs.Runs.{AreAnswered, Exchange, arrivals_of, events_of, room_by}
+use Rattle.room_http.specs.Served.{Served}
+use Rattle.room_http.specs.Talk.{Finds, IsFront, IsReplyTo, LeavesNext, Timed, replied}
+use Rattle.room_http.specs.declared.serving.ServeEnd.{ServeEnd}
+use Rattle.room_http.specs.declared.serving.ServeEnd.TheVariants as end
+use Rattle.room_http.proofs.ExchangeLemmas.{exchange_of, found_in}
+use Rattle.room_http.proofs.LawLemmas.{one_talk_law}
+use Rattle.room_http.proofs.RunLemmas.{run_first}
+use Rattle.room_http.proofs.TalkLemmas.{IsTalk-one}
+use Rattle.room_store.specs.Keeping.{IsKept, IsRoom, LeavesOneOf}
+use Rattle.room_store.specs.declared.store.Store.{Store}
+use Rattle.room_store_digest.specs.Texts.{digest_of}
+use Rattle.room_tables.specs.Stands.{Stands}
+use Rattle.room_tables_rows.proofs.OneRoom.{one_room}
+use Rattle.dispatch_room_journal.specs.Ends.{Follows}
+use Rattle.dispatch_room_journal.specs.Entries.{Entry, room as head_entry, IsDigest, IsEntry, IsPart, texts_of}
+use Rattle.dispatch_room_journal.specs.Records.{answer_text, message_text, room_text}
+use Rattle.dispatch_room_journal.proofs.DigestLemmas.{digits_of as are_digits}
+use Rattle.dispatch_room_replaying.specs.Laws.{answers_to_messages}
+use Rattle.dispatch_room_replaying.specs.Turns.{left_out}
+use Rattle.dispatch_room_replaying.proofs.KeptTurns.{Come, Ready, Settled, come_course, come_front, come_head, come_moved, come_none, come_record, come_same, come_settled, come_short, come_still, come_unwritten, ends_open-push, left_open, no_answer, settle_record, settle_wanting}
+use Rattle.dispatch_room_replaying.proofs.TurnLemmas.{begun-append}
+use Rattle.dispatch_room_serving.specs.Connections.{AreNext, AreServed, Conversation, GoOnBefore, GoesOn, IsNext, IsServed, Service, Stage, connected, fault_by, stage_after}
+use Rattle.dispatch_room_serving.specs.Lists.{AreGiven, AreParts, HasNoTwin, IsCutTo, IsListOf, IsPartOf, ListIsTheRoom, Part, ServedKeepsItsPart}
+use Rattle.dispatch_room_serving.specs.Rooms.{IsDigestOf, IsHead}
+use Rattle.dispatch_room_serving.specs.Starts.{AreStarts, IsStart, IsTrusted, OfLast, Start, connections, left_by}
+use Rattle.dispatch_room_serving.proofs.ConnectionLaws.{clean_before, kept_after, leaves_kept}
+use Rattle.dispatch_room_serving.proofs.StartLaws.{all_kept, clean_first, house, joined, leaves_first, one_zone, opens, opens_it, served_start}
+
+-- ---- what is known of a tape
+appended : (old new : Option (List ℕ)) (list bytes : List ℕ) → old ≡ Some list
+    → Appends old new bytes → new ≡ Some (list ++ bytes)
+appended None new list bytes is grows = absurd (cc)
+appended (Some xs) None list bytes is grows = absurd grows
+appended (Some xs) (Some ys) list bytes is grows =
+    let same : xs ≡ list = cc in ap (λ t. Some t) (grows ∙ ap (λ t. t ++ bytes) same)
+
+same_known : (tape : Option (List ℕ)) (a b : List ℕ) → tape ≡ Some a → tape ≡ Some b → a ≡ b
+same_known tape a b is also = cc
+
+-- ---- digests in digits
+bytes_small : (h : List ℕ) (n : ℕ) → All (λ byte. byte < 256) (digest_bytes h n)
+unfolding digest_bytes
+bytes_small h zero = All-nil (λ byte. byte < 256)
+bytes_small h (suc n) =
+    All-append (λ byte. byte < 256) (digest_bytes h n) (to_be_bytes w32 _) (bytes_small h n)
+    (All-from_recursion (λ byte. byte < 256) (to_be_bytes w32 _) (omega arith, (omega arith, (omega arith, (omega arith, tt)))))
+
+hash_small : (text : List ℕ) → All (λ byte. byte < 256) (sha256 text)
+unfolding sha256
+hash_small text = bytes_small _ 8
+
+digest_is : (version : Version) (zone : List ℕ) (terminals : List Terminal) (room : Room)
+    → IsDigest (digits_of digest_of zone version terminals room)
+digest_is version zone terminals room =
+    let hash = digest_of version zone terminals room in
+    let long : length hash ≡ 32 = length-sha256 _ in
+    (omega (arith, length-encode_with lower_digits hash, long), are_digits hash (hash_small _))
+
+-- ---- answers that were given
+module _ {S : Type 0} where
+  given_join : (cs ds : List (Conversation S)) (answers others : List (List ℕ)) → AreGiven cs answers
+      → AreGiven ds others → AreGiven (cs ++ ds) (answers ++ others)
+  given_join [] ds answers others none given = subst (λ (a : List (List ℕ)). AreGiven ds (a ++ others)) (sym none) given
+  given_join (c ∷ cs) ds answers others (more, rest, is, few, later) given =
+      let told = answers_to_messages c.course.outs c.course.answers in (
+        more,
+        rest ++ others,
+        ap (λ a. a ++ others) is ∙ append_assoc told (more ++ rest) others ∙ ap (λ a. told ++ a) (append_assoc more rest others),
+        few,
+        given_join cs ds rest others later given,
+      )
+
+  given_next : (cs : List (Conversation S)) (c : Conversation S) (old more : List (List ℕ))
+      → AreGiven cs old → length more ≤ 1
+      → AreGiven (cs ++ c ∷ []) (old ++ (answers_to_messages c.course.outs c.course.answers ++ more))
+  given_next cs c old more given few =
+      let told = answers_to_messages c.course.outs c.course.answers in
+      given_join cs (c ∷ []) old (told ++ more) given (more, [], ap (λ a. told ++ a) (sym (append-nil more)), few, refl)
+
+-- ---- answers in another zone that the same text tells
+module _ (text : List ℕ) (a b : Zone) (in_a : IsPosixZone text (zone_of a))
+    (in_b : IsPosixZone text (zone_of b)) (terminals : List Terminal) where
+  reply_in : (room : Room) (x : Timed) (after : Room) (bytes : List ℕ)
+      → IsReplyTo machine a terminals room x after bytes
+      → IsReplyTo machine b terminals room x after bytes
+  reply_in room x after bytes reply = (reply.0, found_in text a b in_a in_b terminals x reply.0 reply.1, reply.2, reply.3)
+
+  replies_in : (room : Room) (outs : List Timed) (answers : List (List ℕ)) (after : Room)
+      → AreReplies machine a terminals room outs answers after
+      → AreReplies machine b terminals room outs answers after
+  replies_in room [] [] after replies = replies
+  replies_in room [] (told ∷ answers) after replies = absurd replies
+  replies_in room (x ∷ outs) [] after replies = absurd replies
+  replies_in room (x ∷ outs) (told ∷ answers) after replies =
+      (replies.0, reply_in room x replies.0 told replies.1, replies_in replies.0 outs answers after replies.2)
+
+-- ---- what was exchanged is what was answered
+module _ (zone : Zone) (terminals : List Terminal) where
+  abbrev Replies : Room → Timed → Room → List ℕ → Type 0
+  Replies = IsReplyTo machine zone terminals
+
+  one_reply : (room : Room) (x : Timed) (after other : Room) (bytes others : List ℕ)
+      → Replies room x after bytes → Replies room x other others → after ≡ other
+  one_reply room x after other bytes others is also =
+      let talk = IsTalk-one machine zone terminals room in
+      (one_talk_law machine zone terminals room (x ∷ []) after other bytes others (talk after x bytes is) (talk other x others also)).0
+
+  exchanged : (x : Exchange) (xs : List Exchange) (room : Room) (y : Timed)
+      → AreAnswered zone terminals (x ∷ xs) room → x.arrival ≡ y
+      → Replies room y (replied machine x.found room).0 x.bytes
+  exchanged x xs room y answered is =
+      subst (λ (t : Timed). Replies room t (replied machine x.found room).0 x.bytes) is (x.found, answered.0, refl, answered.1)
+
+  -- the room after the first of them is the one after its answer
+  module _ (o : Timed) (outs : List Timed) (told : List ℕ) (answers : List (List ℕ)) (x : Exchange)
+      (xs : List Exchange) (room after : Room)
+      (replies : AreReplies machine zone terminals room (o ∷ outs) (told ∷ answers) after)
+      (answered : AreAnswered zone terminals (x ∷ xs) room) (is : x.arrival ≡ o) where
+    next_replies : AreReplies machine zone terminals (replied machine x.found room).0 outs answers after
+    next_replies = subst (λ (r : Room). AreReplies machine zone terminals r outs answers after)
+        (one_reply room o replies.0 (replied machine x.found room).0 told x.bytes replies.1 (exchanged x xs room o answered is)) replies.2
+
+  same_room : (outs : List Timed) (answers : List (List ℕ)) (xs : List Exchange) (room after : Room)
+      → AreReplies machine zone terminals room outs answers after
+      → AreAnswered zone terminals xs room → arrivals_of xs ≡ outs → room_by xs room ≡ after
+  same_room [] [] [] room after replies answered is = sym replies
+  same_room [] [] (x ∷ xs) room after replies answered is = absurd (cc)
+  same_room [] (told ∷ answers) xs room after replies answered is = absurd replies
+  same_room (o ∷ outs) [] xs room after replies answered is = absurd replies
+  same_room (o ∷ outs) (told ∷ answers) [] room after replies answered is = absurd (cc)
+  same_room (o ∷ outs) (told ∷ answers) (x ∷ xs) room after replies answered is =
+      let first : x.arrival ≡ o = cc in
+      let rest : arrivals_of xs ≡ outs = cc in
+      run_first x.found (events_of xs) room
+      ∙ same_room outs answers xs (replied machine x.found room).0 after (next_replies o outs told answers x xs room after replies answered first) answered.2 rest
+
+  last_reply : (outs : List Timed) (answers : List (List ℕ)) (xs : List Exchange) (y : Timed)
+      (room after : Room) → AreReplies machine zone terminals room outs answers after
+      → AreAnswered zone terminals xs room → arrivals_of xs ≡ outs ++ y ∷ []
+      → (bytes : List ℕ) × Replies after y (room_by xs room) bytes
+  last_reply [] [] [] y room after replies answered is = absurd (cc)
+  last_reply [] [] (x ∷ []) y room after replies answered is =
+      let reply = exchanged x [] room y answered (cc) in (
+        x.bytes,
+        subst (λ (r : Room). Replies r y (room_by (x ∷ []) room) x.bytes) (sym replies)
+            (subst (λ (r : Room). Replies room y r x.bytes) (sym (run_first x.found [] room)) reply),
+      )
+  last_reply [] [] (x ∷ z ∷ xs) y room after replies answered is = absurd (cc)
+  last_reply [] (told ∷ answers) xs y room after replies answered is = absurd replies
+  last_reply (o ∷ outs) [] xs y room after replies answered is = absurd replies
+  last_reply (o ∷ outs) (told ∷ answers) [] y room after replies answered is = absurd (cc)
+  last_reply (o ∷ outs) (told ∷ answers) (x ∷ xs) y room after replies answered is =
+      let first : x.arrival ≡ o = cc in
+      let rest : arrivals_of xs ≡ outs ++ y ∷ [] = cc in
+      let found = last_reply outs answers xs y (replied machine x.found room).0 after (next_replies o outs told answers x xs room after replies answered first) answered.2 rest in
+      (found.0, subst (λ (r : Room). Replies after y r found.0) (sym (run_first x.found (events_of xs) room)) found.1)
+
+  -- the answers to these arrivals and to one more
+  replies_split : (outs : List Timed) (answers : List (List ℕ)) (text : List ℕ) (x : Timed)
+      (told : List ℕ) (room after : Room) → AreRecords message_text answer_text outs answers text
+      → AreReplies machine zone terminals room (outs ++ x ∷ []) (answers ++ told ∷ []) after
+      → (mid : Room) × AreReplies machine zone terminals room outs answers mid
+      × Replies mid x after told
+  replies_split [] [] text x told room after kept replies =
+      (room, refl, subst (λ (r : Room). Replies room x r told) (sym replies.2) replies.1)
+  replies_split [] (first ∷ answers) text x told room after kept replies = absurd kept
+  replies_split (o ∷ outs) [] text x told room after kept replies = absurd kept
+  replies_split (o ∷ outs) (first ∷ answers) text x told room after kept replies =
+      let rest = replies_split outs answers kept.1 x told replies.0 after kept.4 replies.2 in
+      (rest.0, (replies.0, replies.1, rest.1), rest.2)
+
+  -- an arrival that is kept as it came, and asks for an event, came in time
+  in_time : (x : Timed) (coming : List ℕ) (event : Event) → IsCome message_text answer_text x coming
+      → Finds zone terminals x (Ok event) → x.1 ≤ LAST_MOMENT
+  in_time (arrived m, at) coming event came finds = came.2
+  in_time (refused why head_only, at) coming event came finds = absurd (cc)
+
+  -- the room after it, and its answer
+  event_reply : (x : Timed) (coming : List ℕ) (event : Event) (room : Room)
+      → IsCome message_text answer_text x coming → Finds zone terminals x (Ok event)
+      → (bytes : List ℕ) × Replies room x (machine event room).0 bytes
+  event_reply x coming event room came finds =
+      let done = exchange_of zone terminals x event room (in_time x coming event came finds) finds in
+      (done.0.bytes, subst (λ (r : Room). Replies room x r done.0.bytes) (ap (λ found. (replied machine found room).0) done.2) (exchanged done.0 [] room x done.3 done.1))
+
+-- ---- one arrival more than these
+longer : (few many : List Timed) (x : Timed) → few ++ x ∷ [] ≡ many → length many ≤ length few → ⊥
+longer few many x is short = omega (arith, short, ap length is, length-append few (x ∷ []))
+
+same_last : (outs few : List Timed) (x y : Timed) → few ≡ outs → few ++ x ∷ [] ≡ outs ++ y ∷ [] → x ≡ y
+same_last outs few x y is same =
+    let last : x ∷ [] ≡ y ∷ [] = append_cancel_left outs (x ∷ []) (y ∷ []) (sym (ap (λ t. t ++ x ∷ []) is) ∙ same) in cc
+
+-- ---- what a stop leaves
+module _ {S : Type 0} (g : Ghosts S) where
+  -- a store that is kept stands for one room
+  one_of : (store : Store S) (terminals : List Terminal) (room other : Room)
+      → IsRoom g store terminals room → IsRoom g store terminals other → IsKept g store → room ≡ other
+  one_of store terminals room other is also kept =
+      one_room (state g store.conn).now.trees (house store terminals) (house store terminals) room other (is.tables kept.is_open) (also.tables kept.is_open)
+
+  -- the room after what was answered, or the one after the last arrival
+  module _ (zone : Zone) (terminals : List Terminal) (c : Conversation S) (now after : Room)
+      (s : Served zone (AreFirstIn c.course c.before.left c.before.given c.after.given)
+      c.before.held c.after.held (IsKept g c.from) (IsRoom g c.store) (LeavesOneOf g c.store) terminals now)
+      (kept : IsKept g c.from)
+      (replies : AreReplies machine zone terminals now c.course.outs c.course.answers after)
+      (x : Timed) (last : c.course.last ≡ Some x) (coming : List ℕ)
+      (came : IsCome message_text answer_text x coming) (db : Trees)
+      (left : (state g c.store.conn).may_leave db) where
+    abbrev StandsFor : Room → Type 0
+    StandsFor room = Stands db (house c.store terminals) room
+
+    abbrev OneOf : Type 0
+    OneOf = StandsFor after
+        ⊎ ((next : Room) × (bytes : List ℕ) × IsReplyTo machine zone terminals after x next bytes × StandsFor next)
+
+    abbrev Leaves : Type 0
+    Leaves = LeavesOneOf g c.store terminals (room_by s.exchanges now ∷ [])
+        ⊎ ((y : Timed) × AreFirstIn c.course c.before.left c.before.given c.after.given (arrivals_of s.exchanges ++ y ∷ [])
+        × LeavesNext machine zone (LeavesOneOf g c.store) y terminals (room_by s.exchanges now))
+
+    -- all but the last arrival were exchanged
+    but_last : arrivals_of s.exchanges ≡ c.course.outs → Leaves → OneOf
+    but_last all (inl alone) = elim (alone db left) [
+      | inl stands ↦ inl (subst StandsFor (same_room zone terminals c.course.outs c.course.answers s.exchanges now after replies s.run.answered all) stands)
+      | inr none ↦ absurd none
+    ]
+    but_last all (inr (y, first, (event, finds, leaves))) =
+        let room_is = same_room zone terminals c.course.outs c.course.answers s.exchanges now after replies s.run.answered all in
+        elim first.0 [
+          | inl same ↦ absurd (longer (arrivals_of s.exchanges) c.course.outs y same (omega (arith, ap length all)))
+          | inr (z, last_z, same) ↦
+              let z_is : z ≡ x = cc (last, last_z) in
+              let y_is : y ≡ x = same_last c.course.outs (arrivals_of s.exchanges) y z all same ∙ z_is in
+              let found = subst (λ (t : Timed). Finds zone terminals t (Ok event)) y_is finds in
+              elim (leaves db left) [
+                | inl stands ↦ inl (subst StandsFor room_is stands)
+                | inr more ↦ elim more [
+                  | inl stands ↦
+                      let reply = event_reply zone terminals x coming event after came found in
+                      inr ((machine event after).0, reply.0, reply.1, subst (λ (r : Room). StandsFor (machine event r).0) room_is stands)
+                  | inr none ↦ absurd none
+                ]
+              ]
+        ]
+
+    -- the last arrival was exchanged too
+    with_last : (y : Timed) → c.course.last ≡ Some y
+        → arrivals_of s.exchanges ≡ c.course.outs ++ y ∷ [] → Leaves → OneOf
+    with_last y last_y all (inl alone) =
+        let reply = last_reply zone terminals c.course.outs c.course.answers s.exchanges y now after replies s.run.answered all in
+        let y_is : y ≡ x = cc (last, last_y) in
+        elim (alone db left) [
+          | inl stands ↦ inr (room_by s.exchanges now, reply.0, subst (λ (t : Timed). IsReplyTo machine zone terminals after t (room_by s.exchanges now) reply.0) y_is reply.1, stands)
+          | inr none ↦ absurd none
+        ]
+    with_last y last_y all (inr (z, first, leaves)) =
+        let long = ap length all ∙ length-append c.course.outs (y ∷ []) in
+        elim first.0 [
+          | inl same ↦ absurd (longer (arrivals_of s.exchanges) c.course.outs z same (omega (arith, long)))
+          | inr (u, last_u, same) ↦ absurd (longer (arrivals_of s.exchanges) (c.course.outs ++ u ∷ []) z same (omega (arith, long, length-append c.course.outs (u ∷ []))))
+        ]
+
+    leaves_one : OneOf
+    leaves_one = elim s.arrivals.0 [
+      | inl all ↦ but_last all (s.kept kept)
+      | inr (y, last_y, all) ↦ with_last y last_y all (s.kept kept)
+    ]
+
+-- ---- the connections of a start
+-- it may leave the store standing for rooms to which the list has come, and stands for one
+record Ends {S : Type 0} (g : Ghosts S) (terminals : List Terminal) (Comes : Room → Type 0)
+    (store : Store S) : Type 0 where
+  now : Room
+  come : Comes now
+  is : IsRoom g store terminals now
+  leaves : (db : Trees) → (state g store.conn).may_leave db
+      → (room : Room) × Comes room × Stands db (house store terminals) room
+
+module _ {S : Type 0} (g : Ghosts S) (zone : Zone) (text : List ℕ)
+    (in_zone : IsPosixZone text (zone_of zone)) (terminals : List Terminal) (held : Room) where
+  abbrev digits : DigitsOf
+  digits = digits_of digest_of text
+
+  abbrev Comes : List (Conversation S) → List ℕ → Room → Type 0
+  Comes cs = Come machine zone digits terminals (AreGiven cs) held
+
+  abbrev Settles : List (Conversation S) → List ℕ → Room → Type 0
+  Settles cs = Settled machine zone digits terminals (AreGiven cs) held
+
+  abbrev EndsAt : List (Conversation S) → List ℕ → Store S → Type 0
+  EndsAt cs list store = Ends g terminals (Comes cs list) store
+
+  -- a stop leaves it alone
+  still_ends : (cs : List (Conversation S)) (list : List ℕ) (store : Store S) (now : Room)
+      → Comes cs list now → IsRoom g store terminals now → LeavesOneOf g store terminals (now ∷ [])
+      → EndsAt cs list store
+  still_ends cs list store now come is leaves = record {
+    now = now;
+    come = come;
+    is = is;
+    leaves = λ db left. elim (leaves db left) [
+      | inl stands ↦ (now, come, stands)
+      | inr none ↦ absurd none
+    ];
+  }
+
+  -- where nobody was heard after a look at the store
+  no_calls : (cs : List (Conversation S)) (stage last : Stage S) (list : List ℕ) (now : Room)
+      → last ≡ stage → Comes cs list now → IsRoom g stage.store terminals now
+      → LeavesOneOf g stage.store terminals (now ∷ []) → EndsAt (cs ++ []) list last.store
+  no_calls cs stage last list now same come is leaves =
+      subst (λ (ds : List (Conversation S)). EndsAt ds list last.store) (sym (append-nil cs))
+      (subst (λ (t : Stage S). EndsAt cs list t.store) (sym same) (still_ends cs list stage.store now come is leaves))
+
+  -- in the zone in which they were served
+  module _ (served_in : Zone) (in_served : IsPosixZone text (zone_of served_in)) where
+    ready : (cs : List (Conversation S)) (c : Conversation S) (list more : List ℕ) (now after : Room)
+        → Settles cs list now
+        → AreReplies machine served_in terminals now c.course.outs c.course.answers after
+        → AreRecords message_text answer_text c.course.outs c.course.answers more
+        → Ready machine zone digits terminals (AreGiven (cs ++ c ∷ [])) held (list ++ more) after
+    ready cs c list more now after s replies kept =
+        come_course machine zone digits terminals (AreGiven cs) (AreGiven (cs ++ c ∷ [])) held list more now after c.course.outs c.course.answers
+        (λ old answers given few. given_next cs c old answers given few) s
+        (replies_in text served_in zone in_served in_zone terminals now c.course.outs c.course.answers after replies) kept
+
+    module _ (cs : List (Conversation S)) (c : Conversation S) (stage : Stage S) (list : List ℕ)
+        (now : Room) (next : IsNext g served_in message_text answer_text stage c)
+        (clean : HasCleanDisk (state g c.store.conn)) (s : Settles cs list now)
+        (is : IsRoom g stage.store terminals now) (known : stage.kept ≡ Some list) where
+      abbrev All_of : List (Conversation S)
+      All_of = cs ++ c ∷ []
+
+      from_is : IsRoom g c.from terminals now
+      from_is = subst (λ (t : Stage S). IsRoom g t.store terminals now) (sym next.begins) is
+
+      kept_is : c.kept ≡ Some list
+      kept_is = ap (λ (t : Stage S). t.kept) next.begins ∙ known
+
+      abbrev base : List ℕ
+      base = list ++ next.witnessed.text
+
+      abbrev IsReady : Room → Type 0
+      IsReady = Ready machine zone digits terminals (AreGiven All_of) held base
+
+      keeps_more : (tail : List ℕ) → Appends c.kept c.keeps (next.witnessed.text ++ tail)
+          → c.keeps ≡ Some (base ++ tail)
+      keeps_more tail grows =
+          appended c.kept c.keeps list (next.witnessed.text ++ tail) kept_is grows ∙ ap (λ t. Some t) (sym (append_assoc list next.witnessed.text tail))
+
+      made : (after : Room) → AreReplies machine served_in terminals now c.course.outs c.course.answers after
+          → IsReady after
+      made after replies = ready cs c list next.witnessed.text now after s replies next.witnessed.kept
+
+      -- the last arrival was acted on too
+      acted : (x : Timed) (answer : List ℕ) (after : Room)
+          → AreReplies machine served_in terminals now (c.course.outs ++ x ∷ []) (c.course.answers ++ answer ∷ []) after
+          → (mid : Room) × IsReady mid × IsReplyTo machine zone terminals mid x after answer
+      acted x answer after replies =
+          let split = replies_split served_in terminals c.course.outs c.course.answers next.witnessed.text x answer now after next.witnessed.kept replies in
+          (split.0, made split.0 split.1, reply_in text served_in zone in_served in_zone terminals split.0 x after answer split.2)
+
+      -- ---- more is served after it
+      record Middle : Type 0 where
+        list_after : List ℕ
+        after : Room
+        settled : Settles All_of list_after after
+        keeps : c.keeps ≡ Some list_after
+        stands : IsRoom g c.store terminals after
+
+      no_more : GoesOn c → c.end ≡ end.Unkept → ⊥
+      no_more goes unkept =
+          let fault : fault_by end.Unkept c.store.is_sound ≡ None = subst (λ (e : ServeEnd). fault_by e c.store.is_sound ≡ None) unkept goes in cc
+
+      middle : GoesOn c → Middle
+      middle goes = elim next.witnessed.ends [
+        | inl (none, lasts, moved, begins, (late, is_late, grow)) ↦
+            let m = moved clean terminals now from_is in
+            record {
+              list_after = base;
+              after = m.0;
+              settled = (made m.0 m.1).settled;
+              keeps = appended c.kept c.keeps list next.witnessed.text kept_is grow.kept;
+              stands = m.2;
+            }
+        | inr (x, last, tail, wrote, begins, begun, grow) ↦ elim begun [
+          | inl (unmoved, few) ↦ elim few [
+            | inl (lasts, short, unkept) ↦ absurd (no_more goes unkept)
+            | inr want ↦
+                let m = unmoved clean terminals now from_is in
+                record {
+                  list_after = base ++ tail;
+                  after = m.0;
+                  settled = settle_wanting machine zone digits terminals (AreGiven All_of) held base m.0 (made m.0 m.1) x tail wrote want;
+                  keeps = keeps_more tail grow.kept;
+                  stands = m.2;
+                }
+          ]
+          | inr (answer, moved, lasts, few) ↦ elim few [
+            | inl (unwritten, unkept) ↦ absurd (no_more goes unkept)
+            | inr (whole, front) ↦
+                let m = moved clean terminals now from_is in
+                let done = acted x answer m.0 m.1 in
+                record {
+                  list_after = base ++ tail;
+                  after = m.0;
+                  settled = settle_record machine zone digits terminals (AreGiven All_of) held base done.0 done.1 x answer tail m.0 whole done.2;
+                  keeps = keeps_more tail grow.kept;
+                  stands = m.2;
+                }
+          ]
+        ]
+      ]
+
+      -- ---- it is the last one
+      module _ (xs : List Exchange) (served : IsServed g served_in terminals c xs now)
+          (kept : IsKept g c.from) (after : List ℕ) (after_is : c.keeps ≡ Some after)
+          (entries : List Entry) (rest : List ℕ) (follows : Follows after entries rest)
+          (end_is : (rest ≡ []) ⊎ IsPart rest) where
+        abbrev Came : Room → Type 0
+        Came = Comes All_of (texts_of entries)
+
+        -- what follows, where the list has grown by so much
+        grown : (list_after : List ℕ) → c.keeps ≡ Some list_after → Follows list_after entries rest
+        grown list_after keeps = (follows.0, same_known c.keeps list_after after keeps after_is ∙ follows.1)
+
+        alone : (room : Room) → Came room → IsRoom g c.store terminals room → IsKept g c.store
+            → EndsAt All_of (texts_of entries) c.store
+        alone room come stands lasts = still_ends All_of (texts_of entries) c.store room come stands (leaves_kept g c.store terminals room stands lasts)
+
+        last_one : EndsAt All_of (texts_of entries) c.store
+        last_one = elim next.witnessed.ends [
+          | inl (none, lasts, moved, begins, (late, is_late, grow)) ↦
+              let m = moved clean terminals now from_is in
+              let it = grown base (appended c.kept c.keeps list next.witnessed.text kept_is grow.kept) in
+              alone m.0 (come_none machine zone digits terminals (AreGiven All_of) held base m.0 (made m.0 m.1) entries rest end_is it) m.2 (lasts clean kept)
+          | inr (x, last, tail, wrote, begins, begun, grow) ↦
+              let it = grown (base ++ tail) (keeps_more tail grow.kept) in
+              elim begun [
+                | inl (unmoved, few) ↦
+                    let m = unmoved clean terminals now from_is in
+                    let r = made m.0 m.1 in
+                    elim few [
+                      | inl (lasts, short, unkept) ↦
+                          let come = come_short machine zone digits terminals (AreGiven All_of) held base m.0 r entries rest end_is x tail wrote short it in
+                          alone m.0 come m.2 (lasts clean kept)
+                      | inr want ↦
+                          let come = come_still machine zone digits terminals (AreGiven All_of) held base m.0 r entries rest end_is x tail wrote want it in
+                          record {
+                            now = m.0;
+                            come = come;
+                            is = m.2;
+                            leaves = λ db left. elim (leaves_one g served_in terminals c now m.0 served.served kept m.1 x last tail want.0 db left) [
+                              | inl stands ↦ (m.0, come, stands)
+                              | inr (room, bytes, reply, stands) ↦
+                                  let here = reply_in text served_in zone in_served in_zone terminals m.0 x room bytes reply in
+                                  (room, come_moved machine zone digits terminals (AreGiven All_of) held base m.0 r entries rest end_is x tail wrote bytes room want it here, stands)
+                            ];
+                          }
+                    ]
+                | inr (answer, moved, lasts, few) ↦
+                    let m = moved clean terminals now from_is in
+                    let done = acted x answer m.0 m.1 in
+                    elim few [
+                      | inl (unwritten, unkept) ↦
+                          let come = come_unwritten machine zone digits terminals (AreGiven All_of) held base done.0 done.1 entries rest end_is x answer tail wrote m.0 unwritten it done.2 in
+                          alone m.0 come m.2 (lasts clean kept)
+                      | inr (whole, front) ↦
+                          let come = come_record machine zone digits terminals (AreGiven All_of) held base done.0 done.1 entries rest end_is x answer tail m.0 whole it done.2 in
+                          alone m.0 come m.2 (lasts clean kept)
+                    ]
+              ]
+        ]
+
+    -- ---- one after another
+    all_calls : (cs : List (Conversation S)) (c : Conversation S) (more : List (Conversation S))
+        (stage last : Stage S) (list after : List ℕ) (now : Room) (talks : List (List Exchange))
+        → AreNext g served_in message_text answer_text (c ∷ more) stage last
+        → AreServed g served_in terminals (c ∷ more) talks now → All (λ d. IsKept g d.from) (c ∷ more)
+        → GoOnBefore (c ∷ more) → HasCleanDisk (state g last.store.conn) → Settles cs list now
+        → IsRoom g stage.store terminals now → stage.kept ≡ Some list → last.kept ≡ Some after
+        → (entries : List Entry) (rest : List ℕ) → Follows after entries rest
+        → (rest ≡ []) ⊎ IsPart rest → EndsAt (cs ++ c ∷ more) (texts_of entries) last.store
+    all_calls cs c more stage last list after now [] next served kept go clean s is known after_is entries rest follows end_is = absurd served
+    all_calls cs c [] stage last list after now (xs ∷ talks) next served kept go clean s is known after_is entries rest follows end_is =
+        subst (λ (t : Stage S). EndsAt (cs ++ c ∷ []) (texts_of entries) t.store) (sym next.1)
+        (last_one cs c stage list now next.0 (subst (λ (t : Stage S). HasCleanDisk (state g t.store.conn)) next.1 clean) s is known
+        xs served.0 (All-head (λ d. IsKept g d.from) c [] kept) after (sym (ap (λ (t : Stage S). t.kept) next.1) ∙ after_is) entries rest follows end_is)
+    all_calls cs c (d ∷ more) stage last list after now (xs ∷ talks) next served kept go clean s is known after_is entries rest follows end_is =
+        let clean_here = clean_before g served_in message_text answer_text (d ∷ more) (stage_after c) last next.1 clean in
+        let m = middle cs c stage list now next.0 clean_here s is known go.0 in
+        let stands = subst (λ (es : List Exchange). IsRoom g c.store terminals (room_by es now)) served.0.exchanged served.0.served.after in
+        let same : room_by xs now ≡ m.after = one_of g c.store terminals (room_by xs now) m.after stands m.stands (kept_after g served_in message_text answer_text stage c next.0 go.0 clean_here) in
+        let then = all_calls (cs ++ c ∷ []) d more (stage_after c) last m.list_after after m.after talks next.1 (subst (λ (r : Room). AreServed g served_in terminals (d ∷ more) talks r) same served.1)
+        (All-tail (λ e. IsKept g e.from) c (d ∷ more) kept) go.1 clean m.settled m.stands m.keeps after_is entries rest follows end_is in
+        subst (λ (ds : List (Conversation S)). EndsAt ds (texts_of entries) last.store) (append_assoc cs (c ∷ []) (d ∷ more)) then
+
+    -- from the head of a start on
+    calls_end : (cs ds : List (Conversation S)) (stage last : Stage S) (list after : List ℕ) (now : Room)
+        (talks : List (List Exchange)) → AreNext g served_in message_text answer_text ds stage last
+        → AreServed g served_in terminals ds talks now → All (λ d. IsKept g d.from) ds → GoOnBefore ds
+        → HasCleanDisk (state g last.store.conn) → Settles cs list now
+        → IsRoom g stage.store terminals now → LeavesOneOf g stage.store terminals (now ∷ [])
+        → stage.kept ≡ Some list → last.kept ≡ Some after
+        → (entries : List Entry) (rest : List ℕ) → Follows after entries rest
+        → (rest ≡ []) ⊎ IsPart rest → EndsAt (cs ++ ds) (texts_of entries) last.store
+    calls_end cs [] stage last list after now talks next served kept go clean s is leaves known after_is entries rest follows end_is =
+        let same : list ≡ after = same_known stage.kept list after known (sym (ap (λ (t : Stage S). t.kept) next) ∙ after_is) in
+        no_calls cs stage last (texts_of entries) now next (come_settled machine zone digits terminals (AreGiven cs) held entries rest end_is list now s (follows.0, same ∙ follows.1)) is leaves
+    calls_end cs (c ∷ more) stage last list after now talks next served kept go clean s is leaves known after_is entries rest follows end_is =
+        all_calls cs c more stage last list after now talks next served kept go clean s is known after_is entries rest follows end_is
+
+-- ---- the first of some starts, and the last
+module _ {S : Type 0} (g : Ghosts S) where
+  first_of : (s : Start S) (starts : List (Start S))
+      → AreStarts g message_text answer_text (s ∷ starts) → IsStart g message_text answer_text s
+  first_of s [] start = start
+  first_of s (next ∷ starts) (start, finds, later) = start
+
+  -- what holds of the last holds of it as something else
+  of_last : (Holds Says : Start S → Type 0) → ((s : Start S) → Holds s → Says s)
+      → (starts : List (Start S)) → OfLast Holds starts → OfLast Says starts
+  of_last Holds Says says [] is = tt
+  of_last Holds Says says (s ∷ []) is = says s is
+  of_last Holds Says says (s ∷ next ∷ starts) is = of_last Holds Says says (next ∷ starts) is
+
+-- ---- a start
+module _ {S : Type 0} (g : Ghosts S) (zone : Zone) (text : List ℕ)
+    (in_zone : IsPosixZone text (zone_of zone)) (terminals : List Terminal) (held : Room) where
+  abbrev CameTo : List (Conversation S) → List ℕ → Room → Type 0
+  CameTo cs = Comes g zone text in_zone terminals held cs
+
+  abbrev Stops : List (Conversation S) → List ℕ → Store S → Type 0
+  Stops cs list store = EndsAt g zone text in_zone terminals held cs list store
+
+  module _ (cs : List (Conversation S)) (s : Start S) (part : Part) (from : List ℕ) (now : Room)
+      (start : IsStart g message_text answer_text s) (clean : HasCleanDisk (state g (left_by s).conn))
+      (zone_is : s.opened.plan.zone ≡ text) (is : IsRoom g s.opened terminals now)
+      (twins : HasNoTwin g terminals s) (come : CameTo cs from now) (before : part.before ≡ from)
+      (p : IsPartOf g s part) where
+    in_served : IsPosixZone text (zone_of s.zone)
+    in_served = subst (λ (t : List ℕ). IsPosixZone t (zone_of s.zone)) zone_is start.in_zone
+
+    first_is : (front : List ℕ) → p.front ≡ front → s.first.stage.kept ≡ Some (from ++ front)
+    first_is front same = p.first ∙ (λ i. Some (before i ++ same i))
+
+    first_room : IsRoom g s.first.stage.store terminals now
+    first_room = start.looks.same (clean_first g message_text answer_text s start clean) terminals now is
+
+    leaves_it : LeavesOneOf g s.first.stage.store terminals (now ∷ [])
+    leaves_it = leaves_first g message_text answer_text s start clean terminals now is
+
+    -- nobody was heard
+    module _ (none : s.calls ≡ []) where
+      no_one : connections s ≡ []
+      no_one = ap connected none
+
+      unmoved : s.last.stage ≡ s.first.stage
+      unmoved = subst (λ (ds : List (Conversation S)). AreNext g s.zone message_text answer_text ds s.first.stage s.last.stage) no_one start.attended.in_turn
+
+      all_kept_is : from ++ p.front ≡ part.after
+      all_kept_is = same_known s.first.stage.kept (from ++ p.front) part.after (first_is p.front refl) (sym (ap (λ (t : Stage S). t.kept) unmoved) ∙ p.last)
+
+      unheard : (list : List ℕ) → CameTo cs list now → Stops (cs ++ connections s) list (left_by s)
+      unheard list came =
+          subst (λ (ds : List (Conversation S)). Stops (cs ++ ds) list (left_by s)) (sym no_one)
+          (no_calls g zone text in_zone terminals held cs s.first.stage s.last.stage list now unmoved came first_room leaves_it)
+
+    module _ (entries : List Entry) (rest : List ℕ) (follows : Follows part.after entries rest)
+        (end_is : (rest ≡ []) ⊎ IsPart rest) where
+      -- nothing is kept of its head
+      headless : s.calls ≡ [] → p.front ≡ []
+          → Stops (cs ++ connections s) (texts_of entries) (left_by s)
+      headless none nothing =
+          let same : from ≡ part.after = sym (append-nil from) ∙ ap (λ t. from ++ t) (sym nothing) ∙ all_kept_is none in
+          unheard none (texts_of entries) (come_same machine zone (digits_of digest_of text) terminals (AreGiven cs) held from now entries rest end_is (follows.0, same ∙ follows.1) come)
+
+      module _ (told : List ℕ) (first_head : IsHead g true room_text s.opened s.first.stage.store told) where
+        abbrev h : Head
+        h = first_head.head
+
+        tells : IsDigestOf g s.opened s.first.stage.store h
+        tells = first_head.known refl
+
+        head_is : IsHeadOf (digits_of digest_of text) h terminals now
+        head_is = subst (λ (t : List ℕ). IsHeadOf (digits_of digest_of t) h terminals now) zone_is
+            (tells.1 (clean_first g message_text answer_text s start clean) terminals now is)
+
+        entry : IsEntry (head_entry h)
+        entry = subst IsDigest head_is (digest_is h.version text terminals now)
+
+        twin : (after : Room) (x : Timed) (bytes : List ℕ)
+            → IsReplyTo machine zone terminals after x now bytes
+            → IsHeadOf (digits_of digest_of text) h terminals after → after ≡ now
+        twin after x bytes reply same =
+            let alike = subst (λ (v : Version). digits_of digest_of text v terminals after ≡ digits_of digest_of text v terminals now) tells.0 (same ∙ sym head_is) in
+            twins x after now bytes is (reply_in text zone s.zone in_zone in_served terminals after x now bytes reply)
+            (subst (λ (t : List ℕ). digits_of digest_of t Second terminals after ≡ digits_of digest_of t Second terminals now) (sym zone_is) alike)
+
+        -- its head is kept
+        headed : p.front ≡ told → Stops (cs ++ connections s) (texts_of entries) (left_by s)
+        headed whole =
+            let all = joined g message_text answer_text s start clean terminals now is in
+            let s0 = come_head machine zone (digits_of digest_of text) terminals (AreGiven cs) held h entry from now head_is twin come in
+            calls_end g zone text in_zone terminals held s.zone in_served cs (connections s) s.first.stage s.last.stage (from ++ room_text h) part.after now all.talks
+            start.attended.in_turn all.served (all_kept g message_text answer_text s start clean terminals now is) start.go_on clean s0 first_room leaves_it
+            (first_is (room_text h) (whole ∙ first_head.told)) p.last entries rest follows end_is
+
+        -- its head is cut short
+        cut_short : s.calls ≡ [] → IsFront p.front told
+            → Stops (cs ++ connections s) (texts_of entries) (left_by s)
+        cut_short none front =
+            let first = subst (IsFront p.front) first_head.told front in
+            let it : Follows (from ++ p.front) entries rest = (follows.0, all_kept_is none ∙ follows.1) in
+            unheard none (texts_of entries) (come_front machine zone (digits_of digest_of text) terminals (AreGiven cs) held h entry from p.front now entries rest end_is head_is twin first it come)
+
+    start_ends : (whole : List ℕ) → IsCutTo part.after whole
+        → Stops (cs ++ connections s) whole (left_by s)
+    start_ends whole (entries, rest, follows, whole_is, end_is) =
+        subst (λ (t : List ℕ). Stops (cs ++ connections s) t (left_by s)) (sym whole_is) (elim p.begun [
+          | inl (told, first_head, kept) ↦ elim kept [
+            | inl all ↦ headed entries rest follows end_is told first_head all
+            | inr (none, front) ↦ cut_short entries rest follows end_is told first_head none front
+          ]
+          | inr (none, nothing) ↦ headless entries rest follows end_is none nothing
+        ])
+
+  -- ---- all starts
+  record Over (cs : List (Conversation S)) (starts : List (Start S)) (list : List ℕ) : Type 0 where
+    now : Room
+    come : CameTo (cs ++ flat_map connections starts) list now
+    is : OfLast (λ s. IsRoom g (left_by s) terminals now) starts
+
+  all_starts : (cs : List (Conversation S)) (s : Start S) (starts : List (Start S))
+      (parts : List Part) (from list : List ℕ) (now : Room)
+      → AreStarts g message_text answer_text (s ∷ starts) → All (IsTrusted g) (s ∷ starts)
+      → s.opened.plan.zone ≡ text → IsRoom g s.opened terminals now
+      → All (HasNoTwin g terminals) (s ∷ starts) → CameTo cs from now
+      → AreParts g (s ∷ starts) parts from list → Over cs (s ∷ starts) list
+  all_starts cs s starts [] from list now are clean zone_is is twins come parts_are = absurd parts_are
+  all_starts cs s [] (part ∷ []) from list now are clean zone_is is twins come (before, p, (whole, cut, same)) =
+      let e = start_ends cs s part from now are (All-head (IsTrusted g) s [] clean) zone_is is (All-head (HasNoTwin g terminals) s [] twins) come before p whole cut in
+      record {
+        now = e.now;
+        come = subst (λ (t : List ℕ). CameTo (cs ++ (connections s ++ [])) t e.now) (sym same)
+            (subst (λ (ds : List (Conversation S)). CameTo (cs ++ ds) whole e.now) (sym (append-nil (connections s))) e.come);
+        is = e.is;
+      }
+  all_starts cs s [] (part ∷ other ∷ parts) from list now are clean zone_is is twins come (before, p, (whole, cut, more)) = absurd more
+  all_starts cs s (next ∷ starts) (part ∷ parts) from list now (start, finds, later) clean zone_is is twins come (before, p, (whole, cut, more)) =
+      let here = All-head (IsTrusted g) s (next ∷ starts) clean in
+      let rest = All-tail (IsTrusted g) s (next ∷ starts) clean in
+      let e = start_ends cs s part from now start here zone_is is (All-head (HasNoTwin g terminals) s (next ∷ starts) twins) come before p whole cut in
+      let left = e.leaves (state g next.found).now.trees finds in
+      let next_start = first_of g next starts later in
+      let opened = opens_it g message_text answer_text s next terminals left.0 (opens g message_text answer_text next next_start (All-head (IsTrusted g) next starts rest)) left.2 in
+      let next_zone : next.opened.plan.zone ≡ text = sym opened.0 ∙ one_zone g message_text answer_text s start here ∙ zone_is in
+      let then = all_starts (cs ++ connections s) next starts parts whole list left.0 later rest next_zone opened.1 (All-tail (HasNoTwin g terminals) s (next ∷ starts) twins) left.1 more in
+      record {
+        now = then.now;
+        come = subst (λ (ds : List (Conversation S)). CameTo ds list then.now) (append_assoc cs (connections s) (flat_map connections (next ∷ starts))) then.come;
+        is = then.is;
+      }
+
+  -- what it comes to is a replay
+  list_of : (starts : List (Start S)) (list : List ℕ) → Over [] starts list
+      → IsListOf g terminals zone (digits_of digest_of text) starts held list
+  list_of starts list over = elim over.come [
+    | inl fresh ↦ record {
+      turns = [];
+      are_turns = All-nil _;
+      replayed = All-nil _;
+      entries = All-nil _;
+      begun = inl refl;
+      text = sym fresh.list_is;
+      after = held;
+      replay = refl;
+      given = fresh.given;
+      leads = of_last g (λ s. IsRoom g (left_by s) terminals over.now) _ (λ s is. inl (subst (λ (r : Room). IsRoom g (left_by s) terminals r) fresh.now_is is)) starts over.is;
+    }
+    | inr some ↦ elim some [
+      | inl s ↦ record {
+        turns = s.turns;
+        are_turns = s.told.are_turns;
+        replayed = s.told.replayed;
+        entries = s.told.entries;
+        begun = inr s.begun;
+        text = s.told.text;
+        after = over.now;
+        replay = s.told.replay;
+        given = s.given;
+        leads = of_last g (λ s. IsRoom g (left_by s) terminals over.now) _ (λ s is. inl is) starts over.is;
+      }
+      | inr w ↦
+          let told = left_open machine zone (digits_of digest_of text) terminals (AreGiven (flat_map connections starts)) held w.text list w.turns w.after w.p.at w.p.sent w.told w.entry w.list_is in
+          record {
+            turns = w.turns ++ left_out w.p.at w.p.sent ∷ [];
+            are_turns = told.are_turns;
+            replayed = told.replayed;
+            entries = told.entries;
+            begun = inr (begun-append w.turns (left_out w.p.at w.p.sent ∷ []) w.begun);
+            text = told.text;
+            after = w.after;
+            replay = told.replay;
+            given = subst (λ (a : List (List ℕ)). AreGiven (flat_map connections starts) a) (sym (no_answer w.turns (left_out w.p.at w.p.sent) refl)) w.given;
+            leads = of_last g (λ s. IsRoom g (left_by s) terminals over.now) _
+                (λ s is. inr (ends_open-push w.turns w.p.at w.p.sent, (arrived w.p.whole, w.p.at), over.now, w.p.told, w.reply, is)) starts over.is;
+          }
+    ]
+  ]
+
+pub list_is_the_room_law : {S : Type 0} (g : Ghosts S) → ListIsTheRoom g
+list_is_the_room_law g first more parts list home room starts clean stands twins parts_are =
+    let start = first_of g first more starts in
+    let here = All-head (IsTrusted g) first more clean in
+    let is = ((opens g message_text answer_text first start here).2.same home room stands).1 in
+    list_of g first.zone first.opened.plan.zone start.in_zone home.terminals room (first ∷ more) list
+    (all_starts g first.zone first.opened.plan.zone start.in_zone home.terminals room [] first more parts [] list room starts clean refl is twins
+    (inl (record { list_is = refl; now_is = refl; given = refl })) parts_are)
+
+-- ---- what serving gives
+pub served_keeps_its_part_law : {S : Type 0} (g : Ghosts S) → ServedKeepsItsPart g
+served_keeps_its_part_law g found old new most worked part of_old of_new is =
+    let s = served_start g true room_text message_text answer_text found old new most worked (λ store. (of_old store).0) (λ store. (of_new store).0) is in
+    let before = (of_old s.0.opened).1 in
+    let after = ap (λ (t : Service _). t.stage.kept) s.1.last_is ∙ (of_new s.1.last).1 in (
+      s.0,
+      s.1.start,
+      s.1.found_is,
+      s.1.closed,
+      elim s.1.head [
+        | inl (text, head, grows) ↦ record {
+          front = text;
+          begun = inl (text, head, inl refl);
+          first = appended (old s.0.opened).stage.kept s.0.first.stage.kept part.before text before grows;
+          last = after;
+        }
+        | inr (none, fault, keeps) ↦ elim keeps [
+          | inl same ↦ record {
+            front = [];
+            begun = inr (none, refl);
+            first = same ∙ before ∙ ap (λ t. Some t) (sym (append-nil part.before));
+            last = after;
+          }
+          | inr (text, front, head, first, grows) ↦ record {
+            front = front;
+            begun = inl (text, head, inr (none, first));
+            first = appended (old s.0.opened).stage.kept s.0.first.stage.kept part.before front before grows;
+            last = after;
+          }
+        ]
+      ],
+    )

@@ -1,0 +1,431 @@
+-- Starts of a room's service, one after another, are one run.
+use Rattle.std.proofs.Common.{◌≡◌, ◌∙◌, ◌≤◌, ap, append-nil, append_assoc, arith, inl, inr, refl, subst, sym, ℕ, List, [], ◌∷◌, ◌++◌, Bool, Option, Some, None, Result, Ok, Err}
+use Rattle.std.proofs.lemmas.List.Elements.{All-contains_itself, All-head, All-nil, All-pop, All-same, All-tail}
+use Rattle.std.specs.Prelude.{All, ◌⊎◌, IfSome, ⊤}
+use Rattle.jiff.specs.Placed.{IsPosixZone}
+use Rattle.sqlite.specs.Held.{Held, state}
+use Rattle.sqlite.specs.State.{HasCleanDisk}
+use Rattle.sqlite_trees.specs.Tree.{Trees}
+use Rattle.sqlite_trees.specs.declared.store.Store.{Ghosts}
+use Rattle.room_types.specs.declared.fleet.Terminal.{Terminal}
+use Rattle.room_model.specs.Room.{Room}
+use Rattle.room_service.specs.Rooms.{machine}
+use Rattle.room_service.specs.declared.digests.Head.{Head}
+use Rattle.room_http_time.specs.Days.{zone_of}
+use Rattle.room_http_time.specs.declared.moments.TheConstants.{LAST_MOMENT}
+use Rattle.room_http_time.specs.declared.zones.Zone.{Zone}
+use Rattle.room_http.specs.Course.{AreFirstIn, AreOf, Course}
+use Rattle.room_http.specs.Runs.{AreAnswered, Exchange, IsRun, arrivals_of, room_by}
+use Rattle.room_http.specs.Served.{Served}
+use Rattle.room_http.specs.Serving.{Finish, ServeIs, Sides}
+use Rattle.room_http.specs.Talk.{LeavesNext, Stays, Timed, Wants, replied}
+use Rattle.room_http.specs.declared.serving.ServeEnd.{ServeEnd}
+use Rattle.room_http.specs.declared.serving.ServeEnd.TheVariants.{Closed, Cut, ReadFault, WriteFault, ClockFault, Unkept, ReadsSpent, Memory}
+use Rattle.room_http.proofs.ExchangeLemmas.{answered_in, exchange_of}
+use Rattle.room_http.proofs.PromiseLaws.{promises_kept}
+use Rattle.room_http.proofs.RunLemmas.{answered_join, room_split, run_first, run_of}
+use Rattle.room_store.specs.Keeping.{IsKept, IsRoom, LeavesOneOf}
+use Rattle.room_store.specs.declared.store.Store.{Store}
+use Rattle.room_tables.specs.Stands.{House, Stands}
+use Rattle.dispatch_room_endings.specs.declared.endings.Done.{Done}
+use Rattle.dispatch_room_endings.specs.declared.endings.Failure.{Failure}
+use Rattle.dispatch_room_opening.specs.Opened.{IsOpened, OpensRoom}
+use Rattle.dispatch_room_serving.specs.Connections.{AreJoined, AreNext, AreServed, Conversation, EndsAs, GoOnBefore, GoesOn, IsNext, IsServed, Service, Stage, connected, stage_after, stage_before, together}
+use Rattle.dispatch_room_serving.specs.Rooms.{KeepsHead, Looks, ServesRoom}
+use Rattle.dispatch_room_serving.specs.Starts.{AreDone, AreOneRun, AreStarts, Exchanged, FindsLeft, IsDone, IsStart, IsTrusted, IsUntold, OfLast, ServedIsAStart, ServingIsAStart, Start, StartsAreOneRun, all_of, connections, left_by, whole_of}
+use Rattle.dispatch_room_serving.proofs.ConnectionLaws.{attended_none, connected_more}
+
+-- ---- the moments of a course
+abbrev InTime : Timed → Type 0
+InTime x = x.1 ≤ LAST_MOMENT
+
+-- of all that had a moment none was later than the last of the room
+module _ (course : Course) where
+  whole_timed : course.last ≡ None → All InTime course.outs → (outs : List Timed) → AreOf course outs
+      → All InTime outs
+  whole_timed none timed outs (inl is) = All-same InTime outs course.outs is timed
+  whole_timed none timed outs (inr (x, last, is)) = cc
+
+  last_timed : (x : Timed) → course.last ≡ Some x → All InTime (course.outs ++ x ∷ [])
+      → (outs : List Timed) → AreOf course outs → All InTime outs
+  last_timed x last timed outs (inl is) = All-same InTime outs course.outs is (All-pop InTime (course.outs ++ x ∷ []) course.outs (Some x) refl timed).0
+  last_timed x last timed outs (inr (y, other, is)) =
+      let same : y ≡ x = cc (other, last) in
+      All-same InTime outs (course.outs ++ x ∷ []) (is ∙ ap (λ z. course.outs ++ z ∷ []) same) timed
+
+  module _ (zone : Zone) (old : Sides) (new : Finish) (trusted failed : Type 0)
+      (stood stands : List Terminal → Room → Type 0) (wants : Timed → List Terminal → Room → Type 0)
+      (budget : ℕ) where
+    timed : (end : ServeEnd)
+        → ServeIs machine zone old new trusted stood stands wants failed course budget end
+        → (outs : List Timed) → AreOf course outs → All InTime outs
+    timed Closed (inl ended) = whole_timed ended.0.0 ended.0.1.timed.0
+    timed Closed (inr (inl closed)) = whole_timed closed.0.0 closed.0.1.timed.0
+    timed Closed (inr (inr want)) = last_timed want.0 want.1 want.2.timed.0
+    timed Cut cut = whole_timed cut.0.0 cut.0.1.timed.0
+    timed ReadFault failed = whole_timed failed.0.0 failed.0.1.timed.0
+    timed WriteFault ((x, last, inl broken), failed) = last_timed x last broken.timed.0
+    timed WriteFault ((x, last, inr unserved), failed) = last_timed x last unserved.timed.0
+    timed Unkept ((x, last, inl unwritten), failed) = last_timed x last unwritten.timed.0
+    timed Unkept ((x, last, inr unwritten), failed) = last_timed x last unwritten.timed.0
+    timed ClockFault (none, (o, untimed)) = whole_timed none untimed.timed
+    timed ReadsSpent spent = whole_timed spent.0.0 spent.0.1.timed.0
+    timed Memory refused = whole_timed refused.1.0 refused.1.1.timed.0
+
+-- ---- what a start leaves
+module _ {S : Type 0} (g : Ghosts S) (zone : Zone) (terminals : List Terminal) where
+  -- the room after what was exchanged, or that after one exchange more
+  abbrev Left : List (Conversation S) → List (List Exchange) → Store S → Room → Type 0
+  Left cs talks last after = LeavesOneOf g last terminals (after ∷ [])
+      ⊎ ((x : Exchange) × IsUntold cs talks x × AreAnswered zone terminals (x ∷ []) after
+      × LeavesOneOf g last terminals (after ∷ room_by (x ∷ []) after ∷ []))
+
+  -- the exchange of an event that a stop leaves done
+  untold_one : (x : Timed) (room : Room) (last : Store S) → InTime x
+      → LeavesNext machine zone (LeavesOneOf g last) x terminals room
+      → (done : Exchange) × (done.arrival ≡ x) × AreAnswered zone terminals (done ∷ []) room
+      × LeavesOneOf g last terminals (room ∷ room_by (done ∷ []) room ∷ [])
+  untold_one x room last within (event, finds, leaves) =
+      let done = exchange_of zone terminals x event room within finds in
+      let after : room_by (done.0 ∷ []) room ≡ (machine event room).0 = run_first done.0.found [] room ∙ ap (λ found. (replied machine found room).0) done.2 in
+      (done.0, done.1, done.3, rw after leaves)
+
+  left_one : (came_text : ℕ → List ℕ → List ℕ) (told_text : List ℕ → List ℕ) (stage : Stage S)
+      (c : Conversation S) (xs : List Exchange) (room : Room)
+      → IsNext g zone came_text told_text stage c → IsServed g zone terminals c xs room
+      → IsKept g c.from → Left (c ∷ []) (xs ∷ []) c.store (room_by xs room)
+  left_one came_text told_text stage c xs room next is kept =
+      elim (subst (λ ys. LeavesOneOf g c.store terminals (room_by ys room ∷ []) ⊎ ((x : Timed) × AreFirstIn c.course c.before.left c.before.given c.after.given (arrivals_of ys ++ x ∷ []) × LeavesNext machine zone (LeavesOneOf g c.store) x terminals (room_by ys room))) is.exchanged (is.served.kept kept)) [
+        | inl alone ↦ inl alone
+        | inr (x, first, leaves) ↦
+            let within = timed c.course zone c.before c.after _ _ _ _ _ _ c.end next.talk (arrivals_of xs ++ x ∷ []) first.0 in
+            let done = untold_one x (room_by xs room) c.store (All-pop InTime (arrivals_of xs ++ x ∷ []) (arrivals_of xs) (Some x) refl within).1 leaves in
+            inr (
+              done.0,
+              record {
+                c = c;
+                earlier = [];
+                is_last = refl;
+                talk = xs;
+                talked = [];
+                is_talk = refl;
+                next = rw done.1 first;
+              },
+              done.2,
+              done.3,
+            )
+      ]
+
+  -- an earlier connection
+  left_more : (c : Conversation S) (cs : List (Conversation S)) (xs : List Exchange)
+      (talks : List (List Exchange)) (last : Store S) (after same : Room) → after ≡ same
+      → Left cs talks last after → Left (c ∷ cs) (xs ∷ talks) last same
+  left_more c cs xs talks last after same is (inl alone) = inl (rw (← is) alone)
+  left_more c cs xs talks last after same is (inr (x, untold, answered, leaves)) = inr (
+    x,
+    record {
+      c = untold.c;
+      earlier = c ∷ untold.earlier;
+      is_last = ap (λ more. c ∷ more) untold.is_last;
+      talk = untold.talk;
+      talked = xs ∷ untold.talked;
+      is_talk = ap (λ more. xs ∷ more) untold.is_talk;
+      next = untold.next;
+    },
+    rw (← is) answered,
+    rw (← is) leaves,
+  )
+
+  left_some : (came_text : ℕ → List ℕ → List ℕ) (told_text : List ℕ → List ℕ) (c : Conversation S)
+      (cs : List (Conversation S)) (talks : List (List Exchange)) (room : Room) (stage last : Stage S)
+      → AreNext g zone came_text told_text (c ∷ cs) stage last
+      → AreServed g zone terminals (c ∷ cs) talks room → All (λ d. IsKept g d.from) (c ∷ cs)
+      → Left (c ∷ cs) talks last.store (room_by (together talks) room)
+  left_some came_text told_text c cs [] room stage last next served kept = absurd served
+  left_some came_text told_text c [] (xs ∷ []) room stage last next served kept =
+      let one = left_one came_text told_text stage c xs room next.0 served.0 (All-head (λ d. IsKept g d.from) c [] kept) in
+      subst (λ (s : Stage S). Left (c ∷ []) (xs ∷ []) s.store (room_by (xs ++ []) room)) (sym next.1) (subst (λ ys. Left (c ∷ []) (xs ∷ []) c.store (room_by ys room)) (sym (append-nil xs)) one)
+  left_some came_text told_text c [] (xs ∷ ys ∷ more) room stage last next served kept = absurd served.1
+  left_some came_text told_text c (d ∷ cs) (xs ∷ more) room stage last next served kept =
+      left_more c (d ∷ cs) xs more last.store (room_by (together more) (room_by xs room)) (room_by (xs ++ together more) room) (sym (room_split xs (together more) room))
+      (left_some came_text told_text d cs more (room_by xs room) (stage_after c) last next.1 served.1 (All-tail (λ e. IsKept g e.from) c (d ∷ cs) kept))
+
+  left_all : (came_text : ℕ → List ℕ → List ℕ) (told_text : List ℕ → List ℕ)
+      (cs : List (Conversation S)) (talks : List (List Exchange)) (room : Room) (stage last : Stage S)
+      → AreNext g zone came_text told_text cs stage last → AreServed g zone terminals cs talks room
+      → LeavesOneOf g stage.store terminals (room ∷ []) → All (λ d. IsKept g d.from) cs
+      → Left cs talks last.store (room_by (together talks) room)
+  left_all came_text told_text [] [] room stage last same served leaves kept = inl (rw same leaves)
+  left_all came_text told_text [] (xs ∷ more) room stage last same served leaves kept = absurd served
+  left_all came_text told_text (c ∷ cs) talks room stage last next served leaves kept = left_some came_text told_text c cs talks room stage last next served kept
+
+-- ---- the zone of the plan stays
+module _ {S : Type 0} (g : Ghosts S) (zone : Zone) (came_text : ℕ → List ℕ → List ℕ)
+    (told_text : List ℕ → List ℕ) where
+  pub zone_stays : (cs : List (Conversation S)) (stage last : Stage S)
+      → AreNext g zone came_text told_text cs stage last → last.store.plan.zone ≡ stage.store.plan.zone
+  zone_stays [] stage last same = ap (λ (s : Stage S). s.store.plan.zone) same
+  zone_stays (c ∷ cs) stage last next =
+      zone_stays cs (stage_after c) last next.1 ∙ next.0.same_zone ∙ ap (λ (s : Stage S). s.store.plan.zone) next.0.begins
+
+-- the house of a store
+abbrev pub house : {S : Type 0} → Store S → List Terminal → House
+house store terminals = record { zone = store.plan.zone; terminals = terminals }
+
+-- what was exchanged at a start after which there is none
+abbrev last_done : List Exchange → Exchanged
+last_done xs = record { told = xs; untold = [] }
+
+whole_last : (xs : List Exchange) → whole_of (last_done xs ∷ []) ≡ xs
+whole_last xs = append-nil (xs ++ []) ∙ append-nil xs
+
+-- ---- one start
+module _ {S : Type 0} (g : Ghosts S) (came_text : ℕ → List ℕ → List ℕ)
+    (told_text : List ℕ → List ℕ) where
+  module _ (s : Start S) (start : IsStart g came_text told_text s)
+      (clean : HasCleanDisk (state g (left_by s).conn)) where
+    pub clean_first : HasCleanDisk (state g s.first.stage.store.conn)
+    clean_first = start.attended.trusted clean
+
+    pub opens : OpensRoom g s.found s.opened
+    opens = start.opens (start.looks.trusted clean_first)
+
+    pub one_zone : (left_by s).plan.zone ≡ s.opened.plan.zone
+    one_zone = zone_stays g s.zone came_text told_text (connections s) s.first.stage s.last.stage start.attended.in_turn ∙ start.looks.zone
+
+    module _ (terminals : List Terminal) (room : Room) (is : IsRoom g s.opened terminals room) where
+      pub joined : AreJoined g s.zone terminals (connections s) (left_by s) room
+      joined = start.attended.joined clean terminals room (start.looks.same clean_first terminals room is)
+
+      pub leaves_first : LeavesOneOf g s.first.stage.store terminals (room ∷ [])
+      leaves_first = start.looks.left clean_first opens.2.kept terminals room is
+
+      pub all_kept : All (λ c. IsKept g c.from) (connections s)
+      all_kept = elim start.begins_kept [
+        | inl none ↦ rw none (All-nil (λ (c : Conversation S). IsKept g c.from))
+        | inr kept ↦ start.kept clean (kept clean_first opens.2.kept)
+      ]
+
+      left : Left g s.zone terminals (connections s) joined.talks (left_by s) (room_by (together joined.talks) room)
+      left = left_all g s.zone terminals came_text told_text (connections s) joined.talks room s.first.stage s.last.stage start.attended.in_turn joined.served leaves_first all_kept
+
+      done_with : (untold : List Exchange) → (untold ≡ []) ⊎ ((x : Exchange) × (untold ≡ x ∷ []) × IsUntold (connections s) joined.talks x)
+          → IsDone g terminals s (record { told = together joined.talks; untold = untold }) room
+      done_with untold few = record { opened = is; joined = joined; told = refl; untold = few }
+
+  -- ---- the next start
+  -- what the next start opens is the room after what was exchanged, told and untold
+  record Goes (s next : Start S) (terminals : List Terminal) (talks : List (List Exchange)) (after : Room) : Type 0 where
+    untold : List Exchange
+    few : (untold ≡ []) ⊎ ((x : Exchange) × (untold ≡ x ∷ []) × IsUntold (connections s) talks x)
+    answered : AreAnswered s.zone terminals untold after
+    opened : IsRoom g next.opened terminals (room_by untold after)
+    zone : (left_by s).plan.zone ≡ next.opened.plan.zone
+
+  pub opens_it : (s next : Start S) (terminals : List Terminal) (room : Room)
+      → OpensRoom g next.found next.opened
+      → Stands (state g next.found).now.trees (house (left_by s) terminals) room
+      → ((left_by s).plan.zone ≡ next.opened.plan.zone) × IsRoom g next.opened terminals room
+  opens_it s next terminals room opens stands = opens.2.same (house (left_by s) terminals) room stands
+
+  goes : (s next : Start S) (terminals : List Terminal) (talks : List (List Exchange)) (after : Room)
+      → OpensRoom g next.found next.opened → FindsLeft g s next
+      → Left g s.zone terminals (connections s) talks (left_by s) after
+      → Goes s next terminals talks after
+  goes s next terminals talks after opens finds (inl alone) = elim (alone (state g next.found).now.trees finds) [
+    | inl stands ↦
+        let it = opens_it s next terminals after opens stands in
+        record { untold = []; few = inl refl; answered = tt; opened = it.1; zone = it.0 }
+    | inr none ↦ absurd none
+  ]
+  goes s next terminals talks after opens finds (inr (x, is, answered, leaves)) = elim (leaves (state g next.found).now.trees finds) [
+    | inl stands ↦
+        let it = opens_it s next terminals after opens stands in
+        record { untold = []; few = inl refl; answered = tt; opened = it.1; zone = it.0 }
+    | inr other ↦ elim other [
+      | inl stands ↦
+          let it = opens_it s next terminals (room_by (x ∷ []) after) opens stands in
+          record { untold = x ∷ []; few = inr (x, refl, is); answered = answered; opened = it.1; zone = it.0 }
+      | inr none ↦ absurd none
+    ]
+  ]
+
+  -- ---- all starts
+  -- from the room that the first opened, in a zone that its plan tells
+  record Run (zone : Zone) (terminals : List Terminal) (starts : List (Start S)) (room : Room) : Type 0 where
+    done : List Exchanged
+    each : AreDone g terminals starts done room
+    answered : AreAnswered zone terminals (whole_of done) room
+    after : OfLast (λ s. IsRoom g (left_by s) terminals (room_by (whole_of done) room)) starts
+
+  module _ (zone : Zone) (terminals : List Terminal) where
+    last_start : (s : Start S) (room : Room) → IsStart g came_text told_text s
+        → HasCleanDisk (state g (left_by s).conn) → IsRoom g s.opened terminals room
+        → IsPosixZone s.opened.plan.zone (zone_of zone) → Run zone terminals (s ∷ []) room
+    last_start s room start clean is in_zone =
+        let all = joined s start clean terminals room is in
+        let xs : List Exchange = together all.talks in
+        let same : xs ≡ whole_of (last_done xs ∷ []) = sym (whole_last xs) in
+        record {
+          done = last_done xs ∷ [];
+          each = (done_with s start clean terminals room is [] (inl refl), tt);
+          answered = subst (λ ys. AreAnswered zone terminals ys room) same (answered_in s.opened.plan.zone s.zone zone start.in_zone in_zone terminals xs room all.run.answered);
+          after = subst (λ ys. IsRoom g (left_by s) terminals (room_by ys room)) same all.after;
+        }
+
+    more_starts : (s : Start S) (starts : List (Start S)) (room : Room)
+        → AreStarts g came_text told_text (s ∷ starts) → All (IsTrusted g) (s ∷ starts)
+        → IsRoom g s.opened terminals room → IsPosixZone s.opened.plan.zone (zone_of zone)
+        → Run zone terminals (s ∷ starts) room
+    more_starts s [] room start clean is in_zone = last_start s room start (All-head (IsTrusted g) s [] clean) is in_zone
+    more_starts s (next ∷ starts) room (start, finds, later) clean is in_zone =
+        let here = All-head (IsTrusted g) s (next ∷ starts) clean in
+        let rest = All-tail (IsTrusted g) s (next ∷ starts) clean in
+        let all = joined s start here terminals room is in
+        let next_start = first_of next starts later in
+        let step = goes s next terminals all.talks (room_by (together all.talks) room) (opens next next_start (All-head (IsTrusted g) next starts rest)) finds (left s start here terminals room is) in
+        let x : Exchanged = record { told = together all.talks; untold = step.untold } in
+        let room_is : room_by (all_of x) room ≡ room_by step.untold (room_by (together all.talks) room) = room_split (together all.talks) step.untold room in
+        let zone_is : s.opened.plan.zone ≡ next.opened.plan.zone = sym (one_zone s start here) ∙ step.zone in
+        let then = more_starts next starts (room_by (all_of x) room) later rest (rw room_is step.opened) (rw zone_is at in_zone) in
+        let mine = answered_join s.zone terminals (together all.talks) step.untold room all.run.answered step.answered in
+        record {
+          done = x ∷ then.done;
+          each = (done_with s start here terminals room is step.untold step.few, then.each);
+          answered = answered_join zone terminals (all_of x) (whole_of then.done) room (answered_in s.opened.plan.zone s.zone zone start.in_zone in_zone terminals (all_of x) room mine) then.answered;
+          after = subst (λ (r : Room). OfLast (λ u. IsRoom g (left_by u) terminals r) (next ∷ starts)) (sym (room_split (all_of x) (whole_of then.done) room)) then.after;
+        }
+      where
+        first_of : (next : Start S) (starts : List (Start S)) → AreStarts g came_text told_text (next ∷ starts) → IsStart g came_text told_text next
+        first_of next [] start = start
+        first_of next (other ∷ starts) (start, finds, later) = start
+
+pub starts_are_one_run_law : {S : Type 0} (g : Ghosts S) → StartsAreOneRun g
+starts_are_one_run_law g came_text told_text first more house room starts clean stands =
+    let start = first_start first more starts in
+    let opened = opens g came_text told_text first start (All-head (IsTrusted g) first more clean) in
+    let is = (opened.2.same house room stands).1 in
+    let run = more_starts g came_text told_text first.zone house.terminals first more room starts clean is start.in_zone in
+    let whole : IsRun first.zone house.terminals (whole_of run.done) room = run_of first.zone house.terminals room (whole_of run.done) is.fits run.answered in
+    record {
+      done = run.done;
+      each = run.each;
+      run = whole;
+      promises = promises_kept first.zone house.terminals (whole_of run.done) room is.formed whole;
+      after = run.after;
+    }
+  where
+    first_start : (next : _) (starts : _) → AreStarts g came_text told_text (next ∷ starts) → IsStart g came_text told_text next
+    first_start next [] start = start
+    first_start next (other ∷ starts) (start, finds, later) = start
+
+-- ---- what serving gives is a start
+-- after each connection but the last more is served
+module _ {S : Type 0} where
+  all_go : (cs : List (Conversation S)) → All GoesOn cs → GoOnBefore cs
+  all_go [] go = tt
+  all_go (c ∷ []) go = tt
+  all_go (c ∷ d ∷ cs) go = (All-head GoesOn c (d ∷ cs) go, all_go (d ∷ cs) (All-tail GoesOn c (d ∷ cs) go))
+
+  before_go : (cs : List (Conversation S)) (last : Conversation S) → All GoesOn cs
+      → GoOnBefore (cs ++ last ∷ [])
+  before_go [] last go = tt
+  before_go (c ∷ []) last go = (All-head GoesOn c [] go, tt)
+  before_go (c ∷ d ∷ cs) last go = (All-head GoesOn c (d ∷ cs) go, before_go (d ∷ cs) last (All-tail GoesOn c (d ∷ cs) go))
+
+  ends_go : (calls : List (Option (Conversation S))) (most : ℕ) (result : Result Done Failure)
+      → EndsAs calls most result → GoOnBefore (connected calls)
+  ends_go calls most (Ok done) ends = all_go (connected calls) ends.2
+  ends_go calls most (Err fault) (before, last, is, few, go, why) =
+      subst (λ (all : List (Option (Conversation S))). GoOnBefore (connected all)) (sym is)
+      (subst GoOnBefore (sym (connected_more before (Some last ∷ []))) (before_go (connected before) last go))
+
+-- a start that serving gives, and what was kept of its head
+pub record IsServedStart {S : Type 0} (g : Ghosts S) (wants : Bool) (begun_text : Head → List ℕ)
+    (came_text : ℕ → List ℕ → List ℕ) (told_text : List ℕ → List ℕ) (found : Held S)
+    (old new : Store S → Service S) (worked : Result Done Failure × Held S) (s : Start S) : Type 0 where
+  pub start : IsStart g came_text told_text s
+  pub found_is : s.found ≡ found
+  pub closed : (left_by s).conn ≡ worked.1
+  pub last : Store S
+  pub last_is : s.last ≡ new last
+  pub head : KeepsHead g wants begun_text s.opened s.first.stage.store (old s.opened).stage.kept s.first.stage.kept (Ok tt)
+      ⊎ ((s.calls ≡ []) × (fault : Failure)
+      × KeepsHead g wants begun_text s.opened s.first.stage.store (old s.opened).stage.kept s.first.stage.kept (Err fault))
+
+pub served_start : {S : Type 0} (g : Ghosts S) (wants : Bool) (begun_text : Head → List ℕ)
+    (came_text : ℕ → List ℕ → List ℕ) (told_text : List ℕ → List ℕ) (found : Held S)
+    (old new : Store S → Service S) (most : ℕ) (worked : Result Done Failure × Held S)
+    → ((store : Store S) → (old store).stage.store ≡ store)
+    → ((store : Store S) → (new store).stage.store ≡ store)
+    → ServesRoom g wants begun_text came_text told_text found old new most worked
+    → (s : Start S) × IsServedStart g wants begun_text came_text told_text found old new worked s
+served_start g wants begun_text came_text told_text found old new most worked of_old of_new is = elim is.attended [
+  | inl unheard ↦ (
+    record { found = found; opened = is.first; zone = is.zone; calls = []; first = new is.last; last = new is.last },
+    record {
+      start = record {
+        opens = is.opens;
+        in_zone = is.in_zone;
+        looks = rw of_new (rw (of_old, of_new) at unheard.looks);
+        attended = attended_none g is.zone came_text told_text (new is.last);
+        kept = λ clean kept. All-nil _;
+        go_on = tt;
+        begins_kept = inl refl;
+      };
+      found_is = refl;
+      closed = ap (λ store. store.conn) (of_new is.last) ∙ sym is.closed;
+      last = is.last;
+      last_is = refl;
+      head = inr (
+        refl,
+        unheard.fault,
+        subst (λ (first : Store _). KeepsHead g wants begun_text first (new is.last).stage.store (old is.first).stage.kept (new is.last).stage.kept (Err unheard.fault))
+            (of_old is.first) unheard.head,
+      );
+    },
+  )
+  | inr served ↦ (
+    record {
+      found = found;
+      opened = is.first;
+      zone = is.zone;
+      calls = served.serves.calls;
+      first = record { heard = (old is.first).heard; told = (old is.first).told; stage = record { given = (old is.first).stage.given; kept = served.kept; has_failed = (old is.first).stage.has_failed; store = served.store } };
+      last = new is.last;
+    },
+    record {
+      start = record {
+        opens = is.opens;
+        in_zone = is.in_zone;
+        looks = rw of_old at served.looks.looks;
+        attended = served.serves.attended;
+        kept = served.serves.kept;
+        go_on = ends_go served.serves.calls most worked.0 served.serves.ends;
+        begins_kept = inr (rw of_old at served.looks.kept);
+      };
+      found_is = refl;
+      closed = ap (λ store. store.conn) (of_new is.last) ∙ sym is.closed;
+      last = is.last;
+      last_is = refl;
+      head = inl (subst (λ (first : Store _). KeepsHead g wants begun_text first served.store (old is.first).stage.kept served.kept (Ok tt))
+          (of_old is.first) served.head);
+    },
+  )
+]
+
+pub served_is_a_start_law : {S : Type 0} (g : Ghosts S) → ServedIsAStart g
+served_is_a_start_law g wants begun_text came_text told_text found old new most worked of_old of_new is =
+    let s = served_start g wants begun_text came_text told_text found old new most worked of_old of_new is in
+    (s.0, s.1.start, s.1.found_is, s.1.closed)
+
+pub serving_is_a_start_law : {S : Type 0} (g : Ghosts S) → ServingIsAStart g
+serving_is_a_start_law g came_text told_text found opened zone first now count opens in_zone looks served = record {
+  opens = opens;
+  in_zone = in_zone;
+  looks = looks.looks;
+  attended = served.attended;
+  kept = served.kept;
+  go_on = all_go (connected served.calls) served.go_on;
+  begins_kept = inr looks.kept;
+}

@@ -1,0 +1,144 @@
+-- The list that a room's service keeps over all its starts, and that it can be replayed.
+use Rattle.std.specs.Prelude.{◌≡◌, ◌⊎◌, ◌≤◌, ℕ, List, [], ◌∷◌, ◌++◌, length, All, Bool, MatchResult, None, Option, Result, true, Some}
+use Rattle.std.specs.List.{flat_map}
+use Rattle.jiff.specs.Placed.{IsPosixZone}
+use Rattle.sqlite.specs.Held.{Held, state}
+use Rattle.sqlite.specs.State.{HasCleanDisk}
+use Rattle.sqlite_trees.specs.declared.store.Store.{Ghosts}
+use Rattle.room_types.specs.declared.fleet.Terminal.{Terminal}
+use Rattle.room_model.specs.Room.{Room}
+use Rattle.room_service.specs.Digests.{DigitsOf, digits_of}
+use Rattle.room_service.specs.Rooms.{machine}
+use Rattle.room_service.specs.declared.digests.Version.TheVariants.{Second}
+use Rattle.room_http.specs.Talk.{IsFront, IsReplyTo, Timed}
+use Rattle.room_http_time.specs.Days.{zone_of}
+use Rattle.room_http_time.specs.declared.zones.Zone.{Zone}
+use Rattle.room_store.specs.Keeping.{IsRoom}
+use Rattle.room_store.specs.declared.store.Store.{Store}
+use Rattle.room_store_digest.specs.Texts.{digest_of}
+use Rattle.room_tables.specs.Stands.{House, Stands}
+use Rattle.dispatch_room_endings.specs.declared.endings.Done.{Done}
+use Rattle.dispatch_room_endings.specs.declared.endings.Failure.{Failure}
+use Rattle.dispatch_room_journal.specs.Ends.{Follows}
+use Rattle.dispatch_room_journal.specs.Entries.{Entry, IsEntry, IsPart, texts_of}
+use Rattle.dispatch_room_journal.specs.Records.{answer_text, message_text, room_text}
+use Rattle.dispatch_room_replaying.specs.Laws.{IsExcused, answers_to_messages}
+use Rattle.dispatch_room_replaying.specs.Replays.{IsReplay, Replays}
+use Rattle.dispatch_room_replaying.specs.declared.faults.Stopped.{Stopped}
+use Rattle.dispatch_room_replaying.specs.declared.replaying.Replayed.{Replayed}
+use Rattle.dispatch_room_replaying.specs.Turns.{IsBegun, IsReplayed, IsTurn, Turn, answers_of, ends_open, entries_of}
+use Rattle.dispatch_room_serving.specs.Connections.{Conversation, Service}
+use Rattle.dispatch_room_serving.specs.Rooms.{IsHead, ServesRoom}
+use Rattle.dispatch_room_serving.specs.Starts.{AreStarts, IsStart, IsTrusted, OfLast, Start, connections, left_by}
+
+-- what stands in the list as a start opens it, which are whole records, and at the end of the start
+pub record Part : Type 0 where
+  pub before : List ℕ
+  pub after : List ℕ
+
+-- what is whole of a text: its entries, but one at the end that is cut short
+abbrev pub IsCutTo : List ℕ → List ℕ → Type 0
+IsCutTo text whole = (entries : List Entry) × (rest : List ℕ) × Follows text entries rest
+    × (whole ≡ texts_of entries) × ((rest ≡ []) ⊎ IsPart rest)
+
+-- the answers that were given on these connections, one after another, and after those of each at
+-- most one that was not written, or not wholly
+abbrev pub AreGiven : {S : Type 0} → List (Conversation S) → List (List ℕ) → Type 0
+AreGiven [] answers = answers ≡ []
+AreGiven (c ∷ cs) answers = (more rest : List (List ℕ))
+    × (answers ≡ answers_to_messages c.course.outs c.course.answers ++ (more ++ rest))
+    × (length more ≤ 1) × AreGiven cs rest
+
+module _ {S : Type 0} (g : Ghosts S) where
+  -- The start kept its part of the list behind what stood there: the head of the room that was
+  -- opened, and then what is kept of each connection; or, where nobody was heard, some first bytes
+  -- of the head, or nothing.
+  pub record IsPartOf (s : Start S) (part : Part) : Type 0 where
+    pub front : List ℕ
+    pub begun : ((text : List ℕ) × IsHead g true room_text s.opened s.first.stage.store text
+        × ((front ≡ text) ⊎ ((s.calls ≡ []) × IsFront front text)))
+        ⊎ ((s.calls ≡ []) × (front ≡ []))
+    pub first : s.first.stage.kept ≡ Some (part.before ++ front)
+    pub last : s.last.stage.kept ≡ Some part.after
+
+  -- The starts kept these parts, each behind the whole records of the one before. From such records
+  -- the list came to these.
+  abbrev pub AreParts : List (Start S) → List Part → List ℕ → List ℕ → Type 0
+  AreParts [] [] from list = list ≡ from
+  AreParts [] (part ∷ parts) from list = ⊥
+  AreParts (s ∷ starts) [] from list = ⊥
+  AreParts (s ∷ starts) (part ∷ parts) from list = (part.before ≡ from) × IsPartOf s part
+      × ((whole : List ℕ) × IsCutTo part.after whole × AreParts starts parts whole list)
+
+  -- the digests of rooms in the zone of a start, in digits
+  abbrev pub digits_at : Start S → DigitsOf
+  digits_at s = digits_of digest_of s.opened.plan.zone
+
+  module _ (terminals : List Terminal) where
+    -- No message leads to the room that was opened from another one that has the same digest: of a
+    -- room before a message and after it the digest tells which it is.
+    abbrev pub HasNoTwin : Start S → Type 0
+    HasNoTwin s = (x : Timed) (room other : Room) (bytes : List ℕ)
+        → IsRoom g s.opened terminals other
+        → IsReplyTo machine s.zone terminals room x other bytes
+        → digits_at s Second terminals room ≡ digits_at s Second terminals other → room ≡ other
+
+    -- The list can be replayed in this zone, from this room: by turns of its entries, with the
+    -- answers that were given. It leads to the room for which the store stands at the end of the
+    -- last start; or to the one from which a message leads there that has no status at the end.
+    pub record IsListOf (zone : Zone) (digits : DigitsOf) (starts : List (Start S)) (room : Room)
+        (list : List ℕ) : Type 0 where
+      pub turns : List Turn
+      pub are_turns : All IsTurn turns
+      pub replayed : All IsReplayed turns
+      pub entries : All IsEntry (entries_of turns)
+      pub begun : (turns ≡ []) ⊎ IsBegun turns
+      pub text : texts_of (entries_of turns) ≡ list
+      pub after : Room
+      pub replay : IsReplay machine zone digits terminals room turns after
+      pub given : AreGiven (flat_map connections starts) (answers_of turns)
+      pub leads : OfLast (λ s. IsRoom g (left_by s) terminals after
+          ⊎ ((ends_open turns ≡ true) × (x : Timed) × (other : Room) × (bytes : List ℕ)
+          × IsReplyTo machine zone terminals after x other bytes
+          × IsRoom g (left_by s) terminals other)) starts
+
+  -- What serving gives once it has ended, where a list is kept, is a start that kept its part.
+  abbrev pub ServedKeepsItsPart : Type 0
+  ServedKeepsItsPart =
+      (found : Held S) (old new : Store S → Service S) (most : ℕ)
+      (worked : Result Done Failure × Held S) (part : Part)
+      → ((store : Store S) → ((old store).stage.store ≡ store)
+      × ((old store).stage.kept ≡ Some part.before))
+      → ((store : Store S) → ((new store).stage.store ≡ store)
+      × ((new store).stage.kept ≡ Some part.after))
+      → ServesRoom g true room_text message_text answer_text found old new most worked
+      → (s : Start S) × IsStart g message_text answer_text s × (s.found ≡ found)
+      × ((left_by s).conn ≡ worked.1) × IsPartOf s part
+
+  -- Whatever starts there were, from the room that the first of them found, with a list that was
+  -- empty: it can be replayed from that room.
+  abbrev pub ListIsTheRoom : Type 0
+  ListIsTheRoom =
+      (first : Start S) (more : List (Start S)) (parts : List Part) (list : List ℕ) (house : House)
+      (room : Room)
+      → AreStarts g message_text answer_text (first ∷ more) → All (IsTrusted g) (first ∷ more)
+      → Stands (state g first.found).now.trees house room
+      → All (HasNoTwin house.terminals) (first ∷ more) → AreParts (first ∷ more) parts [] list
+      → IsListOf house.terminals first.zone (digits_at first) (first ∷ more) room list
+
+-- Whoever replays such a list to a room that is equal to the first, in whatever storage, in the same
+-- zone: it comes to the room to which the list leads, and is told so. It stops only where a read
+-- failed, memory or storage was wanting, or the list has more turns than are counted.
+abbrev pub ListIsReplayed : {S T : Type 0} → Ghosts S → Ghosts T → Type 0
+ListIsReplayed {S} {T} g h =
+    (terminals : List Terminal) (here there : Zone) (text : List ℕ) (starts : List (Start S))
+    (room : Room) (list : List ℕ)
+    → IsPosixZone text (zone_of here) → IsPosixZone text (zone_of there)
+    → (of : IsListOf g terminals here (digits_of digest_of text) starts room list)
+    → (old new : Store T) (read_failed : Bool) (result : Result Replayed Stopped)
+    → old.plan.zone ≡ text → HasCleanDisk (state h new.conn) → IsRoom h old terminals room
+    → Replays machine there (digits_of digest_of old.plan.zone) (HasCleanDisk (state h new.conn))
+    (IsRoom h old) (IsRoom h new) (Some list) None read_failed result
+    → MatchResult result
+    (λ done. IsRoom h new terminals of.after × (done.is_open ≡ ends_open of.turns))
+    (λ stopped. IsExcused read_failed of.turns stopped.fault)
