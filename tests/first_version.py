@@ -4,7 +4,7 @@ import contextlib
 import shutil
 import sqlite3
 
-from test_tables import INDEXES, PLAN_ROWS, TABLES, columns_of
+from schema import INDEXES, PLAN_ROWS, TABLES, columns_of
 
 # The tables of version 1, in the order in which they were made.
 TABLES_BEFORE = {table: columns for table, columns in TABLES.items() if table != 'offers'}

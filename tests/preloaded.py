@@ -1,105 +1,120 @@
-"""The program under a library that is loaded before the C library's own."""
+"""The program under the library of preload/, which is loaded before the C library's own, and the
+switches of it that preload/preload.h tells."""
+import atexit
 import contextlib
+import errno
+import functools
 import os
 import pathlib
 import shutil
 import subprocess
 import tempfile
 
-from room import PATIENT, PROGRAM, TestCase, ask, free_port
+from room import PATIENT, PROGRAM, TOP, TestCase, ask, free_port
 
 # Files in memory, where the system has a folder of such, for each deed is done again and again.
 IN_MEMORY = '/dev/shm' if os.path.isdir('/dev/shm') else None
 EVERY = 'EVERY_PLACE' in os.environ  # tests/run --all
+MANY = 40  # so many calls of a deed are met in turn, or half as many more; with --all each of them
+LAST = 10 ** 9  # no program makes so many calls
+SOURCES = sorted((TOP / 'tests' / 'preload').glob('*.c'))
 
-# What is preloaded into a room that is served at moments of a test's own.
-CLOCK = r"""
-// Sets the clock of the day to the moments of MOMENTS, one after another, with a space between each
-// two; after the last it can't be read.
-#define _GNU_SOURCE
-#include <dlfcn.h>
-#include <errno.h>
-#include <stdlib.h>
-#include <time.h>
+# ---- the switches: each gives variables of the environment, and those of two can stand together
 
-#define NEXT(name) ((__typeof__(&name))dlsym(RTLD_NEXT, #name))
-
-static char *left;
-
-__attribute__((constructor)) static void begin(void) { left = getenv("MOMENTS"); }
-
-int clock_gettime(clockid_t clock, struct timespec *time) {
-  if (clock != CLOCK_REALTIME) return NEXT(clock_gettime)(clock, time);
-  char *end;
-  long moment = strtol(left, &end, 10);
-  if (end == left) {
-    errno = EINVAL;
-    return -1;
-  }
-  left = end;
-  time->tv_sec = moment;
-  time->tv_nsec = 0;
-  return 0;
-}
-"""
+BEFORE, HALFWAY, MACHINE = range(3)  # how a program is stopped at a call
 
 
-# What a library begins with that counts the calls that change a file.
-COUNTING = r"""
-// A program that comes to its end tells in the file COUNTED how many such calls there were.
-#define _GNU_SOURCE
-#include <dlfcn.h>
-#include <errno.h>
-#include <stdio.h>
-#include <stdlib.h>
-#include <sys/stat.h>
-#include <unistd.h>
+def clock(moments):
+    """The clock of the day is at these moments, one after another."""
+    return {'MOMENTS': ' '.join(moments)}
 
-#define NEXT(name) ((__typeof__(&name))dlsym(RTLD_NEXT, #name))
 
-static long counted;
+def clock_of(file):
+    """The clock of the day is at the moment that stands in a file."""
+    return {'MOMENT': file}
 
-__attribute__((destructor)) static void end(void) {
-  FILE *file = fopen(getenv("COUNTED"), "w");
-  if (file == NULL) return;
-  fprintf(file, "%ld\n", counted);
-  fclose(file);
-}
-"""
+
+def refusals(first, last):
+    """The allocations from the first to the last are refused."""
+    return {'REFUSALS': f'{first} {last}'}
+
+
+def faults(first, last, error=errno.EIO):
+    """The calls that read or change a file fail from the first to the last."""
+    return {'FAULTS': f'{first} {last} {error}'}
+
+
+def sync_fault(at, path):
+    """The sync of a file or folder fails that has this number."""
+    return faults(at, at) | {'SYNCED': path}
+
+
+def stop(at, how=BEFORE):
+    """The program is stopped at the call that changes a file and has this number."""
+    return {'STOPS': f'{at} {how}'}
+
+
+SERVING = {'SERVING': 1}  # what fails is counted once the room is served
+WRITES = {'WRITES': 1}  # a stop may be at what is written to a journal, too
+NEVER_STOPPED = stop(0)
+
+
+def sampled(total):
+    """The numbers to try of so many calls, the last one too."""
+    return sorted({*range(1, total + 1, 1 if EVERY else 1 + total // MANY), total})
+
+
+# ---- the program
+
+
+def compiled(library, *sources):
+    words = ['gcc', '-std=c11', '-Wall', '-Wextra', '-Werror', '-O2', '-shared', '-fPIC']
+    done = subprocess.run([*words, '-o', library, *sources, '-ldl'], capture_output=True)
+    assert (done.returncode, done.stderr) == (0, b''), f'gcc: {done.stderr.decode()}'
+    return library
+
+
+@functools.cache
+def library_of_tests():
+    """The library of preload/, which is compiled once, and kept until the tests end."""
+    folder = tempfile.TemporaryDirectory()
+    atexit.register(folder.cleanup)
+    return compiled(pathlib.Path(folder.name) / 'preload.so', *SOURCES)
 
 
 class Preloaded:
-    """The program with a library that tells in the file COUNTED how many calls it has seen."""
+    """The program with the library of preload/, or one of a text that a caller has of its own."""
 
-    def __init__(self, folder, text):
-        source, self.library = folder / 'library.c', folder / 'library.so'
+    def __init__(self, folder, text=None):
         self.counted = folder / 'counted'
-        source.write_text(text)
-        words = ['gcc', '-Wall', '-shared', '-fPIC', '-o', self.library, source, '-ldl']
-        done = subprocess.run(words, capture_output=True)
-        assert (done.returncode, done.stderr) == (0, b''), f'gcc: {done.stderr.decode()}'
+        if text is None:
+            self.library = library_of_tests()
+        else:
+            source = folder / 'library.c'
+            source.write_text(text)
+            self.library = compiled(folder / 'library.so', source)
 
-    def start(self, told, *words, stdin=subprocess.DEVNULL):
-        """Starts the program; the library is told what it does in variables of the environment."""
+    def start(self, switches, *words, stdin=subprocess.DEVNULL):
+        """Starts the program, with the library's switches set."""
         own = {'LD_PRELOAD': self.library, 'COUNTED': self.counted}
-        given = {name: str(value) for name, value in (own | told).items()}
+        given = {name: str(value) for name, value in (own | switches).items()}
         return subprocess.Popen([PROGRAM, *map(str, words)], stdin=stdin, stdout=subprocess.PIPE,
                                 stderr=subprocess.PIPE, env=os.environ | given)
 
-    def run(self, told, *words, given=b''):
+    def run(self, switches, *words, given=b''):
         """Runs the program over what it is given; its status, what it printed, and what it told on
         standard error."""
-        process = self.start(told, *words, stdin=subprocess.PIPE)
+        process = self.start(switches, *words, stdin=subprocess.PIPE)
         out, err = process.communicate(given, timeout=60)
         return process.returncode, out, err
 
-    def serve(self, told, room, sent, *words, ask=ask):
+    def serve(self, switches, room, sent, *words, ask=ask):
         """Serves a room to one connection that asks what is sent; the answers, the status, and
         what was told."""
         port, answers = free_port(), []
         address = f'127.0.0.1:{port}'
         words = *PATIENT, *words
-        process = self.start(told, 'serve', room, address, '--connections', 1, *words)
+        process = self.start(switches, 'serve', room, address, '--connections', 1, *words)
         with process:
             if process.stdout.readline() == b'serving\n':
                 with contextlib.suppress(OSError):
@@ -108,19 +123,17 @@ class Preloaded:
         return answers, process.returncode, err
 
     def total(self):
-        """How many calls the last program saw that came to its end."""
+        """How many calls the last program counted that came to its end."""
         return int(self.counted.read_text())
 
 
 class PreloadedTestCase(TestCase):
-    """A test case over the program with the library of LIBRARY, and files in memory."""
-
-    LIBRARY = ''
+    """A test case over the program with the library, and files in memory."""
 
     @classmethod
     def setUpClass(cls):
         folder = cls.enterClassContext(tempfile.TemporaryDirectory(dir=IN_MEMORY))
-        cls.program = Preloaded(pathlib.Path(folder), cls.LIBRARY)
+        cls.program = Preloaded(pathlib.Path(folder))
 
     def setUp(self):
         folder = self.enterContext(tempfile.TemporaryDirectory(dir=IN_MEMORY))

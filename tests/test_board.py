@@ -2,26 +2,17 @@
 and what it tells of a peer that is silent, drips, refuses or talks no HTTP."""
 # needs: python3 sqlite3
 # builds: dispatch_room
-import contextlib
 import os
 import pty
 import re
-import socket
 import subprocess
-import threading
 import time
 
+from boards import DATE, EMPTY, PATHS, TITLES, UNHEARD, UNHURRIED, answer, peer, told_alike
 from room import PROGRAM, TestCase, ask, call, dump, free_port, made, message, run, serving
 
 FLEET = ['A1,1,1,TQ303804,crewofa1', 'A3,1,1,TQ300801,crewofa3', 'C1,1,2,TQ300800,crewofc1']
-PATHS = ['/queue', '/incidents', '/vehicles', '/points', '/offers', '/loans']
-TITLES = ['Queue', 'Incidents', 'Vehicles', 'Points', 'Offers', 'Loans']
-UNHEARD = 'not reached: no whole answer came'
 FOREIGN = 'not reached: what came is no answer of a room'
-NOTHING = 'Room at no moment: nothing was heard'
-DATE = 'Date: Wed, 25 Nov 2026 06:40:00 GMT\r\n'
-# A board waits so long where a busy machine keeps a test waiting.
-UNHURRIED = ['--patience', '60']
 # The last moment of a room: a shift or a loan with this end is not over while a test waits.
 LAST = 4102444799
 
@@ -34,48 +25,9 @@ def requests(token, *paths):
     return ''.join(f'GET {path}{fields}{more}\r\n' for path, more in zip(paths, close)).encode()
 
 
-def answer(content, status='200 OK', date=DATE):
-    return (f'HTTP/1.1 {status}\r\n{date}Content-Type: application/json\r\n'
-            f'Content-Length: {len(content)}\r\n\r\n{content}').encode()
-
-
-EMPTY = [answer(f'{{"{path[1:]}":[]}}') for path in PATHS]
-
-
-@contextlib.contextmanager
-def peer(speak):
-    """Something that listens, takes one connection and speaks to it; gives its address, and the
-    bytes that it was sent before it spoke."""
-    heard = []
-    with socket.create_server(('127.0.0.1', free_port())) as listener:
-        def serve():
-            with contextlib.suppress(OSError):
-                stream, _ = listener.accept()
-                with stream:
-                    stream.settimeout(60)
-                    heard.append(b'')
-                    while not heard[0].endswith(b'Connection: close\r\n\r\n'):
-                        piece = stream.recv(65536)
-                        if not piece:
-                            return
-                        heard[0] += piece
-                    speak(stream)
-        thread = threading.Thread(target=serve, daemon=True)
-        thread.start()
-        try:
-            yield f'127.0.0.1:{listener.getsockname()[1]}', heard
-        finally:
-            listener.shutdown(socket.SHUT_RDWR)  # where nobody has called, it is waited no more
-
-
 def board(address, *words, token='deskone1'):
     """A board, which is patient where nothing is told."""
     return run('board', address, token, *words, *([] if '--patience' in words else UNHURRIED))
-
-
-def told_alike(told, first=NOTHING):
-    """The board of which no table could be shown, each for the same reason."""
-    return ''.join([f'{first}\n', *(f'\n{title}: {told}\n' for title in TITLES)])
 
 
 def steady(text):

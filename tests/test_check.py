@@ -6,8 +6,8 @@ import pathlib
 import shutil
 import tempfile
 
+from broken_rooms import BROKEN, WORK, WRONG
 from room import FLEET, TestCase, drop_indexes, dump, made, run, sql
-from test_hostile import BROKEN, WORK, WRONG
 
 # The room of WORK, counted by hand: the plan of the example, and the five vehicles of its fleet.
 HEALTHY = """\

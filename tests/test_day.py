@@ -3,21 +3,10 @@ it is the one that docs/OPERATING.md shows. Moments and ages are told as T, minu
 M, the day as DAY."""
 # needs: curl
 # builds: dispatch_room
-import re
 import subprocess
 
+from documents import told
 from room import TOP, TestCase
-
-
-def told(line, folder):
-    """A line of the day, without what differs from one day to the next."""
-    line = re.sub('[0-9]{10}', 'T', line)
-    line = line.replace(str(folder), 'FOLDER')
-    line = re.sub('[0-9]{4}-[0-9]{2}-[0-9]{2}', 'DAY', line, count=1)
-    line = re.sub('^Room at .*', 'Room at T', line)
-    line = re.sub('[0-9]+:[0-9]{2}:[0-9]{2}', lambda it: 'T'.rjust(len(it[0])), line)
-    line = re.sub('^( .*) [0-9]{2}$', r'\1  M', line)
-    return re.sub('^1,T,[0-9]+$', '1,T,SECONDS', line)
 
 
 def block(lines, first, ends):

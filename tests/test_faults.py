@@ -7,81 +7,25 @@ room that is told to be created stands."""
 # builds: dispatch_room
 import contextlib
 import errno
-import re
 import subprocess
 
-from preloaded import COUNTING, EVERY, PreloadedTestCase
-from room import PATIENT, PLAN, ask, call, dump, free_port, made, run
+from preloaded import LAST, SERVING, PreloadedTestCase, faults, sampled
+from room import PATIENT, PLAN, ask, call, free_port, made, rows_of, run
 
-# What is preloaded into the program.
-FAILING = COUNTING + r"""
-// Lets the calls that read or change a file fail with ERROR from number FIRST to number LAST,
-// counted from 1; where SERVING is set, from the one after the program has said that it serves.
-#include <string.h>
-
-static int serves;
-
-ssize_t write(int file, const void *bytes, size_t size) {
-  serves |= file == STDOUT_FILENO && size == 8 && memcmp(bytes, "serving\n", 8) == 0;
-  return NEXT(write)(file, bytes, size);
-}
-
-static int fails(void) {
-  if (getenv("SERVING") != NULL && !serves) return 0;
-  counted++;
-  if (counted < atol(getenv("FIRST")) || counted > atol(getenv("LAST"))) return 0;
-  errno = atoi(getenv("ERROR"));
-  return 1;
-}
-
-ssize_t pread(int file, void *bytes, size_t size, off_t at) {
-  return fails() ? -1 : NEXT(pread)(file, bytes, size, at);
-}
-
-ssize_t pwrite(int file, const void *bytes, size_t size, off_t at) {
-  return fails() ? -1 : NEXT(pwrite)(file, bytes, size, at);
-}
-
-int ftruncate(int file, off_t size) { return fails() ? -1 : NEXT(ftruncate)(file, size); }
-
-int fsync(int file) { return fails() ? -1 : NEXT(fsync)(file); }
-
-int fdatasync(int file) { return fails() ? -1 : NEXT(fdatasync)(file); }
-"""
-
-MANY = 40  # so many calls fail in turn; with --all each of them
-LAST = 10 ** 9  # no program makes so many calls
 FEW, MOST = 3, 6  # so many connections come to a service that is without end
-
-
-def failing(first, last, error=errno.EIO):
-    """What the library is told: the first and the last call that fails, and how."""
-    return {'FIRST': first, 'LAST': last, 'ERROR': error}
-
-
-SERVING = {'SERVING': 1}  # calls are counted from then on
-
-
-NEVER = failing(0, 0)
+NEVER = faults(0, 0)
 ANSWERED = [(200, '{"division":1,"incident":1,"linked":false}')]
 CREATED = b'created: divisions 2, areas 2, terminals 3\n'
 FAILED = [(503, '{"error":"Storage","number":42}')]
 
 
-def rows_of(room):
-    """All that the file holds, but for the moments of today."""
-    return re.sub(r'\b\d{10}\b', 'MOMENT', dump(room))
-
-
 class Faults(PreloadedTestCase):
-    LIBRARY = FAILING
-
-    def served(self, told, room, connections=2):
+    def served(self, switches, room, connections=2):
         """Serves a room to connections that send one call; the answers of each, the status, and what
         was told."""
         port, answers = free_port(), []
         words = ['serve', room, f'127.0.0.1:{port}', '--connections', connections, *PATIENT]
-        with self.program.start(told, *words) as process:
+        with self.program.start(switches, *words) as process:
             if process.stdout.readline() == b'serving\n':
                 for _ in range(connections):
                     with contextlib.suppress(OSError):
@@ -100,7 +44,7 @@ class Faults(PreloadedTestCase):
         total, met = self.program.total(), set()
         for first in range(1, total + 1):
             file = self.fresh()
-            end = self.program.run(failing(first, LAST), 'init', file, PLAN)
+            end = self.program.run(faults(first, LAST), 'init', file, PLAN)
             with self.subTest(f'init, from {first} on'):
                 self.assertIn(end, ends)
             if end[1]:
@@ -115,10 +59,10 @@ class Faults(PreloadedTestCase):
         self.check('a call', self.served(NEVER, file), wanted)
         after, total = rows_of(file), self.program.total()
         ended = 0
-        for first in sorted({*range(1, total + 1, 1 if EVERY else 1 + total // MANY), total}):
+        for first in sampled(total):
             for last, name in ((first, f'where {first} fails'), (LAST, f'from {first} on')):
                 file = self.fresh(room)
-                answers, status, err = self.served(failing(first, last), file)
+                answers, status, err = self.served(faults(first, last), file)
                 with self.subTest(f'a call, {name}: how it ends'):
                     self.assertIn((status, err), [(0, b''), (3, b'storage\n')])
                 ended += status == 3 and answers[:1] == [FAILED]
@@ -133,12 +77,13 @@ class Faults(PreloadedTestCase):
                 self.check(f'a call, {name}, then the call: the room', rows_of(file), after)
         self.check('a fault has ended the room', ended > 0, True)
 
-    def served_on(self, told, room):
+    def served_on(self, switches, room):
         """Serves a room to whoever comes, without end: to connections that send one and the same
         call, until it answers no more, or has answered a few of them and last none with 42. The
         answers, the status (none where it is served on), and what was told."""
         port, answers = free_port(), []
-        with self.program.start(told, 'serve', room, f'127.0.0.1:{port}', *PATIENT) as process:
+        words = ['serve', room, f'127.0.0.1:{port}', *PATIENT]
+        with self.program.start(switches, *words) as process:
             is_served = process.stdout.readline() == b'serving\n'
             while is_served and len(answers) < (MOST if answers[-1:] == [FAILED] else FEW):
                 answer = None
@@ -166,8 +111,8 @@ class Faults(PreloadedTestCase):
             for error in (errno.EIO, errno.ENOSPC):
                 name = f'a service, where {first} fails with {errno.errorcode[error]}'
                 file = self.fresh(room)
-                told = failing(first, first, error) | SERVING
-                answers, status, err = self.served_on(told, file)
+                switches = faults(first, first, error) | SERVING
+                answers, status, err = self.served_on(switches, file)
                 ended += status == 3 and FAILED in answers
                 with self.subTest(f'{name}: how it goes on'):
                     self.assertIn((status, err), [(None, b''), (3, b'storage\n')])

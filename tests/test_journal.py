@@ -12,10 +12,10 @@ import subprocess
 import sys
 import time
 
-from preloaded import COUNTING, PreloadedTestCase
-from room import (FLEET, PATIENT, PLAN, PROGRAM, TOP, TestCase, call, dump, free_port, made,
-                  message, read_dated, run, serving, sql, talk)
-from test_stops import EVERY, MANY, NEVER, STOPPING, stop
+from preloaded import (BEFORE, HALFWAY, MACHINE, NEVER_STOPPED, WRITES, PreloadedTestCase, sampled,
+                       stop, sync_fault)
+from room import (PATIENT, PROGRAM, TOP, TestCase, call, dump, free_port, made, message,
+                  read_dated, run, serving, sql, talk)
 
 sys.path += [str(TOP / 'bench' / 'crossings'), str(TOP / 'examples' / 'three')]
 
@@ -400,38 +400,21 @@ class Day(TestCase):
                        sql(self.folder / 'room.db', f'SELECT * FROM {table}'))
 
 
-# What the library counts more: writes to a file that are no changes of the room, but its journal.
-WRITING = STOPPING + r"""
-ssize_t write(int file, const void *bytes, size_t size) {
-  struct stat now;
-  if (fstat(file, &now) == 0 && S_ISREG(now.st_mode)) {
-    if (stops()) {
-      if (how() == 1) NEXT(write)(file, bytes, size / 2);
-      _exit(9);
-    }
-  }
-  return NEXT(write)(file, bytes, size);
-}
-"""
-
-
 class Stopped(PreloadedTestCase):
     """Wherever the program or the machine stops, the copy and the journal give the room that the
     next start finds."""
 
-    LIBRARY = WRITING
-
     def stopped(self, what, before, sent):
         file, listed = self.fresh(before), self.folder / 'case' / 'room.list'
         words = '--journal', listed, '--journal-sync', 'always'
-        self.program.serve(NEVER, file, sent, *words)
+        self.program.serve(NEVER_STOPPED | WRITES, file, sent, *words)
         total = self.program.total()
-        for at in sorted({*range(1, total + 1, 1 if EVERY else 1 + total // MANY), total}):
-            for how in range(3):
+        for at in sampled(total):
+            for how in (BEFORE, HALFWAY, MACHINE):
                 with self.subTest(f'{what}, stopped at {at}, {how}'):
                     file = self.fresh(before)
-                    self.program.serve(stop(at, how), file, sent, *words)
-                    _, status, told = self.program.serve(NEVER, file, QUEUE, *words)
+                    self.program.serve(stop(at, how) | WRITES, file, sent, *words)
+                    _, status, told = self.program.serve({}, file, QUEUE, *words)
                     self.assertEqual(status, 0, told)
                     copy = shutil.copy(before, self.folder / 'copy.db')
                     status, _, err = replay(copy, listed.read_bytes())
@@ -447,35 +430,9 @@ class Stopped(PreloadedTestCase):
         self.stopped('an order', before, MOBILISE)
 
 
-# What is preloaded where the list can't be made to last.
-SYNCING = COUNTING + r"""
-// Counts the syncs of the file or folder whose path is SYNCED, and lets that of number FAILS fail,
-// counted from 1.
-#include <string.h>
-
-static int fails(int file) {
-  char link[64], path[4096];
-  snprintf(link, sizeof link, "/proc/self/fd/%d", file);
-  ssize_t size = readlink(link, path, sizeof path - 1);
-  if (size < 0) abort();
-  path[size] = 0;
-  if (strcmp(path, getenv("SYNCED")) != 0) return 0;
-  if (++counted != atol(getenv("FAILS"))) return 0;
-  errno = EIO;
-  return 1;
-}
-
-int fsync(int file) { return fails(file) ? -1 : NEXT(fsync)(file); }
-
-int fdatasync(int file) { return fails(file) ? -1 : NEXT(fdatasync)(file); }
-"""
-
-
 class Unsynced(PreloadedTestCase):
     """What a start and a message make last. Where a list could not be made to last, what was
     answered is kept in it and in the room, the program ends, and the next start serves."""
-
-    LIBRARY = SYNCING
 
     def setUp(self):
         super().setUp()
@@ -485,8 +442,8 @@ class Unsynced(PreloadedTestCase):
 
     def served(self, sent, *words, fails=0, synced=None):
         """Serves the room to one connection; the answers, the status, and what was told."""
-        told = {'SYNCED': synced or self.list, 'FAILS': fails}
-        return self.program.serve(told, self.file, sent, '--journal', self.list, *words)
+        switches = sync_fault(fails, synced or self.list)
+        return self.program.serve(switches, self.file, sent, '--journal', self.list, *words)
 
     def anew(self):
         """A room and no list yet."""

@@ -1,11 +1,7 @@
 """Each link in README.md and docs/ leads to a file that is there, and one to a line to the
 function, the clause or the field that it names."""
-import re
-
+from documents import LINK
 from room import TOP, TestCase
-
-LINK = re.compile(r'\[([^\]]+)\]\(([^)#\s]+)(?:#L(\d+))?\)')
-
 
 class Links(TestCase):
     def test_links(self):

@@ -8,80 +8,12 @@ again."""
 import bisect
 import re
 
+from boards import EMPTY, UNHEARD, UNHURRIED, peer, told_alike
 from first_version import all_rows, old_room
-from preloaded import EVERY, PreloadedTestCase
-from room import FLEET, PATIENT, PLAN, call, dump, free_port, made, message, run, sql, talk
-from test_board import EMPTY, UNHEARD, UNHURRIED, peer, told_alike
-from test_rows import ROWS, answers, messages
-
-# What is preloaded into the program.
-REFUSING = r"""
-// Refuses the allocations from number FIRST to number LAST, counted from 1, and tells in the file
-// COUNTED how many there were.
-#define _GNU_SOURCE
-#include <dlfcn.h>
-#include <errno.h>
-#include <stdio.h>
-#include <stdlib.h>
-
-static long counted, first, last = -1;
-
-__attribute__((constructor)) static void begin(void) {
-  counted = 0;
-  first = atol(getenv("FIRST"));
-  last = atol(getenv("LAST"));
-}
-
-__attribute__((destructor)) static void end(void) {
-  long count = counted;
-  last = -1;
-  FILE *file = fopen(getenv("COUNTED"), "w");
-  if (file == NULL) return;
-  fprintf(file, "%ld\n", count);
-  fclose(file);
-}
-
-static int is_refused(void) {
-  ++counted;
-  if (counted < first || counted > last) return 0;
-  errno = ENOMEM;
-  return 1;
-}
-
-#define NEXT(name) ((__typeof__(&name))dlsym(RTLD_NEXT, #name))
-
-void *malloc(size_t size) { return is_refused() ? NULL : NEXT(malloc)(size); }
-void *realloc(void *old, size_t size) { return is_refused() ? NULL : NEXT(realloc)(old, size); }
-void *aligned_alloc(size_t align, size_t size) {
-  return is_refused() ? NULL : NEXT(aligned_alloc)(align, size);
-}
-int posix_memalign(void **out, size_t align, size_t size) {
-  return is_refused() ? ENOMEM : NEXT(posix_memalign)(out, align, size);
-}
-"""
-
-# What is preloaded into a room that is served at the moments of a script.
-AT_A_MOMENT = REFUSING + r"""
-// Sets the clock of the day to the moment that stands in the file MOMENT.
-#include <fcntl.h>
-#include <time.h>
-#include <unistd.h>
-
-int clock_gettime(clockid_t clock, struct timespec *time) {
-  if (clock != CLOCK_REALTIME) return NEXT(clock_gettime)(clock, time);
-  char text[16] = "";
-  int file = open(getenv("MOMENT"), O_RDONLY);
-  ssize_t count = read(file, text, sizeof text - 1);
-  close(file);
-  if (count <= 0) {
-    errno = EINVAL;
-    return -1;
-  }
-  time->tv_sec = atol(text);
-  time->tv_nsec = 0;
-  return 0;
-}
-"""
+from preloaded import EVERY, LAST, PreloadedTestCase, clock_of, refusals
+from room import (FLEET, PATIENT, PLAN, call, dump, free_port, made, message, rows_of, run, sql,
+                  talk)
+from scripts import ROWS, answers, messages
 
 # How the program ends where it wants memory, and its last answer then.
 NO_MEMORY = (5, b'', b'memory\n')
@@ -89,16 +21,9 @@ WANT = (b'HTTP/1.1 503 Service Unavailable\r\nContent-Type: application/json\r\n
         b'Content-Length: 30\r\nConnection: close\r\n\r\n'
         b'{"error":"Memory","number":41}')
 
-LAST = 10 ** 9  # no program makes so many allocations
 
 
-def without(first, last):
-    """What the library is told: the first and the last allocation that the program does not
-    get."""
-    return {'FIRST': first, 'LAST': last}
-
-
-NOTHING = without(0, 0)
+NOTHING = refusals(0, 0)
 
 # ---- the dry run
 
@@ -152,11 +77,6 @@ ENDS = [CALLED, (ANSWERED, 5, b'memory\n'), (WANTING, 0, b''), (WANTING, 5, b'me
         (WANTING, 3, b'storage\n'), ([], 5, b'memory\n')]
 
 
-def rows_of(room):
-    """All that the file holds, but for the moments of today."""
-    return re.sub(r'\b\d{10}\b', 'MOMENT', dump(room))
-
-
 class MemoryTestCase(PreloadedTestCase):
     """A test case that refuses allocations in turn."""
 
@@ -173,14 +93,12 @@ class MemoryTestCase(PreloadedTestCase):
 
 
 class Memory(MemoryTestCase):
-    LIBRARY = REFUSING
-
     def each(self, most):
         """What is refused in turn, each allocation alone and with all that follow it; beside it,
         its name."""
         for number in self.numbers(most):
-            yield without(number, number), f'allocation {number}'
-            yield without(number, LAST), f'allocation {number} and all after it'
+            yield refusals(number, number), f'allocation {number}'
+            yield refusals(number, LAST), f'allocation {number} and all after it'
 
     def test_dry_run(self):
         stream = b''.join(DRY_RUN)
@@ -199,7 +117,7 @@ class Memory(MemoryTestCase):
         def end_before(number):
             """Which of the ends it is, where so many allocations are refused and all after them:
             the later, the more is answered."""
-            return ends.index(self.program.run(without(number, LAST), given=stream))
+            return ends.index(self.program.run(refusals(number, LAST), given=stream))
 
         met = [bisect.bisect_left(numbers, place, key=end_before) for place in range(len(ends) - 1)]
         self.check('memory is wanted before and at each answer',
@@ -338,7 +256,7 @@ class Memory(MemoryTestCase):
         self.check('a call that is logged', logged(NOTHING), (line, CALLED))
         last, lines = self.program.total(), set()
         for number in range(last - 40, last + 1):
-            told, done = logged(without(number, number))
+            told, done = logged(refusals(number, number))
             with self.subTest(f'a call that is logged without allocation {number}'):
                 self.assertIn(done, ENDS)
             if done == CALLED:
@@ -353,8 +271,6 @@ def is_want(answer):
 
 class Again(MemoryTestCase):
     """One room in one process, after a request that was refused for memory."""
-
-    LIBRARY = AT_A_MOMENT
 
     def setUp(self):
         super().setUp()
@@ -377,7 +293,7 @@ class Again(MemoryTestCase):
         gives the answers, those that are refused for memory too, and how the room ended."""
         port, got = free_port(), []
         words = 'serve', file, f'127.0.0.1:{port}', '--connections', len(left) + spare, *PATIENT
-        with self.program.start(refused | {'MOMENT': self.moment}, *words) as process:
+        with self.program.start(refused | clock_of(self.moment), *words) as process:
             answer = process.stdout.readline() == b'serving\n'
             while answer and left:
                 answer = self.talk_to(port, left[0])
@@ -409,7 +325,7 @@ class Again(MemoryTestCase):
         for number in self.numbers(60):
             what = f'{name} without allocation {number}'
             file, left = self.fresh(self.room), list(asked)
-            got, end = self.serve(without(number, number), file, left, spare=1)
+            got, end = self.serve(refusals(number, number), file, left, spare=1)
             went_on += not left and any(map(is_want, got))
             if left:
                 with self.subTest(f'{what}: how it ends'):

@@ -5,10 +5,10 @@ rows, and the room goes on as it was. What is no room of version 1 is told and s
 import json
 import shutil
 
+from broken_rooms import BROKEN, WORK, WRONG
 from first_version import DAY, NEW, all_rows, killed_room, old_room, opened, rows_after
 from room import FLEET, PLAN, TestCase, ask, dump, made, message, run, serving, sql
-from test_hostile import BROKEN, WORK, WRONG
-from test_tables import INDEX_QUERY, INDEXES, TABLES, columns_of, lines
+from schema import INDEX_QUERY, INDEXES, TABLES, columns_of, lines
 
 MIGRATED = (0, 'migrated\n', '')
 NOT_OLD = (1, '', 'refused: version\n')

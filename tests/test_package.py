@@ -10,9 +10,8 @@ import shutil
 import subprocess
 import tempfile
 
+from documents import LINK, told
 from room import TOP, TestCase, free_port
-from test_day import told
-from test_links import LINK
 
 DOCUMENTS = 'usr/share/doc/dispatch-room'
 UNIT = 'usr/lib/systemd/system/dispatch-room.service'

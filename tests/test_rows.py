@@ -1,75 +1,15 @@
 """Plays the scripts of tests/rows to a room of the example's plan and fleet, and compares its
-answers.
-
-A message of a script is a line MOMENT TOKEN METHOD PATH [BODY]; where the token is '-', none is
-shown. The line after it says what is wanted: '= STATUS CONTENT' exactly, '~ STATUS TEXT' where the
-content has this text in it, or '^ STATUS' where the answer is the head of the one before, and no
-content. All messages of a script go over one connection, each at its moment. Of two scripts
-NAME.one.rows and NAME.two.rows the answers to desk 1 have the same bytes.
-"""
+answers. All messages of a script go over one connection, each at its moment. Of two scripts
+NAME.one.rows and NAME.two.rows the answers to desk 1 have the same bytes."""
 # needs: python3 gcc libc6-dev
 # builds: dispatch_room
-import collections
+from preloaded import PreloadedTestCase, clock
+from room import FLEET, PLAN, run, talk
+from scripts import ROWS, answers, messages
 
-from preloaded import CLOCK, PreloadedTestCase
-from room import FLEET, PLAN, TOP, run, talk
-
-ROWS = TOP / 'tests' / 'rows'
 DESK_1 = 'deskone1'
 
-Answer = collections.namedtuple('Answer', 'head content')
-
-
-class Message:
-    """A message of a script, and what is wanted of its answer."""
-
-    def __init__(self, line, wanted):
-        self.line, self.wanted = line, wanted
-        self.moment, self.token, self.method, self.path, *body = line.split(' ', 4)
-        self.body = body[0] if body else ''
-        self.sign, self.status, *content = wanted.split(' ', 2)
-        self.content = content[0] if content else ''
-        assert self.sign in '=~^', f'{line}: no answer is wanted of it'
-
-    def text(self):
-        head = f'{self.method} {self.path} HTTP/1.1\r\nHost: room\r\n'
-        if self.token != '-':
-            head += f'X-Terminal: {self.token}\r\n'
-        if self.body or self.method == 'POST':
-            head += f'Content-Length: {len(self.body)}\r\n'
-        return head + '\r\n' + self.body
-
-    def fits(self, got, before):
-        """Whether an answer, with the one before, is as wanted."""
-        if got.head.split(' ')[1] != self.status:
-            return False
-        if self.sign == '^':
-            return before is not None and got.head == before.head and got.content == ''
-        return got.content == self.content if self.sign == '=' else self.content in got.content
-
-
-def messages(path):
-    lines = [it for it in path.read_text().splitlines() if it and not it.startswith('#')]
-    assert len(lines) % 2 == 0, f'{path.name}: a message without an answer'
-    return [Message(line, wanted) for line, wanted in zip(lines[::2], lines[1::2])]
-
-
-def answers(stream, asked):
-    """The answers in a stream to these messages; those to HEAD have no content."""
-    found = []
-    while stream:
-        head, _, stream = stream.partition('\r\n\r\n')
-        fields = dict(line.split(': ', 1) for line in head.split('\r\n')[1:])
-        is_head = len(found) < len(asked) and asked[len(found)].method == 'HEAD'
-        length = 0 if is_head else int(fields['Content-Length'])
-        found.append(Answer(head, stream[:length]))
-        stream = stream[length:]
-    return found
-
-
 class Rows(PreloadedTestCase):
-    LIBRARY = CLOCK
-
     def setUp(self):
         super().setUp()
         self.room = self.folder / 'example.db'
@@ -79,9 +19,9 @@ class Rows(PreloadedTestCase):
     def play(self, asked):
         """How the talk of a script ended and what was told of it, and the answers to its
         messages."""
-        told = {'MOMENTS': ' '.join(it.moment for it in asked)}
+        switches = clock(it.moment for it in asked)
         sent = ''.join(it.text() for it in asked).encode()
-        got, status, said = self.program.serve(told, self.fresh(self.room), sent, ask=talk)
+        got, status, said = self.program.serve(switches, self.fresh(self.room), sent, ask=talk)
         return (status, said.decode()), answers(got.decode(), asked)
 
     def test_scripts(self):

@@ -4,116 +4,23 @@ finds the room from before or the room from after what was stopped, and the one 
 had answered; and what was stopped then ends well."""
 # needs: python3 gcc libc6-dev sqlite3
 # builds: dispatch_room
-import re
 import time
 
 from first_version import DAY, old_room
-from preloaded import COUNTING, EVERY, PreloadedTestCase
-from room import PLAN, ask, call, drop_indexes, dump, fleet_of, made, message, run, serving
-
-# What is preloaded into the program.
-STOPPING = COUNTING + r"""
-// Ends the program at the call that changes a file whose number is STOP, counted from 1: before it,
-// where HOW is 0, or with half of what it writes, where it is 1. Where it is 2 the machine stops
-// too, so that what was not synced is lost.
-
-// What a file held before a change that is not synced.
-struct change {
-  struct change *before;
-  int file;
-  off_t at, length;
-  ssize_t size;
-  char bytes[];
-};
-
-static struct change *unsynced;
-
-static int how(void) { return atoi(getenv("HOW")); }
-
-static void note(int file, off_t at, size_t size) {
-  struct stat now;
-  struct change *change = malloc(sizeof *change + size);
-  if (change == NULL || fstat(file, &now) != 0) abort();
-  ssize_t got = pread(file, change->bytes, size, at);
-  *change = (struct change){unsynced, file, at, now.st_size, got < 0 ? 0 : got};
-  unsynced = change;
-}
-
-static void synced(int file) {
-  for (struct change **it = &unsynced; *it != NULL;) {
-    struct change *change = *it;
-    if (change->file == file) {
-      *it = change->before;
-      free(change);
-    } else {
-      it = &change->before;
-    }
-  }
-}
-
-static void lose(void) {
-  for (struct change *it = unsynced; it != NULL; it = it->before) {
-    if (NEXT(pwrite)(it->file, it->bytes, it->size, it->at) != it->size) abort();
-    if (NEXT(ftruncate)(it->file, it->length) != 0) abort();
-  }
-}
-
-// Whether the program ends at this call.
-static int stops(void) {
-  if (++counted != atol(getenv("STOP"))) return 0;
-  if (how() == 2) lose();
-  return 1;
-}
-
-ssize_t pwrite(int file, const void *bytes, size_t size, off_t at) {
-  if (stops()) {
-    if (how() == 1) NEXT(pwrite)(file, bytes, size / 2, at);
-    _exit(9);
-  }
-  note(file, at, size);
-  return NEXT(pwrite)(file, bytes, size, at);
-}
-
-int ftruncate(int file, off_t size) {
-  if (stops()) _exit(9);
-  struct stat now;
-  note(file, size, fstat(file, &now) == 0 && now.st_size > size ? now.st_size - size : 0);
-  return NEXT(ftruncate)(file, size);
-}
-
-int fsync(int file) {
-  if (stops()) _exit(9);
-  synced(file);
-  return NEXT(fsync)(file);
-}
-
-int fdatasync(int file) {
-  if (stops()) _exit(9);
-  synced(file);
-  return NEXT(fdatasync)(file);
-}
-"""
+from preloaded import BEFORE, HALFWAY, MACHINE, NEVER_STOPPED, PreloadedTestCase, sampled, stop
+from room import PLAN, ask, call, drop_indexes, fleet_of, made, message, rows_of, run, serving
 
 STOPPED = 9
-MANY = 40  # so many calls are stopped of one deed, or half as many more; with --all each of them
-LOST = 2
-HOW = {'stopped at': 0, 'stopped in the middle of': 1, 'stopped with the machine at': LOST}
+HOW = {'stopped at': BEFORE, 'stopped in the middle of': HALFWAY,
+       'stopped with the machine at': MACHINE}
 
-
-def stop(at, how=0):
-    """What the library is told: the number of the call to stop at, and how."""
-    return {'STOP': at, 'HOW': how}
-
-
-NEVER = stop(0)
-
-# ---- deeds: each takes the program, what the library is told and a file, and gives the answer, or
+# ---- deeds: each takes the program, the library's switches and a file, and gives the answer, or
 # None where there was none
 
 
 def command(*words):
-    def deed(program, told, file):
-        status, out, err = program.run(told, words[0], file, *words[1:])
+    def deed(program, switches, file):
+        status, out, err = program.run(switches, words[0], file, *words[1:])
         return (out, err) if status != STOPPED else None
 
     return deed
@@ -122,8 +29,8 @@ def command(*words):
 def request(sent):
     """A message to a room that is served."""
 
-    def deed(program, told, file):
-        answers, *_ = program.serve(told, file, sent)
+    def deed(program, switches, file):
+        answers, *_ = program.serve(switches, file, sent)
         return answers[0] if answers else None
 
     return deed
@@ -145,16 +52,14 @@ MERGE = message('deskone1', 'POST /incidents/2/merge', '{"into":1}')
 
 
 class Stops(PreloadedTestCase):
-    LIBRARY = STOPPING
-
     def each(self):
         """The stops to try, the last one too, once a run without one has told how many calls there
-        are. Beside each its name."""
+        are. Beside each its name, and how it is."""
         total = self.program.total()
         self.check('files are changed', total > 0, True)
-        for at in sorted({*range(1, total + 1, 1 if EVERY else 1 + total // MANY), total}):
+        for at in sampled(total):
             for words, how in HOW.items():
-                yield stop(at, how), f'{words} {at}'
+                yield stop(at, how), f'{words} {at}', how
 
     def room(self, *messages):
         """A room with a vehicle that took messages, one after another."""
@@ -174,30 +79,30 @@ class Stops(PreloadedTestCase):
             return None
         with self.subTest('a room is found'):
             self.assertIn((status, told), [(0, ''), (1, 'refused: version\n')])
-        return re.sub(r'\b\d{10}\b', 'MOMENT', dump(file))
+        return rows_of(file)
 
     def stop_everywhere(self, what, room, deed, between=()):
         """Stops a deed at each call, and looks at what is found; rooms between that before and
         that after may be, too."""
         file = self.fresh(room)
         before = self.found(file) if room else None
-        answer = deed(self.program, NEVER, file)
+        answer = deed(self.program, NEVER_STOPPED, file)
         after = self.found(file)
         self.check(f'{what} changes the room', before != after, True)
         met = []
-        deed(self.program, NEVER, self.fresh(room))
-        for told, name in self.each():
+        deed(self.program, NEVER_STOPPED, self.fresh(room))
+        for switches, name, how in self.each():
             file = self.fresh(room)
-            answered = deed(self.program, told, file)
+            answered = deed(self.program, switches, file)
             now = self.found(file)
             with self.subTest(f'{what}, {name}'):
                 self.assertIn(now, [before, *between, after])
             with self.subTest(f'{what}, {name}: its answer'):
                 self.assertIn((answered, now), [(answer, after), (None, now)])
-            if told['HOW'] != LOST:
+            if how != MACHINE:
                 met.append(now)
             if now != after or room:
-                deed(self.program, NEVER, file)
+                deed(self.program, NEVER_STOPPED, file)
             self.check(f'{what}, {name} and done again', self.found(file), after)
         self.check(f'{what} was stopped before anything was kept, and after all was',
                    (met[0], met[-1]), (before, after))
@@ -243,10 +148,10 @@ class Stops(PreloadedTestCase):
         room, deed = self.room(), command('times', 1, '2026-03-29')
         drop_indexes(room)
         wanted = self.found(self.fresh(room))
-        answer = deed(self.program, NEVER, self.fresh(room))
+        answer = deed(self.program, NEVER_STOPPED, self.fresh(room))
         self.check('it is opened', answer, (b'incident,opened,activation\n', b''))
-        for told, name in self.each():
+        for switches, name, _ in self.each():
             file = self.fresh(room)
             with self.subTest(f'an opening, {name}: its answer'):
-                self.assertIn(deed(self.program, told, file), [None, answer])
+                self.assertIn(deed(self.program, switches, file), [None, answer])
             self.check(f'an opening, {name}', self.found(file), wanted)

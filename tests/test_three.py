@@ -25,9 +25,9 @@ import threading
 import time
 
 from preloaded import EVERY
+from refused_streams import REFUSALS
 from room import (PROGRAM, TOP, TestCase, dump, fleet_of, free_port, message, read_answer, run,
                   serving)
-from test_examples import REFUSALS
 
 sys.path.insert(0, str(TOP / 'examples' / 'three'))
 import digest  # noqa: E402

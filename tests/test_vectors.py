@@ -14,7 +14,7 @@ import socket
 import subprocess
 import threading
 
-from preloaded import CLOCK, PreloadedTestCase
+from preloaded import PreloadedTestCase, clock
 from room import (CLOSE, CUT, PATIENT, PROGRAM, TOP, WELL, TestCase, answer, ask, call, dry_run,
                   dump, free_port, made, message, refusal, run, serving, sql, talk)
 
@@ -350,8 +350,6 @@ MOMENTS = {
 
 
 class Moments(PreloadedTestCase):
-    LIBRARY = CLOCK
-
     def test_moments(self):
         """Where the clock gives no moment of the room, nothing is answered and the connection
         ends."""
@@ -360,7 +358,7 @@ class Moments(PreloadedTestCase):
             wanted = ''.join(re.sub('Date: .*?\r', f'Date: {date}\r', told) for date in dates)
             with self.subTest(moments):
                 room = made(self.fresh())
-                got = self.program.serve({'MOMENTS': moments}, room,
+                got = self.program.serve(clock(moments.split()), room,
                                          message('deskone1', 'GET /queue') * 2, ask=talk)
                 self.assertEqual(got, (wanted.encode(), 0, b''))
 
@@ -451,38 +449,38 @@ class Talks(TestCase):
 
 # Number, status and name, and a file of tests with a request that is refused so.
 REFUSALS = [
-    (1, 404, 'NoSuchIncident', 'test_examples.py'),
-    (2, 409, 'IncidentNotOpen', 'test_examples.py'),
-    (3, 404, 'NoSuchVehicle', 'test_examples.py'),
+    (1, 404, 'NoSuchIncident', 'refused_streams.py'),
+    (2, 409, 'IncidentNotOpen', 'refused_streams.py'),
+    (3, 404, 'NoSuchVehicle', 'refused_streams.py'),
     (4, 409, 'VehicleLent', 'rows/loan-and-recall.rows'),
     (5, 409, 'WrongStatus', 'rows/shifts.rows'),
     (6, 409, 'ShiftOver', 'rows/shifts.rows'),
     (7, 409, 'NotNeeded', 'rows/orders-and-reports.rows'),
     (8, 409, 'BelowServed', 'rows/orders-and-reports.rows'),
     (9, 409, 'StillAssigned', 'rows/orders-and-reports.rows'),
-    (10, 409, 'SameIncident', 'test_examples.py'),
+    (10, 409, 'SameIncident', 'refused_streams.py'),
     (11, 404, 'NoSuchPoint', 'rows/standby-cover.rows'),
     (12, 409, 'NotHome', 'test_vectors.py'),
     (13, 404, 'NoSuchDivision', 'rows/loan-and-recall.rows'),
     (14, 404, 'NoSuchLoan', 'rows/loan-and-recall.rows'),
-    (15, 404, 'NoSuchException', 'test_examples.py'),
-    (16, 409, 'OutsideArea', 'test_examples.py'),
-    (17, 409, 'SerialReused', 'test_examples.py'),
+    (15, 404, 'NoSuchException', 'refused_streams.py'),
+    (16, 409, 'OutsideArea', 'refused_streams.py'),
+    (17, 409, 'SerialReused', 'refused_streams.py'),
     (18, 409, 'NumberReused', 'rows/shifts.rows'),
     (19, 409, 'NumbersUsedUp', 'test_vectors.py'),
     (20, 409, 'CallsignTaken', 'test_program.py'),
     (21, 409, 'TokenTaken', 'test_program.py'),
-    (22, 404, 'NoSuchOffer', 'test_examples.py'),
-    (30, 400, 'BadMessage', 'test_examples.py'),
-    (31, 431, 'HeadTooLong', 'test_examples.py'),
-    (32, 413, 'BodyTooLong', 'test_examples.py'),
-    (33, 417, 'Expectation', 'test_examples.py'),
-    (34, 501, 'Coding', 'test_examples.py'),
-    (36, 404, 'NoPath', 'test_examples.py'),
-    (37, 405, 'WrongMethod', 'test_examples.py'),
-    (38, 403, 'NoTerminal', 'test_examples.py'),
-    (39, 403, 'WrongRole', 'test_examples.py'),
-    (40, 400, 'BadBody', 'test_examples.py'),
+    (22, 404, 'NoSuchOffer', 'refused_streams.py'),
+    (30, 400, 'BadMessage', 'refused_streams.py'),
+    (31, 431, 'HeadTooLong', 'refused_streams.py'),
+    (32, 413, 'BodyTooLong', 'refused_streams.py'),
+    (33, 417, 'Expectation', 'refused_streams.py'),
+    (34, 501, 'Coding', 'refused_streams.py'),
+    (36, 404, 'NoPath', 'refused_streams.py'),
+    (37, 405, 'WrongMethod', 'refused_streams.py'),
+    (38, 403, 'NoTerminal', 'refused_streams.py'),
+    (39, 403, 'WrongRole', 'refused_streams.py'),
+    (40, 400, 'BadBody', 'refused_streams.py'),
     (41, 503, 'Memory', 'test_memory.py'),
     (42, 503, 'Storage', 'test_vectors.py'),
 ]

@@ -1,0 +1,54 @@
+"""What tests of a board share: something that listens in the place of a room, what it says, and
+the board of which no table could be shown."""
+import contextlib
+import socket
+import threading
+
+from room import free_port
+
+PATHS = ['/queue', '/incidents', '/vehicles', '/points', '/offers', '/loans']
+TITLES = ['Queue', 'Incidents', 'Vehicles', 'Points', 'Offers', 'Loans']
+UNHEARD = 'not reached: no whole answer came'
+NOTHING = 'Room at no moment: nothing was heard'
+DATE = 'Date: Wed, 25 Nov 2026 06:40:00 GMT\r\n'
+# A board waits so long where a busy machine keeps a test waiting.
+UNHURRIED = ['--patience', '60']
+
+
+def answer(content, status='200 OK', date=DATE):
+    return (f'HTTP/1.1 {status}\r\n{date}Content-Type: application/json\r\n'
+            f'Content-Length: {len(content)}\r\n\r\n{content}').encode()
+
+
+EMPTY = [answer(f'{{"{path[1:]}":[]}}') for path in PATHS]
+
+
+@contextlib.contextmanager
+def peer(speak):
+    """Something that listens, takes one connection and speaks to it; gives its address, and the
+    bytes that it was sent before it spoke."""
+    heard = []
+    with socket.create_server(('127.0.0.1', free_port())) as listener:
+        def serve():
+            with contextlib.suppress(OSError):
+                stream, _ = listener.accept()
+                with stream:
+                    stream.settimeout(60)
+                    heard.append(b'')
+                    while not heard[0].endswith(b'Connection: close\r\n\r\n'):
+                        piece = stream.recv(65536)
+                        if not piece:
+                            return
+                        heard[0] += piece
+                    speak(stream)
+        thread = threading.Thread(target=serve, daemon=True)
+        thread.start()
+        try:
+            yield f'127.0.0.1:{listener.getsockname()[1]}', heard
+        finally:
+            listener.shutdown(socket.SHUT_RDWR)  # where nobody has called, it is waited no more
+
+
+def told_alike(told, first=NOTHING):
+    """The board of which no table could be shown, each for the same reason."""
+    return ''.join([f'{first}\n', *(f'\n{title}: {told}\n' for title in TITLES)])
