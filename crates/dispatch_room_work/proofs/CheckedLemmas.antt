@@ -8,7 +8,7 @@ use Rattle.sqlite.specs.State.{HasCleanDisk}
 use Rattle.sqlite_trees.specs.declared.store.Store.{Ghosts}
 use Rattle.room_place.specs.Plans.{Layout}
 use Rattle.room_store_check.specs.declared.summaries.Summary.{Summary}
-use Rattle.room_store_examining.specs.Examined.{ExplainsFile, IsSummaryOf}
+use Rattle.room_store_examining.specs.Examined.{ExplainsFile, HasCause, IsSummaryOf}
 use Rattle.room_store_examining.specs.declared.examining.Wrong.{Wrong}
 use Rattle.dispatch_room_endings.specs.declared.endings.Done.{Done}
 use Rattle.dispatch_room_endings.specs.declared.endings.Done.TheVariants.{Whole}
@@ -32,10 +32,11 @@ module _ {S : Type 0} (g : Ghosts S) (old new : Held S) (before after : Option (
 
   pub wrong_told : (wrong : Wrong) (done : Result Done Failure)
       → (HasCleanDisk (state g new) → ExplainsFile (state g old) (state g new) wrong)
+      → (HasCleanDisk (state g new) → HasCause g old new wrong)
       → (done ≡ Err (failure_of wrong)) ⊎ (done ≡ Err Network)
       → HasChecked g old new before after done
-  wrong_told wrong done explains told =
+  wrong_told wrong done explains why told =
       elim told [
-        | inl is ↦ subst (HasChecked g old new before after) (sym is) (inr (inl (record { wrong = wrong; told = refl; explains = explains })))
+        | inl is ↦ subst (HasChecked g old new before after) (sym is) (inr (inl (record { wrong = wrong; told = refl; explains = explains; why = why })))
         | inr is ↦ subst (HasChecked g old new before after) (sym is) (inl refl)
       ]

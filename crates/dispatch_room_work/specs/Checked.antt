@@ -7,7 +7,7 @@ use Rattle.sqlite.specs.State.{HasCleanDisk}
 use Rattle.sqlite_trees.specs.declared.store.Store.{Ghosts}
 use Rattle.room_place.specs.Plans.{Layout}
 use Rattle.room_store_check.specs.declared.summaries.Summary.{Summary}
-use Rattle.room_store_examining.specs.Examined.{ExplainsFile, IsSummaryOf}
+use Rattle.room_store_examining.specs.Examined.{ExplainsFile, HasCause, IsSummaryOf}
 use Rattle.room_store_examining.specs.declared.examining.Wrong.{Wrong}
 use Rattle.room_store_examining.specs.declared.examining.Wrong.TheVariants as wrong
 use Rattle.dispatch_room_endings.specs.declared.endings.Done.{Done}
@@ -65,12 +65,13 @@ failure_of wrong.Memory = Memory
 failure_of wrong.Storage = Storage
 failure_of other = File
 
--- this is wrong with the file
+-- this is wrong with the file; where it is storage, for a cause
 pub record HasFault {S : Type 0} (g : Ghosts S) (old new : Held S)
     (failure : Failure) : Type 0 where
   pub wrong : Wrong
   pub told : failure ≡ failure_of wrong
   pub explains : HasCleanDisk (state g new) → ExplainsFile (state g old) (state g new) wrong
+  pub why : HasCleanDisk (state g new) → HasCause g old new wrong
 
 -- or it holds a room whose days can't be reckoned
 pub record HasNoRule {S : Type 0} (g : Ghosts S) (old new : Held S)

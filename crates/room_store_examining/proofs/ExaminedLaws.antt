@@ -44,6 +44,12 @@ read_fault now has NotARoom none = (has, none refl)
 read_fault now has Memory none = tt
 read_fault now has Storage none = has
 
+-- storage is told where it was met
+pub told_storage : (e : TakeFault) → wrong_of e ≡ wrong.Storage → e ≡ Storage
+told_storage NotARoom is = cc
+told_storage Memory is = cc
+told_storage Storage is = refl
+
 -- tables that keep their rows number them as before
 still_numbered : (tables : List Table) (old new : Trees) → KeepsRows tables old new
     → AllByRecursion (λ t. AreNumbered (old t.tree)) tables

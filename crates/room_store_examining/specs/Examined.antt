@@ -1,8 +1,10 @@
 -- What is told of a file: how much its room has, or what is wrong with it.
 use Rattle.std.specs.Prelude.{List, Some, ◌≡◌, ◌⊎◌}
 use Rattle.sqlite.specs.Effect.{Database}
+use Rattle.sqlite.specs.Held.{Held, state}
 use Rattle.sqlite.specs.State.{State}
 use Rattle.sqlite_trees.specs.Tree.{Trees}
+use Rattle.sqlite_trees.specs.declared.store.Store.{Ghosts}
 use Rattle.room_place.specs.Plans.{Layout}
 use Rattle.room_place.specs.declared.plans.Area.{Area}
 use Rattle.room_types.specs.declared.fleet.Terminal.{Terminal}
@@ -20,8 +22,11 @@ use Rattle.room_store_check.specs.declared.summaries.Summary.{Summary}
 use Rattle.room_tables_schema.specs.Versions.{HasTables}
 use Rattle.room_tables.specs.Stands.{Stands}
 use Rattle.room_store_writes.specs.Houses.{house_of}
+use Rattle.room_store_opening.specs.Causes.{FailsInside}
 use Rattle.room_store_opening.specs.Opening.{HidesVersion, IsOldRoom}
-use Rattle.room_store_judging.specs.Holding.{HasNoPlan}
+use Rattle.room_store_opening.specs.declared.taking.Tables.{Tables}
+use Rattle.room_store_opening.specs.declared.taking.Tables.TheVariants.{Unindexed, Whole}
+use Rattle.room_store_judging.specs.Holding.{HasNoPlan, WritesNothing}
 use Rattle.room_store_examining.specs.declared.examining.Wrong.{Wrong}
 use Rattle.room_store_examining.specs.declared.examining.Wrong.TheVariants as wrong
 use Rattle.room_store_judging.specs.declared.faults.TakeFault.{TakeFault}
@@ -84,3 +89,20 @@ Explains now wrong.Storage = HasTables now.schema
 -- Or it is told as storage, where the database failed as it was asked for the file's version.
 abbrev pub ExplainsFile : State → State → Wrong → Type 0
 ExplainsFile old new x = Explains old.now x ⊎ ((x ≡ wrong.Storage) × HidesVersion old new)
+
+-- The file's tables are read in a transaction that is undone then, and that fails.
+abbrev pub FailsToReadTables : {S : Type 0} → Ghosts S → Held S → Held S → Type 0
+FailsToReadTables g old new =
+    (tables : Tables) × ((tables ≡ Whole) ⊎ (tables ≡ Unindexed)) × FailsInside g tables old new
+
+-- So it was once the file had turned out to be no room of the first version, which wrote nothing.
+pub record FailsToExamine {S : Type 0} (g : Ghosts S) (old new : Held S) : Type 0 where
+  pub mid : Held S
+  pub same : (state g mid).now ≡ (state g old).now
+  pub nothing : WritesNothing (state g old) (state g mid)
+  pub fails : FailsToReadTables g mid new
+
+-- Storage is told for one of these causes.
+abbrev pub HasCause : {S : Type 0} → Ghosts S → Held S → Held S → Wrong → Type 0
+HasCause g old new x =
+    x ≡ wrong.Storage → HidesVersion (state g old) (state g new) ⊎ FailsToExamine g old new

@@ -2,10 +2,12 @@
 ghost use Rattle.std.specs.Prelude.{◌≡◌, ◌⊎◌, false, IfErr, IfOk, IsTrue};
 ghost use Rattle.sqlite.specs.Held.{state};
 ghost use Rattle.sqlite.specs.State.{HasCleanDisk};
+ghost use Rattle.room_store_opening.specs.Causes.{FailsInside};
 ghost use Rattle.room_store_opening.specs.Opening.{schema_of};
 ghost use Rattle.room_store_judging.specs.Holding.{WritesNothing};
 ghost use Rattle.room_store_opening.specs.declared.taking.Tables.TheVariants.{Unindexed, Whole};
-ghost use Rattle.room_store_examining.specs.Examined.{Explains, ExplainsFile, IsAmount, IsSummaryOf, Weighs};
+ghost use Rattle.room_store_examining.specs.Examined.{Explains, ExplainsFile, FailsToReadTables, HasCause, IsAmount, IsSummaryOf, Weighs};
+ghost use Rattle.room_store_examining.specs.declared.examining.Wrong.TheVariants.{Storage};
 
 use room_place::plans::Plan;
 use room_store_check::disagreements::{Disagreement, TerminalFault};
@@ -80,6 +82,8 @@ pub fn examine<S: Alter>(alloc: Global, conn: &mut Connection<S>) -> Result<(Pla
         → IfOk result (λ x. IsSummaryOf (state S.Store conn.old).now.trees x.0 x.1) }
     ensures wrong { HasCleanDisk (state S.Store conn.new)
         → IfErr result (ExplainsFile (state S.Store conn.old) (state S.Store conn.new)) }
+    ensures why { HasCleanDisk (state S.Store conn.new)
+        → IfErr result (HasCause S.Store conn.old conn.new) }
     ensures nothing { WritesNothing (state S.Store conn.old) (state S.Store conn.new) }
     ensures ended { conn.new.in_transaction ≡ false }
 {
@@ -100,6 +104,8 @@ fn examine_tables<S: Alter>(
         → IfOk result (λ x. IsSummaryOf (state S.Store conn.old).now.trees x.0 x.1) }
     ensures wrong { HasCleanDisk (state S.Store conn.new)
         → IfErr result (Explains (state S.Store conn.old).now) }
+    ensures why { HasCleanDisk (state S.Store conn.new)
+        → IfErr result (λ e. e ≡ Storage → FailsToReadTables S.Store conn.old conn.new) }
     ensures nothing { WritesNothing (state S.Store conn.old) (state S.Store conn.new) }
     ensures ended { conn.new.in_transaction ≡ false }
 {
@@ -126,6 +132,8 @@ fn examine_room<S: Alter>(
         → IfOk result (λ x. IsSummaryOf (state S.Store conn.old).now.trees x.0 x.1) }
     ensures wrong { HasCleanDisk (state S.Store conn.new)
         → IfErr result (Explains (state S.Store conn.old).now) }
+    ensures why { HasCleanDisk (state S.Store conn.new)
+        → IfErr result (λ e. e ≡ Storage → FailsInside S.Store tables conn.old conn.new) }
     ensures nothing { WritesNothing (state S.Store conn.old) (state S.Store conn.new) }
     ensures ended { conn.new.in_transaction ≡ false }
 {

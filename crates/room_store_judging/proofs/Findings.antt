@@ -1,16 +1,18 @@
 -- What was found of a file, and what a fault tells of it.
-use Rattle.std.proofs.Common.{Err, List, Ok, Result, ap, rules, subst, sym, true≢false, ◌∙◌, ◌≡◌}
+use Rattle.std.proofs.Common.{Err, List, Ok, Result, ap, inl, inr, rules, subst, sym, true≢false, ◌∙◌, ◌≡◌, ◌⊎◌}
+use Rattle.std.proofs.lemmas.Result.{IfErr-weaker}
 use Rattle.std.specs.Prelude.{IfErr, IfOk, OnOk}
 use Rattle.std.specs.Result.{IsErr, IsErrAnd}
 use Rattle.sqlite_trees.specs.Tree.{Trees}
 use Rattle.room_model.specs.Room.{Room}
 use Rattle.room_tables_schema.specs.declared.faults.Fault.{Fault}
 use Rattle.room_tables_schema.specs.declared.faults.Fault.TheVariants as faults
+use Rattle.room_tables.specs.Failures.{IfStorage}
 use Rattle.room_tables.specs.Numbering.{AreAllNumbered}
 use Rattle.room_tables.specs.Stands.{House, Stands}
 use Rattle.room_store_judging.specs.Holding.{HasHouse, HasRows, HoldsRoom, MakesNoPlan, take_fault}
 use Rattle.room_store_judging.specs.declared.faults.TakeFault.{TakeFault}
-use Rattle.room_store_judging.specs.declared.faults.TakeFault.TheVariants.{NotARoom}
+use Rattle.room_store_judging.specs.declared.faults.TakeFault.TheVariants.{Memory, NotARoom, Storage}
 use Rattle.room_place.specs.Plans.{Layout}
 use Rattle.room_types.specs.declared.fleet.Terminal.{Terminal}
 use Rattle.room_types.specs.declared.slices.DivisionRows.{DivisionRows}
@@ -40,11 +42,22 @@ not_told (Ok x) fault P is = tt
 not_told (Err e) faults.Memory P is = λ none. cc
 not_told (Err e) faults.Storage P is = λ none. cc
 
--- what holds of a fault holds where it is told
-pub told_on : {T E : Type 0} (r : Result T E) (fault : E) (P : E → Type 0)
-    → IsErrAnd r (λ e. e ≡ fault) → P fault → IfErr r P
-told_on (Ok x) fault P is h = tt
-told_on (Err e) fault P is h = subst P (sym is) h
+-- why the database failed is why storage is told
+pub told_storage : {T : Type 0} (r : Result T TakeFault) (fault : Fault) (P : Type 0)
+    → IsErrAnd r (λ why. why ≡ take_fault fault) → IfStorage P fault
+    → IfErr r (λ e. e ≡ Storage → P)
+told_storage (Ok x) fault P is why = tt
+told_storage (Err e) faults.Memory P is why = λ storage. cc
+told_storage (Err e) faults.Storage P is why = λ storage. why
+
+pub stored : {P : Type 0} (fault : Fault) → IfStorage P fault → take_fault fault ≡ Storage → P
+stored faults.Memory why is = cc
+stored faults.Storage why is = why
+
+-- which it isn't where the rows are weighed
+pub none_stored : {T : Type 0} (r : Result T TakeFault) (P : Type 0)
+    → IfErr r (λ e. (e ≡ Memory) ⊎ (e ≡ NotARoom)) → IfErr r (λ e. e ≡ Storage → P)
+none_stored r P cause = IfErr-weaker r _ _ (λ e one storage. elim one [ inl is ↦ cc | inr is ↦ cc ]) cause
 
 -- a room that some tables hold is the one that they were read as
 pub held_is : (trees : Trees) (plan : Layout) (terminals : List Terminal) (room : Room)

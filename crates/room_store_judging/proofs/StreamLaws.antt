@@ -1,7 +1,7 @@
 -- Rows of a file that are read and judged one at a time, outside a transaction.
-use Rattle.std.proofs.Common.{Bool, Err, IsTrue, List, Ok, Result, [], arith, false, inl, inr, refl, rules, subst, sym, true, ◌∙◌, ◌≡◌}
+use Rattle.std.proofs.Common.{Bool, Err, IsTrue, List, Ok, Result, [], ap, arith, false, inl, inr, refl, subst, sym, true, ◌∙◌, ◌≡◌, ◌⊎◌}
 use Rattle.std.proofs.lemmas.Bool.{and_parts}
-use Rattle.std.specs.Prelude.{◌&&◌, ◌↔◌}
+use Rattle.std.specs.Prelude.{◌&&◌, ◌↔◌, ◌≢◌, ◌≤◌}
 use Rattle.std.specs.declared.cmp.Ordering.{Ordering}
 use Rattle.sqlite.specs.Effect.{Database}
 use Rattle.sqlite.specs.Held.{Held, state}
@@ -22,6 +22,7 @@ use Rattle.room_model.specs.WellFormed.{IsWellFormed}
 use Rattle.room_model.proofs.Tests.{both_true}
 use Rattle.room_tables_sql.proofs.Refusals.{keeps_commit}
 use Rattle.room_tables_sql.specs.Outcomes.{CommitsNothing, Keeps, ReadsInside, ReadsOnly}
+use Rattle.room_tables_schema.specs.Schema.{room_schema}
 use Rattle.room_tables.specs.Numbering.{AreAllNumbered}
 use Rattle.room_tables.specs.Stands.{Stands}
 use Rattle.room_tables.specs.Streams.{AreAll}
@@ -32,6 +33,7 @@ use Rattle.room_store_writes.specs.Writing.{Leaves}
 use Rattle.room_store_judging.proofs.Findings.{held_is, stands_with}
 use Rattle.room_store_judging.specs.Holding.{HasHouse, HasRows, HoldsRoom, IsPlanOf, WritesNothing}
 use Rattle.room_store_judging.specs.Streaming.{AreAssignments, AreBeside, AreDivisions, AreIncidents, AreLoans, AreOffers, ArePoints, AreRows, AreVehicles, HasJudged, IsFound, IsHistory, TellsSound}
+use Rattle.room_store_judging.specs.Unreadable.{FailsInTables, FailsToTake}
 use Rattle.room_store_judging.specs.declared.streaming.JudgedRows.{JudgedRows}
 use Rattle.room_store_judging.specs.declared.streaming.KeptHistory.{KeptHistory}
 
@@ -85,6 +87,17 @@ nothing_then old mid new one two = record {
       };
   survives = survives_then old mid new _ _ (λ _. ⊥) (λ _ db none. none) (λ _ db none. none) one.survives two.survives;
 }
+
+-- the file was judged after such a call, and this failed; or the call left it shut
+pub file_fails : {S : Type 0} (g : Ghosts S) (old mid new : Held S)
+    → WritesNothing (state g old) (state g mid) → HasCleanDisk (state g mid)
+    → (state g mid).faults ≤ (state g new).faults → (state g old).now.schema ≡ room_schema
+    → (state g mid).now.schema ≢ room_schema ⊎ FailsInTables g mid new → FailsToTake g old new
+file_fails g old mid new nothing clean counts has (inl other) = inl (λ is_open. elim (nothing.survives.closes clean is_open) [
+  | inl still ↦ absurd (other (ap (λ (db : Database). db.schema) ((nothing.left clean).now_is still) ∙ has))
+  | inr more ↦ omega (arith, more, counts)
+])
+file_fails g old mid new nothing clean counts has (inr f) = inr (record { first = mid; last = new; same = (nothing.left clean).now_is; is_open = nothing.survives.closes clean; since = nothing.survives.counts; fails = f; until = omega arith })
 
 -- ---- rows
 -- rows that took all rows of a table are these

@@ -1,5 +1,5 @@
 -- What a file holds that is read: a room, and of which plan.
-use Rattle.std.specs.Prelude.{List, OnErr, OnOk, Result, [], false, ℕ, ◌≡◌, ◌∷◌, ◌⊎◌}
+use Rattle.std.specs.Prelude.{IfErr, List, OnErr, OnOk, Result, [], false, ℕ, ◌≡◌, ◌∷◌, ◌⊎◌}
 use Rattle.sqlite.specs.Held.{Held, state}
 use Rattle.sqlite.specs.State.{HasCleanDisk, State, Survives}
 use Rattle.sqlite_trees.specs.Tree.{Trees}
@@ -28,6 +28,7 @@ use Rattle.room_tables_sql.specs.Outcomes.{ReadsInside}
 use Rattle.room_tables_schema.specs.Schema.{areas_table, assignments_table, calls_table, divisions_table, incidents_table, loans_table, meta_table, offers_table, points_table, reports_table, terminals_table, turns_table, vehicles_table}
 use Rattle.room_tables_schema.specs.declared.faults.Fault.{Fault}
 use Rattle.room_tables_schema.specs.declared.faults.Fault.TheVariants as fault
+use Rattle.room_tables.specs.Failures.{IfStorage}
 use Rattle.room_tables.specs.Numbering.{AreAllNumbered}
 use Rattle.room_tables.specs.Stands.{House, Stands, StandsFor, numbered}
 use Rattle.room_store_writes.specs.Houses.{house_of}
@@ -102,9 +103,12 @@ pub record HasHouse (trees : Trees) (areas : List Area) (zone : List ℕ)
   pub terminals_are : StandsFor trees terminals_table terminal_row terminals
 
 -- The next of some reads in a transaction: one where all before it went well, and none where not.
--- `Is` holds of the tables where it went well.
+-- `Is` holds of the tables where it went well, and `Fails` where storage is told of it.
 pub record ReadsNext {S : Type 0} (g : Ghosts S) (old new : Held S)
-    (before after : Result (Unit {0}) Fault) (Is : Trees → Type 0) : Type 0 where
+    (before after : Result (Unit {0}) Fault) (Is : Trees → Type 0)
+    (Fails : State → State → Type 0) : Type 0 where
   pub found : HasCleanDisk (state g new) → OnOk after (Is (state g old).now.trees)
   pub reads : OnOk before (ReadsInside g old new after)
+  pub why : OnOk before (HasCleanDisk (state g new)
+      → IfErr after (IfStorage (Fails (state g old) (state g new))))
   pub stays : OnErr before ((new ≡ old) × (after ≡ before))

@@ -4,3 +4,5 @@ pub mod Holding
 pub mod Histories
 -- what is told of rows that are read one at a time
 pub mod Streaming
+-- why tables are not read
+pub mod Unreadable

@@ -9,6 +9,7 @@ ghost use Rattle.room_store_check.specs.Histories.{Tell, is_last};
 ghost use Rattle.room_tables_schema.specs.Connections.{HasRoomSchema};
 ghost use Rattle.room_tables_schema.specs.declared.faults.Fault.TheVariants.{Memory};
 ghost use Rattle.room_tables_sql.specs.Outcomes.{ReadsOnly};
+ghost use Rattle.room_tables.specs.Failures.{AreNoRows, TellsWhy};
 ghost use Rattle.room_tables.specs.Streams.{AreAll};
 ghost use Rattle.room_store_judging.specs.Histories.{AreJudged};
 
@@ -128,6 +129,8 @@ pub(crate) fn judge<X: History, S: Alter>(
         (state S.Store conn.old).now.trees xs
         × (judged.1 ≡ list_all (λ x. is_none (X.disagreement plan.now.areas rows.now x)) xs)
         × (X.keeps rows.now [] kept → X.keeps rows.now xs judged.0)) }
+    ensures why { TellsWhy S.Store conn.old conn.new result X.texts.all []
+        (AreNoRows X.is_row X.Key.cmp X.key_of X.cells) }
     ensures reads { ReadsOnly S.Store conn.old conn.new result }
 {
     let judging: Judging<'_, X> = Judging {

@@ -1,5 +1,5 @@
 //! The plan of the room that a file holds, judged with its history read one row at a time.
-ghost use Rattle.std.specs.Prelude.{◌≡◌, ◌⊎◌, false, true, IfErr, IfOk, IsTrue, OnOk};
+ghost use Rattle.std.specs.Prelude.{◌≡◌, ◌≢◌, ◌⊎◌, false, true, IfErr, IfOk, IsTrue, OnOk};
 ghost use Rattle.sqlite.specs.Held.{state};
 ghost use Rattle.sqlite.specs.State.{HasCleanDisk};
 ghost use Rattle.room_tables_schema.specs.Connections.{HasRoomSchema};
@@ -9,7 +9,8 @@ ghost use Rattle.room_tables.specs.Numbering.{AreAllNumbered};
 ghost use Rattle.room_tables.specs.Streams.{AreAll};
 ghost use Rattle.room_store_judging.specs.Holding.{HasHouse, HoldsRoom, IsPlanOf, ReadsNext, WritesNothing};
 ghost use Rattle.room_store_judging.specs.Streaming.{AreBeside, HasJudged, IsFound, IsHistory, TellsSound};
-ghost use Rattle.room_store_judging.specs.declared.faults.TakeFault.TheVariants.{Memory, NotARoom};
+ghost use Rattle.room_store_judging.specs.Unreadable.{FailsAtRows, FailsInFile, FailsInTables, FailsToTake, TellsTable};
+ghost use Rattle.room_store_judging.specs.declared.faults.TakeFault.TheVariants.{Memory, NotARoom, Storage};
 
 use crate::faults::TakeFault;
 use crate::histories::judge;
@@ -42,6 +43,8 @@ pub fn stream_plan<S: Alter>(alloc: Global, conn: &mut Connection<S>) -> Result<
         → IfOk result (IsPlanOf (state S.Store conn.old).now.trees) }
     ensures no_room { HasCleanDisk (state S.Store conn.new)
         → IfErr result (λ e. e ≡ NotARoom → ¬ HoldsRoom (state S.Store conn.old).now.trees) }
+    ensures why { HasCleanDisk (state S.Store conn.new)
+        → IfErr result (λ e. e ≡ Storage → FailsToTake S.Store conn.old conn.new) }
     ensures nothing { WritesNothing (state S.Store conn.old) (state S.Store conn.new) }
     ensures ended { conn.new.in_transaction ≡ false }
 {
@@ -66,6 +69,8 @@ fn house_of_file<S: Alter>(alloc: Global, conn: &mut Connection<S>) -> Result<Ho
         → HasHouse (state S.Store conn.old).now.trees x.plan.areas x.plan.zone x.terminals.items) }
     ensures no_room { HasCleanDisk (state S.Store conn.new)
         → IfErr result (λ e. e ≡ NotARoom → ¬ HoldsRoom (state S.Store conn.old).now.trees) }
+    ensures why { HasCleanDisk (state S.Store conn.new)
+        → IfErr result (λ e. e ≡ Storage → FailsInFile S.Store conn.old conn.new) }
     ensures nothing { WritesNothing (state S.Store conn.old) (state S.Store conn.new) }
     ensures ended { conn.new.in_transaction ≡ false }
 {
@@ -88,6 +93,9 @@ fn judge_file<S: Alter>(
     ensures unnumbered { HasCleanDisk (state S.Store conn.new)
         → IfErr result (λ e. e ≡ NotARoom → IsTrue (state S.Store conn.old).is_open
         × ¬ AreAllNumbered (state S.Store conn.old).now.trees) }
+    ensures why { HasCleanDisk (state S.Store conn.new)
+        → IfErr result (λ e. e ≡ Storage → (state S.Store conn.old).now.schema ≢ room_schema
+        ⊎ FailsInTables S.Store conn.old conn.new) }
     ensures nothing { WritesNothing (state S.Store conn.old) (state S.Store conn.new) }
     ensures ended { conn.new.in_transaction ≡ false }
 {
@@ -124,6 +132,7 @@ fn judge_rows<S: Alter>(
     requires room { HasRoomSchema S.Store conn.old }
     ensures judged { HasCleanDisk (state S.Store conn.new)
         → IfOk result (HasJudged (state S.Store conn.old).now.trees plan.now.areas) }
+    ensures why { TellsTable S.Store conn.old conn.new result }
     ensures reads { ReadsOnly S.Store conn.old conn.new result }
 {
     let mut rows = rows_beside(alloc, conn)?;
@@ -149,6 +158,7 @@ fn rows_beside<S: Alter>(alloc: Global, conn: &mut Connection<S>) -> Result<Divi
     requires room { HasRoomSchema S.Store conn.old }
     ensures beside { HasCleanDisk (state S.Store conn.new)
         → IfOk result (AreBeside (state S.Store conn.old).now.trees) }
+    ensures why { TellsTable S.Store conn.old conn.new result }
     ensures reads { ReadsOnly S.Store conn.old conn.new result }
 {
     let mut done = Ok(());
@@ -182,7 +192,8 @@ fn next_streamed<X: Table, S: Alter>(
     requires room { OnOk done.old (HasRoomSchema S.Store conn.old) }
     ensures room { OnOk done.new (HasRoomSchema S.Store conn.new) }
     ensures next { ReadsNext S.Store conn.old conn.new done.old done.new (λ trees.
-        AreAll X.Key.cmp X.key_of X.cells X.rows X.table trees result) }
+        AreAll X.Key.cmp X.key_of X.cells X.rows X.table trees result)
+        (FailsAtRows X.texts.all X.is_row X.Key.cmp X.key_of X.cells) }
     ensures mode { conn.old.in_transaction ≡ false → conn.new.in_transaction ≡ false }
 {
     match done {
@@ -217,6 +228,7 @@ fn judge_history<S: Alter>(
     requires room { HasRoomSchema S.Store conn.old }
     ensures history { HasCleanDisk (state S.Store conn.new)
         → IfOk result (IsHistory (state S.Store conn.old).now.trees plan.now.areas rows.now) }
+    ensures why { TellsTable S.Store conn.old conn.new result }
     ensures reads { ReadsOnly S.Store conn.old conn.new result }
 {
     let (turns, do_turns) = judge::<Turn, S>(conn, plan, rows, Rows::new(alloc))?;

@@ -11,7 +11,8 @@ ghost use Rattle.room_tables.specs.Numbering.{AreAllNumbered};
 ghost use Rattle.room_tables.specs.Stands.{Stands, StandsFor};
 ghost use Rattle.room_store_writes.specs.Houses.{house_of};
 ghost use Rattle.room_store_judging.specs.Holding.{HasHouse, HasNoPlan, HasRows, MakesNoPlan, ReadsNext};
-ghost use Rattle.room_store_judging.specs.declared.faults.TakeFault.TheVariants.{Memory, NotARoom};
+ghost use Rattle.room_store_judging.specs.Unreadable.{FailsAtRows, FailsInTables, TellsTable};
+ghost use Rattle.room_store_judging.specs.declared.faults.TakeFault.TheVariants.{Memory, NotARoom, Storage};
 
 use crate::faults::TakeFault;
 use room_place::plans::{Area, Plan, PlanFault};
@@ -51,6 +52,9 @@ pub fn read_whole<S: Alter>(
         (house_of x.house.plan x.house.terminals.items) (room_of x.house.plan.areas x.rows)) }
     ensures no_plan { HasCleanDisk (state S.Store tx.new.conn.now)
         → IfErr result (λ e. e ≡ NotARoom → HasNoPlan (state S.Store tx.old.conn.now).now.trees) }
+    ensures why { HasCleanDisk (state S.Store tx.new.conn.now)
+        → IfErr result (λ e. e ≡ Storage
+        → FailsInTables S.Store tx.old.conn.now tx.new.conn.now) }
     ensures reads { ReadsInside S.Store tx.old.conn.now tx.new.conn.now result }
     ensures same_reference { tx.new.conn.ghost_name ≡ tx.old.conn.ghost_name }
 {
@@ -82,6 +86,9 @@ pub(crate) fn read_house<S: Alter>(
         → IfErr result (λ e. e ≡ NotARoom
         → AreAllNumbered (state S.Store tx.old.conn.now).now.trees
         → MakesNoPlan (state S.Store tx.old.conn.now).now.trees) }
+    ensures why { HasCleanDisk (state S.Store tx.new.conn.now)
+        → IfErr result (λ e. e ≡ Storage
+        → FailsInTables S.Store tx.old.conn.now tx.new.conn.now) }
     ensures reads { ReadsInside S.Store tx.old.conn.now tx.new.conn.now result }
     ensures same_reference { tx.new.conn.ghost_name ≡ tx.old.conn.ghost_name }
 {
@@ -116,6 +123,7 @@ fn read_rows<S: Alter>(alloc: Global, tx: &mut Transaction<'_, S>) -> Result<Div
     ensures found { HasCleanDisk (state S.Store tx.new.conn.now)
         → IfOk result (λ x. AreAllNumbered (state S.Store tx.old.conn.now).now.trees
         → HasRows (state S.Store tx.old.conn.now).now.trees x) }
+    ensures why { TellsTable S.Store tx.old.conn.now tx.new.conn.now result }
     ensures reads { ReadsInside S.Store tx.old.conn.now tx.new.conn.now result }
     ensures same_reference { tx.new.conn.ghost_name ≡ tx.old.conn.ghost_name }
 {
@@ -151,7 +159,8 @@ fn next_rows<X: Table, S: Alter>(
     requires room { OnOk done.old (HasRoomSchema S.Store tx.old.conn.now) }
     ensures room { OnOk done.new (HasRoomSchema S.Store tx.new.conn.now) }
     ensures next { ReadsNext S.Store tx.old.conn.now tx.new.conn.now done.old done.new (λ trees.
-        AreNumbered (trees X.table.tree) → StandsFor trees X.table X.cells result) }
+        AreNumbered (trees X.table.tree) → StandsFor trees X.table X.cells result)
+        (FailsAtRows X.texts.all X.is_row X.Key.cmp X.key_of X.cells) }
     ensures same_reference { tx.new.conn.ghost_name ≡ tx.old.conn.ghost_name }
 {
     match done {

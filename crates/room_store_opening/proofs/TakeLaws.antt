@@ -3,7 +3,7 @@
 use Rattle.std.proofs.Common.{Err, IsTrue, List, Ok, Result, [], ap, arith, inl, inr, refl, subst, sym, ◌∙◌, ◌∷◌, ◌≡◌, ◌⊎◌}
 use Rattle.std.proofs.lemmas.Bool.{eqb-false}
 use Rattle.std.specs.Prelude.{IfErr, IfOk, IsOk, OnErr, OnOk, ◌≢◌}
-use Rattle.std.specs.Result.{IsErr, IsErrAnd}
+use Rattle.std.specs.Result.{IsErrAnd}
 use Rattle.sqlite.specs.Effect.{Database}
 use Rattle.sqlite.specs.Held.{Held, state}
 use Rattle.sqlite.specs.State.{HasCleanDisk, State, Survives}
@@ -13,8 +13,7 @@ use Rattle.sqlite_schema.specs.declared.schema.Table.{Table}
 use Rattle.sqlite_trees.specs.Tree.{Trees}
 use Rattle.sqlite_trees.specs.declared.store.Store.{Ghosts}
 use Rattle.room_model.specs.Room.{Room}
-use Rattle.room_tables_sql.proofs.Refusals.{keeps_commit}
-use Rattle.room_tables_sql.specs.Outcomes.{CommitsNothing, ReadsInside}
+use Rattle.room_tables_sql.specs.Outcomes.{ReadsInside}
 use Rattle.room_tables_schema.specs.Connections.{MayWrite}
 use Rattle.room_tables_schema.specs.Definitions.{AddsLast}
 use Rattle.room_tables_schema.specs.Schema.{room_tables}
@@ -28,6 +27,7 @@ use Rattle.room_tables.specs.Stands.{House, Stands}
 use Rattle.room_tables.specs.Writes.{Renews}
 use Rattle.room_store_writes.specs.Writing.{Leaves}
 use Rattle.room_store_opening.proofs.FileLaws.{rows_kept}
+use Rattle.room_store_opening.specs.Causes.{FailsAtEnd, FailsBy, FailsInside}
 use Rattle.room_store_opening.specs.Opening.{Becomes, HasNoPlanBy, HoldsBy, HoldsFirstRoom, IsMoved, IsRoomOf, MayBecome, StandsBy, Takes, migrate_fault, open_fault, schema_of}
 use Rattle.room_store_judging.proofs.Findings.{planless}
 use Rattle.room_store_judging.specs.Holding.{Holds, HoldsRoom, take_fault}
@@ -166,6 +166,14 @@ hidden (Ok x) fault P is why = tt
 hidden (Err e) faults.Memory P is why = λ storage. cc
 hidden (Err e) faults.Storage P is why = λ storage. why
 
+-- what the tables lack was not made for the cause that is told
+pub not_made : {T : Type 0} (r : Result T TakeFault) (fault : Fault) (P : Fault → Type 0)
+    {Q : Type 0} → IsErrAnd r (λ why. why ≡ take_fault fault) → (P faults.Storage → Q) → P fault
+    → IfErr r (λ e. e ≡ Storage → Q)
+not_made (Ok x) fault P is follows why = tt
+not_made (Err e) faults.Memory P is follows why = λ storage. cc
+not_made (Err e) faults.Storage P is follows why = λ storage. follows why
+
 -- ---- whole tables, which are looked at
 
 pub looked_takes : (tables : Tables) → tables ≡ Whole → (old new : State)
@@ -177,6 +185,16 @@ looked_takes tables is old new has settled left is_open = record {
   schema = ap (λ (db : Database). db.schema) (left.now_is is_open) ∙ subst (λ t. old.now.schema ≡ schema_of t) is has;
   becomes = subst (λ t. Becomes t old.now.trees new.now.trees) (sym is) (ap (λ (db : Database). db.trees) (left.now_is is_open));
 }
+
+-- tables that lack something are taken in a transaction
+pub lacking : {S T : Type 0} (g : Ghosts S) (tables : Tables) → (tables ≢ Whole)
+    → (old new : Held S) (r : Result T TakeFault)
+    → IfErr r (λ e. e ≡ Storage → FailsInside g tables old new ⊎ FailsAtEnd g tables old new)
+    → IfErr r (λ e. e ≡ Storage → FailsBy g tables old new)
+lacking g Whole not old new r why = absurd (not refl)
+lacking g Unindexed not old new r why = why
+lacking g First not old new r why = why
+lacking g FirstUnindexed not old new r why = why
 
 -- ---- in which versions, and how a fault is told
 
@@ -206,6 +224,11 @@ pub told_open : (fault : TakeFault) → open_fault fault ≡ opened.NotARoom →
 told_open NotARoom is = refl
 told_open Memory is = cc
 told_open Storage is = cc
+
+pub told_storage : (fault : TakeFault) → open_fault fault ≡ opened.Storage → fault ≡ Storage
+told_storage NotARoom is = cc
+told_storage Memory is = cc
+told_storage Storage is = refl
 
 pub told_moved : (fault : TakeFault) → migrate_fault fault ≡ migrated.NotARoom → fault ≡ NotARoom
 told_moved NotARoom is = refl

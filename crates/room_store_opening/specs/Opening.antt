@@ -1,11 +1,18 @@
 -- What a file holds that is opened, or moved from the first version to this.
-use Rattle.std.specs.Prelude.{IsTrue, [], drop, ℕ, ◌↔◌, ◌≡◌, ◌≢◌}
+use Rattle.std.specs.Prelude.{IsTrue, List, [], drop, ⊤, ℕ, ◌↔◌, ◌⊎◌, ◌≡◌, ◌≢◌}
 use Rattle.sqlite.specs.Effect.{Database}
+use Rattle.sqlite.specs.Held.{Held, state}
 use Rattle.sqlite.specs.State.{State}
+use Rattle.sqlite.specs.Steps.{FailsToCommit}
+use Rattle.sqlite.specs.declared.error.Error.{Error}
 use Rattle.sqlite_catalog.specs.Change.{KeepsRows}
 use Rattle.sqlite_schema.specs.declared.schema.Schema.{Schema}
 use Rattle.sqlite_trees.specs.Tree.{Trees}
+use Rattle.sqlite_trees.specs.declared.store.Store.{Ghosts}
 use Rattle.room_model.specs.Room.{Room}
+use Rattle.room_tables_schema.specs.Definitions.{FailsAt}
+use Rattle.room_tables_schema.specs.Faults.{fault_of}
+use Rattle.room_tables_schema.specs.declared.faults.Fault.{Fault}
 use Rattle.room_tables_schema.specs.Schema.{first_schema, first_tables, first_tables_schema, room_schema, room_tables, tables_schema}
 use Rattle.room_tables_rows.specs.declared.meta.TheConstants.{ALL_META}
 use Rattle.room_tables_schema.specs.Versions.{BeginsAsRoom, HasFirstTables}
@@ -21,7 +28,7 @@ use Rattle.room_store_judging.specs.declared.faults.TakeFault.{TakeFault}
 use Rattle.room_store_judging.specs.declared.faults.TakeFault.TheVariants.{Memory, NotARoom, Storage}
 use Rattle.room_store_opening.specs.declared.taking.Tables.{Tables}
 use Rattle.room_store_opening.specs.declared.taking.Tables.TheVariants.{First, FirstUnindexed, Unindexed, Whole}
-use Rattle.room_store_judging.specs.Holding.{HasNoPlan, Holds}
+use Rattle.room_store_judging.specs.Holding.{HasNoPlan, Holds, take_fault}
 
 -- The file holds a room of a version, whatever its other tables are.
 abbrev pub IsRoomOf : ℕ → Database → Type 0
@@ -43,6 +50,15 @@ HoldsFirstRoom trees = Holds (StandsInFirst trees)
 pub record HidesVersion (old new : State) : Type 0 where
   pub begins : BeginsAsRoom old.now.schema
   pub fails : FailsToRead ALL_META.now [] old new (λ _. ⊥)
+
+-- The file is no room of this version, or the database failed as it was asked for it.
+abbrev pub TellsNoVersion : State → State → Type 0
+TellsNoVersion old new = ¬ IsNewRoom old.now ⊎ HidesVersion old new
+
+-- A transaction was not committed, for this fault of the database.
+abbrev pub IsUncommitted : State → State → TakeFault → Type 0
+IsUncommitted old new fault =
+    (error : Error) × FailsToCommit old new error × (fault ≡ take_fault (fault_of error))
 
 -- Every table that the file had is there, with all the rows that it had.
 pub record KeepsAllRows (before after : Database) : Type 0 where
@@ -95,6 +111,15 @@ StandsBy FirstUnindexed = StandsInFirst
 
 abbrev pub HoldsBy : Tables → Trees → Type 0
 HoldsBy tables trees = Holds (StandsBy tables trees)
+
+-- Why what they lack was not made: nothing lacks of a room's own, and of its tables without their
+-- indexes a statement failed. Of those of the first version no cause is known here.
+abbrev pub FailsToMake : {S : Type 0} → Ghosts S → Tables → Held S → Held S → Fault → Type 0
+FailsToMake {S} g Whole old new fault = ⊥
+FailsToMake {S} g Unindexed old new fault = (texts : List (List ℕ)) × (mid : Held S)
+    × FailsAt texts (state g old) (state g mid) (state g new) fault
+FailsToMake {S} g First old new fault = ⊤
+FailsToMake {S} g FirstUnindexed old new fault = ⊤
 
 -- what they become makes no plan
 abbrev pub HasNoPlanBy : Tables → Trees → Type 0

@@ -6,6 +6,7 @@ ghost use Rattle.room_tables.specs.Failures.{IfStorage};
 ghost use Rattle.room_tables_schema.specs.Schema.{room_schema};
 ghost use Rattle.room_tables_schema.specs.Versions.{HasTables};
 ghost use Rattle.room_store_writes.specs.Writing.{IsSettled, Leaves};
+ghost use Rattle.room_store_opening.specs.Causes.{FailsByTables, FailsToOpen};
 ghost use Rattle.room_store_opening.specs.Opening.{HidesVersion, IsOldRoom, IsRoomOf, KeepsFile, MayBeIndexed, Opens, schema_of};
 ghost use Rattle.room_store_judging.specs.Holding.{HoldsRoom, IsPlanOf, WritesNothing};
 ghost use Rattle.room_store_opening.specs.declared.opening.OpenFault.TheVariants.{
@@ -96,6 +97,9 @@ pub fn open_in<S: Alter>(alloc: Global, conn: &mut Connection<S>) -> Result<Plan
     ensures storage { HasCleanDisk (state S.Store conn.new)
         → IfErr result (λ e. e ≡ Storage → HasTables (state S.Store conn.old).now.schema
         ⊎ HidesVersion (state S.Store conn.old) (state S.Store conn.new)) }
+    ensures why { HasCleanDisk (state S.Store conn.new) → IfErr result (λ e. e ≡ Storage
+        → HidesVersion (state S.Store conn.old) (state S.Store conn.new)
+        ⊎ FailsToOpen S.Store conn.old conn.new) }
     ensures untouched { IfErr result (λ e. (e ≡ OldRoom) ⊎ (e ≡ NotARoom)
         → WritesNothing (state S.Store conn.old) (state S.Store conn.new)) }
     ensures ended { conn.new.in_transaction ≡ false }
@@ -145,6 +149,8 @@ fn open_tables<S: Alter>(alloc: Global, conn: &mut Connection<S>) -> Result<Plan
         → ¬ HoldsRoom (state S.Store conn.old).now.trees) }
     ensures storage { HasCleanDisk (state S.Store conn.new)
         → IfErr result (λ e. e ≡ Storage → HasTables (state S.Store conn.old).now.schema) }
+    ensures why { HasCleanDisk (state S.Store conn.new)
+        → IfErr result (λ e. e ≡ Storage → FailsByTables S.Store conn.old conn.new) }
     ensures untouched { IfErr result (λ e. e ≡ NotARoom
         → WritesNothing (state S.Store conn.old) (state S.Store conn.new)) }
     ensures ended { conn.new.in_transaction ≡ false }

@@ -1,7 +1,7 @@
 //! A file's tables taken as a room. Where nothing lacks they are looked at alone. Else what they
 //! lack is made, and all is read and judged, in one transaction: it is committed where they hold a
 //! well-formed room, and undone where they don't.
-ghost use Rattle.std.specs.Prelude.{◌≡◌, Err, Ok, cond, false, IsOk, IsTrue, IfErr, IfOk, OnErr, OnOk};
+ghost use Rattle.std.specs.Prelude.{◌≡◌, ◌⊎◌, Err, Ok, cond, false, IsOk, IsTrue, IfErr, IfOk, OnErr, OnOk};
 ghost use Rattle.sqlite.specs.Held.{state};
 ghost use Rattle.sqlite.specs.State.{HasCleanDisk, IsRolledBack, Shows, Survives};
 ghost use Rattle.room_tables_sql.specs.Outcomes.{CommitsNothing};
@@ -11,9 +11,10 @@ ghost use Rattle.room_tables_schema.specs.Schema.{first_schema, first_tables_sch
 ghost use Rattle.room_tables.specs.Stands.{Stands};
 ghost use Rattle.room_store_writes.specs.Houses.{house_of};
 ghost use Rattle.room_store_writes.specs.Writing.{Leaves};
-ghost use Rattle.room_store_opening.specs.Opening.{Becomes, HasNoPlanBy, HoldsBy, IsMoved, MayBecome, StandsBy, Takes, schema_of};
+ghost use Rattle.room_store_opening.specs.Causes.{FailsAtEnd, FailsBy, FailsInside, FailsToReadAs};
+ghost use Rattle.room_store_opening.specs.Opening.{Becomes, FailsToMake, HasNoPlanBy, HoldsBy, IsMoved, IsUncommitted, MayBecome, StandsBy, Takes, TellsNoVersion, schema_of};
 ghost use Rattle.room_store_judging.specs.Holding.{IsPlanOf, WritesNothing};
-ghost use Rattle.room_store_judging.specs.declared.faults.TakeFault.TheVariants.{NotARoom};
+ghost use Rattle.room_store_judging.specs.declared.faults.TakeFault.TheVariants.{NotARoom, Storage};
 
 use crate::opening::is_room_of;
 use room_place::plans::Plan;
@@ -57,6 +58,8 @@ pub(crate) fn take<S: Alter>(
         → OnOk result (Takes tables (state S.Store conn.old) (state S.Store conn.new)) }
     ensures no_room { HasCleanDisk (state S.Store conn.new)
         → IfErr result (λ e. e ≡ NotARoom → ¬ HoldsBy tables (state S.Store conn.old).now.trees) }
+    ensures why { HasCleanDisk (state S.Store conn.new)
+        → IfErr result (λ e. e ≡ Storage → FailsBy S.Store tables conn.old conn.new) }
     ensures leaves { HasCleanDisk (state S.Store conn.new)
         → OnErr result (Leaves (state S.Store conn.old) (state S.Store conn.new)) }
     ensures untouched { IfErr result (λ e. e ≡ NotARoom
@@ -90,6 +93,8 @@ pub fn read_file<S: Alter>(
         (house_of x.house.plan x.house.terminals.items) (room_of x.house.plan.areas x.rows)) }
     ensures no_plan { HasCleanDisk (state S.Store conn.new)
         → IfErr result (λ e. e ≡ NotARoom → HasNoPlanBy tables (state S.Store conn.old).now.trees) }
+    ensures why { HasCleanDisk (state S.Store conn.new)
+        → IfErr result (λ e. e ≡ Storage → FailsInside S.Store tables conn.old conn.new) }
     ensures nothing { WritesNothing (state S.Store conn.old) (state S.Store conn.new) }
     ensures ended { conn.new.in_transaction ≡ false }
 {
@@ -109,6 +114,9 @@ fn if_open<S: Alter>(
     ensures no_room { IfErr result (λ e. e ≡ NotARoom → found ≡ Err NotARoom) }
     ensures is_open { HasCleanDisk (state S.Store conn.new)
         → OnOk result (IsTrue (state S.Store conn.new).is_open) }
+    ensures storage { HasCleanDisk (state S.Store conn.new)
+        → IfErr result (λ e. e ≡ Storage → (found ≡ Err Storage)
+        ⊎ TellsNoVersion (state S.Store conn.old) (state S.Store conn.new)) }
     ensures nothing { WritesNothing (state S.Store conn.old) (state S.Store conn.new) }
     ensures ended { conn.new.in_transaction ≡ false }
 {
@@ -136,6 +144,9 @@ pub(crate) fn take_in<S: Alter>(
         → OnOk result (Takes tables (state S.Store conn.old) (state S.Store conn.new)) }
     ensures no_room { HasCleanDisk (state S.Store conn.new)
         → IfErr result (λ e. e ≡ NotARoom → ¬ HoldsBy tables (state S.Store conn.old).now.trees) }
+    ensures why { HasCleanDisk (state S.Store conn.new)
+        → IfErr result (λ e. e ≡ Storage → FailsInside S.Store tables conn.old conn.new
+        ⊎ FailsAtEnd S.Store tables conn.old conn.new) }
     ensures leaves { HasCleanDisk (state S.Store conn.new)
         → OnErr result (Leaves (state S.Store conn.old) (state S.Store conn.new)) }
     ensures untouched { IfErr result (λ e. e ≡ NotARoom
@@ -158,6 +169,9 @@ fn finish<S: Alter>(
         → OnOk found (IsTrue (state S.Store tx.conn.now).in_transaction) }
     ensures plan { IfOk result (λ plan. found ≡ Ok plan) }
     ensures no_room { IfErr result (λ e. e ≡ NotARoom → found ≡ Err NotARoom) }
+    ensures why { HasCleanDisk (state S.Store tx.exit.0.now)
+        → IfErr result (λ e. (found ≡ Err e) ⊎ IsUncommitted (state S.Store tx.entry.conn.now)
+        (state S.Store tx.exit.0.now) e) }
     ensures ok { HasCleanDisk (state S.Store tx.exit.0.now)
         → OnOk result (Shows (state S.Store tx.entry.conn.now) (state S.Store tx.exit.0.now)
         (state S.Store tx.entry.conn.now).now (state S.Store tx.entry.conn.now).now false) }
@@ -201,6 +215,9 @@ fn find_room<S: Alter>(
     ensures no_room { HasCleanDisk (state S.Store tx.new.conn.now)
         → IfErr result (λ e. e ≡ NotARoom
         → ¬ HoldsBy tables (state S.Store tx.old.conn.now).now.trees) }
+    ensures why { HasCleanDisk (state S.Store tx.new.conn.now)
+        → IfErr result (λ e. e ≡ Storage
+        → FailsToReadAs S.Store tables tx.old.conn.now tx.new.conn.now) }
     ensures commits { CommitsNothing S.Store tx.old.conn.now tx.new.conn.now }
     ensures same_reference { tx.new.conn.ghost_name ≡ tx.old.conn.ghost_name }
 {
@@ -232,6 +249,9 @@ fn read_as<S: Alter>(
     ensures no_plan { HasCleanDisk (state S.Store tx.new.conn.now)
         → IfErr result (λ e. e ≡ NotARoom
         → HasNoPlanBy tables (state S.Store tx.old.conn.now).now.trees) }
+    ensures why { HasCleanDisk (state S.Store tx.new.conn.now)
+        → IfErr result (λ e. e ≡ Storage
+        → FailsToReadAs S.Store tables tx.old.conn.now tx.new.conn.now) }
     ensures commits { CommitsNothing S.Store tx.old.conn.now tx.new.conn.now }
     ensures same_reference { tx.new.conn.ghost_name ≡ tx.old.conn.ghost_name }
 {
@@ -254,6 +274,8 @@ fn make_lacking<S: Alter>(
         (state S.Store tx.new.conn.now).now.trees) }
     ensures inside { OnOk result (MayWrite S.Store tx.new.conn.now) }
     ensures commits { CommitsNothing S.Store tx.old.conn.now tx.new.conn.now }
+    ensures why { HasCleanDisk (state S.Store tx.new.conn.now)
+        → IfErr result (FailsToMake S.Store tables tx.old.conn.now tx.new.conn.now) }
     ensures same_reference { tx.new.conn.ghost_name ≡ tx.old.conn.ghost_name }
 {
     match tables {

@@ -13,7 +13,7 @@ pub mod Repeats
 pub mod Rowids
 -- what was shown and is not read
 pub mod Unread
--- want of memory, and a query whose rows are none of what is read
+-- want of memory, a query whose rows are none of what is read, and the last of some reads
 pub mod Told
 -- a table whose rows are read one at a time
 pub mod Streams

@@ -1,7 +1,10 @@
 -- Calls in a loop that change nothing.
 use Rattle.std.proofs.Common.{◌≡◌, ◌⊎◌, inl, inr, ℕ, ap, subst}
-use Rattle.sqlite.specs.State.{State, IsUnchanged}
+use Rattle.sqlite.specs.Held.{Held, state}
+use Rattle.sqlite.specs.State.{State, IsUnchanged, Survives}
 use Rattle.sqlite.proofs.Callers.{unchanged_then}
+use Rattle.sqlite_trees.specs.declared.store.Store.{Ghosts}
+use Rattle.room_tables.specs.Failures.{WentWell}
 
 -- after so many calls: there was none yet, or all is as it was
 pub record Stays {Conn : Type 0} (state : Conn → State) (start : Conn) (calls : ℕ)
@@ -16,3 +19,10 @@ module _ {Conn : Type 0} {state : Conn → State} {start : Conn} {calls : ℕ} {
   pub unchanged_after : (after : Conn) → IsUnchanged (state conn) (state after)
       → IsUnchanged (state start) (state after)
   unchanged_after after more = elim stays.so_far [ inl none ↦ subst (λ c. IsUnchanged (state c) (state after)) none.1 more | inr same ↦ unchanged_then (state start) (state conn) (state after) same more ]
+
+-- so far they went well
+pub well_so_far : {S : Type 0} {g : Ghosts S} {start conn : Held S} {calls : ℕ}
+    → Stays (state g) start calls conn → Survives (state g start) (state g conn) (λ _. ⊥)
+    → WentWell g start conn
+well_so_far stays survives =
+    elim stays.so_far [ inl none ↦ inl none.1 | inr same ↦ inr (record { ok = λ clean. same; err = λ clean. tt; survives = survives }) ]

@@ -1,12 +1,15 @@
--- What is told of want of memory, and of a query whose rows are none of what is read.
-use Rattle.std.proofs.Common.{◌≡◌, Err, List, Ok, Result, inr, ℕ}
+-- What is told of want of memory, of a query whose rows are none of what is read, and of the last of
+-- some reads.
+use Rattle.std.proofs.Common.{◌≡◌, Err, List, Ok, Result, inr, subst, sym, ℕ}
 use Rattle.std.specs.Prelude.{IfErr}
 use Rattle.std.specs.Result.{IsErrAnd}
+use Rattle.sqlite.specs.Held.{Held, state}
 use Rattle.sqlite.specs.State.{Shown, State}
+use Rattle.sqlite_trees.specs.declared.store.Store.{Ghosts}
 use Rattle.sqlite_value.specs.Order.{Row}
 use Rattle.room_tables_schema.specs.declared.faults.Fault.{Fault}
 use Rattle.room_tables_schema.specs.declared.faults.Fault.TheVariants.{Memory, Storage}
-use Rattle.room_tables.specs.Failures.{FailsToRead, IfStorage}
+use Rattle.room_tables.specs.Failures.{FailsAtLast, FailsToRead, IfStorage, WentWell}
 
 -- memory was wanting
 pub memory_fails : {T : Type 0} (IsSo : Type 0) (r : Result T Fault)
@@ -21,3 +24,22 @@ pub shown_fails : (text : List ℕ) (params : Row) (old new : State) (AreNone : 
     → IfStorage (AreNone shown) fault → IfStorage (FailsToRead text params old new AreNone) fault
 shown_fails text params old new AreNone shown is Memory none = tt
 shown_fails text params old new AreNone shown is Storage none = inr (shown, is, none)
+
+-- what holds of a fault holds where it is told
+pub told_on : {T E : Type 0} (r : Result T E) (fault : E) (P : E → Type 0)
+    → IsErrAnd r (λ e. e ≡ fault) → P fault → IfErr r P
+told_on (Ok x) fault P is h = tt
+told_on (Err e) fault P is h = subst P (sym is) h
+
+-- what tells of a cause tells of what follows from it
+pub if_storage : {P Q : Type 0} (fault : Fault) → IfStorage P fault → (P → Q) → IfStorage Q fault
+if_storage Memory so follows = tt
+if_storage Storage so follows = follows so
+
+-- a read failed so, and those before it went well
+pub fails_at_last : {S T : Type 0} {g : Ghosts S} {a b : Held S} {P : Type 0} (c : Held S)
+    (Fails : State → State → Type 0) (r : Result T Fault) (fault : Fault)
+    → IsErrAnd r (λ e. e ≡ fault) → WentWell g a b → IfStorage P fault
+    → (P → Fails (state g b) (state g c)) → IfErr r (IfStorage (FailsAtLast g Fails a c))
+fails_at_last c Fails r fault is well so fails =
+    told_on r fault _ is (if_storage fault so (λ p. record { before = _; well = well; fails = fails p }))

@@ -1,5 +1,5 @@
 -- What a fault tells. Memory may run out at any time; storage is told for a cause.
-use Rattle.std.specs.Prelude.{IfErr, Result, ◌≡◌, ◌≤◌, ◌++◌, ◌⊎◌, ⊤, ℕ, suc, List, ◌∷◌, map, length, Bool, false, Err}
+use Rattle.std.specs.Prelude.{IfErr, Result, ◌≡◌, ◌≤◌, ◌++◌, ◌⊎◌, ⊤, ℕ, suc, List, ◌∷◌, map, length, Bool, false, Err, Ok}
 use Rattle.std.specs.declared.cmp.Ordering.{Ordering}
 use Rattle.sqlite_value.specs.Order.{Row}
 use Rattle.sqlite.specs.Held.{Held, state}
@@ -8,6 +8,7 @@ use Rattle.sqlite.specs.State.{HasCleanDisk, ExecutesInside, FailsToQuery, Shown
 use Rattle.sqlite.specs.declared.error.Error.{Error}
 use Rattle.room_place.specs.declared.plans.Area.{Area}
 use Rattle.room_types_keyed.specs.Keyed.{IsKeyed}
+use Rattle.room_tables_sql.specs.Outcomes.{ReadsInside}
 use Rattle.room_tables_rows.specs.Areas.{is_area_row, area_row}
 use Rattle.room_tables_schema.specs.Faults.{fault_of}
 use Rattle.room_tables_schema.specs.declared.faults.Fault.{Fault}
@@ -34,6 +35,23 @@ abbrev pub TellsWhy : {S T : Type 0} → Ghosts S → Held S → Held S → Resu
 TellsWhy g old new result text params AreNone =
     HasCleanDisk (state g new) → IfErr result
     (IfStorage (FailsToRead text params (state g old) (state g new) AreNone))
+
+-- No read was made yet, or those that were made went well and changed nothing.
+abbrev pub WentWell : {S : Type 0} → Ghosts S → Held S → Held S → Type 0
+WentWell g old new = (new ≡ old) ⊎ ReadsInside {T = Unit {0}} {E = Fault} g old new (Ok tt)
+
+-- Of reads, one after another, the last failed so.
+pub record FailsAtLast {S : Type 0} (g : Ghosts S) (Fails : State → State → Type 0)
+    (old new : Held S) : Type 0 where
+  pub before : Held S
+  pub well : WentWell g old before
+  pub fails : Fails (state g before) (state g new)
+
+-- why the last of them failed: storage is told for this cause
+abbrev pub TellsWhyAtLast : {S T : Type 0} → Ghosts S → Held S → Held S → Result T Fault
+    → (State → State → Type 0) → Type 0
+TellsWhyAtLast g old new result Fails =
+    HasCleanDisk (state g new) → IfErr result (IfStorage (FailsAtLast g Fails old new))
 
 -- why a write failed: storage is told for this cause
 abbrev pub TellsWhyUnwritten : {S T : Type 0} → Ghosts S → Held S → Held S → Result T Fault

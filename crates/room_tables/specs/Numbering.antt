@@ -5,11 +5,13 @@ use Rattle.sqlite_value.specs.declared.value.Value.{Value}
 use Rattle.sqlite_value.specs.declared.value.Value.TheVariants.{Int, Null}
 use Rattle.sqlite_schema.specs.declared.schema.Table.{Table}
 use Rattle.sqlite_value.specs.Order.{Row}
+use Rattle.sqlite.specs.State.{State}
 use Rattle.sqlite.specs.Values.{or_null}
 use Rattle.sqlite_trees.specs.Tree.{Trees, rowid}
 use Rattle.room_tables_sql.specs.Statements.{Selects}
 use Rattle.room_tables_sql.specs.Tables.{AreNumbered, RowidsRise}
 use Rattle.room_tables_schema.specs.Schema.{room_schema, room_tables}
+use Rattle.room_tables.specs.Failures.{FailsToRead}
 
 -- the integer that a value is
 abbrev pub integer_in : Value → Option ℤ
@@ -30,6 +32,11 @@ TellsRise shown false last = ¬ (RowidsRise shown)
 -- the text selects the rowids of a tree, in their order
 abbrev pub SelectsRowids : List ℕ → ℕ → Type 0
 SelectsRowids text tree = Selects room_schema text tree (0 ∷ []) (0 ∷ []) []
+
+-- The rowids of a tree were asked for, and the query failed, not for want of memory.
+abbrev pub FailsAtRowids : State → State → Type 0
+FailsAtRowids old new = (text : List ℕ) × (tree : ℕ) × SelectsRowids text tree
+    × FailsToRead text [] old new (λ _. ⊥)
 
 -- the texts select the rowids of the tables, each those of its own
 abbrev pub SelectEach : List (List ℕ) → List Table → Type 0

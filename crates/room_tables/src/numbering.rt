@@ -1,7 +1,7 @@
 //! Whether the tables of a file number their rows. Tables that this program made do; of a file from
 //! elsewhere no clause says so, and it is tested.
 
-ghost use Rattle.std.specs.Prelude.{◌≡◌, ◌↔◌, ℕ, None, map, true, IsTrue, IfOk};
+ghost use Rattle.std.specs.Prelude.{◌≡◌, ◌↔◌, ℕ, [], None, map, true, IsTrue, IfOk};
 ghost use Rattle.sqlite_value.specs.declared.value.Value.TheVariants.{Null};
 ghost use Rattle.sqlite_trees.specs.Tree.{rowid};
 ghost use Rattle.sqlite.specs.Held.{state};
@@ -10,8 +10,9 @@ ghost use Rattle.room_tables_sql.specs.Tables.{AreNumbered, RowidsRise};
 ghost use Rattle.room_tables_sql.specs.Outcomes.{ReadsInside, ReadsOnly};
 ghost use Rattle.room_tables_schema.specs.Schema.{room_tables};
 ghost use Rattle.room_tables_schema.specs.Connections.{HasRoomSchema};
-ghost use Rattle.room_tables.specs.Numbering.{AreAllNumbered, SelectEach, SelectsRowids};
-ghost use Rattle.room_tables.specs.Numbering.{TellsRise, integer_in};
+ghost use Rattle.room_tables.specs.Failures.{TellsWhy, TellsWhyAtLast};
+ghost use Rattle.room_tables.specs.Numbering.{AreAllNumbered, FailsAtRowids, SelectEach};
+ghost use Rattle.room_tables.specs.Numbering.{SelectsRowids, TellsRise, integer_in};
 
 use room_tables_schema::faults::Fault;
 use room_tables_sql::reading::select_inside;
@@ -43,6 +44,7 @@ pub fn are_numbered<S: Alter>(tx: &mut Transaction<'_, S>) -> Result<bool, Fault
         → IfOk result (λ yes. IsTrue yes
         ↔ AreAllNumbered (state S.Store tx.old.conn.now).now.trees) }
     ensures reads { ReadsInside S.Store tx.old.conn.now tx.new.conn.now result }
+    ensures why { TellsWhyAtLast S.Store tx.old.conn.now tx.new.conn.now result FailsAtRowids }
     ensures same_reference { tx.new.conn.ghost_name ≡ tx.old.conn.ghost_name }
 {
     are_all_numbered(tx, &ROWIDS)
@@ -54,6 +56,7 @@ pub fn are_numbered_streamed<S: Alter>(conn: &mut Connection<S>) -> Result<bool,
     ensures numbered { HasCleanDisk (state S.Store conn.new)
         → IfOk result (λ yes. IsTrue yes ↔ AreAllNumbered (state S.Store conn.old).now.trees) }
     ensures reads { ReadsOnly S.Store conn.old conn.new result }
+    ensures why { TellsWhyAtLast S.Store conn.old conn.new result FailsAtRowids }
 {
     are_all_numbered_streamed(conn, &ROWIDS)
 }
@@ -68,6 +71,7 @@ fn are_all_numbered_streamed<S: Alter>(
     ensures numbered { HasCleanDisk (state S.Store conn.new)
         → IfOk result (λ yes. IsTrue yes ↔ AreAllNumbered (state S.Store conn.old).now.trees) }
     ensures reads { ReadsOnly S.Store conn.old conn.new result }
+    ensures why { TellsWhyAtLast S.Store conn.old conn.new result FailsAtRowids }
 {
     for text in texts {
         if !is_numbered_streamed(conn, text)? {
@@ -86,6 +90,7 @@ fn is_numbered_streamed<S: Alter>(conn: &mut Connection<S>, text: &str) -> Resul
         → IfOk result (λ yes. (tree : ℕ) → SelectsRowids text.now tree
         → (IsTrue yes ↔ AreNumbered ((state S.Store conn.old).now.trees tree))) }
     ensures reads { ReadsOnly S.Store conn.old conn.new result }
+    ensures why { TellsWhy S.Store conn.old conn.new result text.now [] (λ _. ⊥) }
 {
     let mut rowids = Rowids::new();
     stream(conn, text, &[], &mut rowids)?;
@@ -100,6 +105,7 @@ fn are_all_numbered<S: Alter>(tx: &mut Transaction<'_, S>, texts: &[&str]) -> Re
         → IfOk result (λ yes. IsTrue yes
         ↔ AreAllNumbered (state S.Store tx.old.conn.now).now.trees) }
     ensures reads { ReadsInside S.Store tx.old.conn.now tx.new.conn.now result }
+    ensures why { TellsWhyAtLast S.Store tx.old.conn.now tx.new.conn.now result FailsAtRowids }
     ensures same_reference { tx.new.conn.ghost_name ≡ tx.old.conn.ghost_name }
 {
     for text in texts {
@@ -119,6 +125,7 @@ fn is_numbered<S: Alter>(tx: &mut Transaction<'_, S>, text: &str) -> Result<bool
         → IfOk result (λ yes. (tree : ℕ) → SelectsRowids text.now tree
         → (IsTrue yes ↔ AreNumbered ((state S.Store tx.old.conn.now).now.trees tree))) }
     ensures reads { ReadsInside S.Store tx.old.conn.now tx.new.conn.now result }
+    ensures why { TellsWhy S.Store tx.old.conn.now tx.new.conn.now result text.now [] (λ _. ⊥) }
     ensures same_reference { tx.new.conn.ghost_name ≡ tx.old.conn.ghost_name }
 {
     let shown = select_inside(tx, text, &[])?;

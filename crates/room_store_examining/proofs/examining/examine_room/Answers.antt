@@ -1,7 +1,9 @@
+use Rattle.std.proofs.Common.{subst, sym, ◌∙◌}
 use Rattle.std.proofs.lemmas.Result.{IfErr-weaker, IfOk-weaker}
 use Rattle.sqlite.specs.Held.{state}
 use Rattle.room_store_opening.proofs.TakeLaws.{has_tables}
-use Rattle.room_store_examining.proofs.ExaminedLaws.{no_plan_new, read_fault, stands_new, weighed}
+use Rattle.room_store_examining.proofs.ExaminedLaws.{no_plan_new, read_fault, stands_new, told_storage, weighed}
+use Rattle.room_store_examining.specs.Examined.{Weighs}
 use Rattle.room_store_examining.proofs.examining.examine_room.Goals as goal
 
 pub returns-in-Ok-clause-room : goal.returns-in-Ok-clause-room
@@ -22,3 +24,12 @@ pub returns-in-Err-clause-wrong : goal.returns-in-Err-clause-wrong
 returns-in-Err-clause-wrong g c clean =
     let now = (state g.S.Store c.args.conn.now).now in
     rw c.from.ensures (read_fault now (has_tables c.args.tables now.schema c.requires.tables c.requires.new) c.in-Err.fault (λ is. no_plan_new c.args.tables now.trees c.requires.new (c.in-Err.ensures.no_plan clean is)))
+
+pub returns-in-Ok-clause-why : goal.returns-in-Ok-clause-why
+returns-in-Ok-clause-why g c clean =
+    let whole = c.in-Ok.whole in
+    IfErr-weaker c.judge.result _ _ (λ e h storage. absurd (subst (Weighs whole.house.plan.areas whole.rows whole.house.terminals.items) storage h)) c.judge.ensures.wrong
+
+pub returns-in-Err-clause-why : goal.returns-in-Err-clause-why
+returns-in-Err-clause-why g c clean storage =
+    c.in-Err.ensures.why clean (told_storage c.in-Err.fault (sym c.from.ensures ∙ storage))

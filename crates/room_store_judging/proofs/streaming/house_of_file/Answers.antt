@@ -1,4 +1,4 @@
-use Rattle.std.proofs.Common.{arith, rules, ◌≡◌}
+use Rattle.std.proofs.Common.{arith, inl, refl, rules, true, ◌≡◌}
 use Rattle.std.proofs.lemmas.Result.{IfErr-weaker}
 use Rattle.std.specs.Prelude.{IfErr, IfOk}
 use Rattle.sqlite.specs.Held.{state}
@@ -10,7 +10,8 @@ use Rattle.room_store_writes.proofs.CommitLaws.{undone_leaves}
 use Rattle.room_store_judging.proofs.Findings.{planless}
 use Rattle.room_store_judging.proofs.StreamLaws.{reads_commit}
 use Rattle.room_store_judging.specs.Holding.{HasHouse, HoldsRoom, WritesNothing}
-use Rattle.room_store_judging.specs.declared.faults.TakeFault.TheVariants.{NotARoom}
+use Rattle.room_store_judging.specs.Unreadable.{FailsInFile}
+use Rattle.room_store_judging.specs.declared.faults.TakeFault.TheVariants.{NotARoom, Storage}
 use Rattle.room_store_judging.proofs.streaming.house_of_file.Goals as goal
 
 pub returns-clause-found : goal.returns-clause-found
@@ -48,4 +49,23 @@ returns-clause-nothing g c =
           undone_leaves g.S.Store old last end (commits.kept early) (c.rollback.ensures.undone clean) c.requires.committed;
       survives = still (survives_begin g.S.Store old (state g.S.Store last) (λ _. ⊥) commits.survives) c.rollback.ensures.survives;
     } in
+    search rules
+
+pub returns-clause-why : goal.returns-clause-why
+returns-clause-why g c =
+    let old = c.args.conn.now in
+    let last = c.read_house-house.new.tx.conn.now in
+    let end = c.rollback.new.self.0 in
+    let begun = c.transaction-tx.ensures.begun in
+    let all : HasCleanDisk (state g.S.Store end) → IfErr c.read_house-house.result (λ e. e ≡ Storage → FailsInFile g.S.Store old end) = λ clean.
+    let early : HasCleanDisk (state g.S.Store last) = omega (arith, c.rollback.ensures.survives.clean) in
+    IfErr-weaker c.read_house-house.result _ _ (λ e why storage. record {
+      first = record old { in_transaction = true };
+      last = last;
+      same = λ is_open. refl;
+      is_open = λ is_open. inl is_open;
+      since = omega arith;
+      fails = why storage;
+      until = c.rollback.ensures.survives.counts;
+    }) (rw begun at c.read_house-house.ensures.why early) in
     search rules

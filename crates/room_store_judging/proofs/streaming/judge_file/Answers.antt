@@ -1,11 +1,13 @@
-use Rattle.std.proofs.Common.{ap, arith, not, subst, sym, ◌∙◌}
+use Rattle.std.proofs.Common.{ap, arith, inl, inr, not, subst, sym, ◌∙◌}
 use Rattle.std.proofs.lemmas.Bool.{false≢true}
 use Rattle.sqlite.specs.Effect.{Database}
 use Rattle.sqlite.specs.Held.{state}
 use Rattle.sqlite.specs.State.{HasCleanDisk}
 use Rattle.room_tables_sql.proofs.ReadLaws.{and, looked}
-use Rattle.room_store_judging.proofs.Findings.{none_found, not_told}
-use Rattle.room_store_judging.proofs.StreamLaws.{none_done, reads_nothing}
+use Rattle.room_tables.proofs.Told.{if_storage}
+use Rattle.room_store_judging.proofs.Findings.{none_found, not_told, stored, told_storage}
+use Rattle.room_store_judging.proofs.RowLaws.{fails_at_rowids, fails_then}
+use Rattle.room_store_judging.proofs.StreamLaws.{inside_of, none_done, reads_nothing}
 use Rattle.room_store_judging.specs.Streaming.{HasJudged}
 use Rattle.room_store_judging.proofs.streaming.judge_file.Goals as goal
 
@@ -23,6 +25,7 @@ returns-in_err-are_numbered_streamed g c =
     record {
       found = λ clean. none_found _ _ failed.0;
       unnumbered = λ clean. not_told _ c.in_err-are_numbered_streamed.field-0.0 _ failed.1;
+      why = λ clean. told_storage _ c.in_err-are_numbered_streamed.field-0.0 _ failed.1 (if_storage c.in_err-are_numbered_streamed.field-0.0 (c.in_err-are_numbered_streamed.ensures.why clean) (λ f. inr (fails_at_rowids f)));
       nothing = reads_nothing g.S.Store _ _ _ settled reads;
       ended = reads.mode c.requires.outside;
     }
@@ -34,6 +37,7 @@ returns-then-not-branch g c =
     record {
       found = λ clean. tt;
       unnumbered = λ clean is. ((test.reads.ok clean).0.was_open, λ all. false≢true (sym c.if-not-branch.true ∙ (test.numbered clean).1 all));
+      why = λ clean storage. cc;
       nothing = reads_nothing g.S.Store _ _ _ settled test.reads;
       ended = test.reads.mode c.requires.outside;
     }
@@ -54,6 +58,16 @@ returns-in-Ok g c =
             judged_are = subst (λ (db : Database). HasJudged db.trees c.args.plan.now.areas c.in-Ok.judged) same.now_is (c.in-Ok.ensures.judged clean);
           };
       unnumbered = λ clean. tt;
+      why = λ clean. tt;
       nothing = reads_nothing g.S.Store _ _ _ settled reads;
       ended = reads.mode c.requires.outside;
     }
+
+pub returns-then-not-is_room-clause-why : goal.returns-then-not-is_room-clause-why
+returns-then-not-is_room-clause-why g c clean storage =
+    inl (λ is. false≢true (sym c.if-not-is_room.true ∙ c.is_room.ensures.1 (c.schema.ensures.value ∙ is)))
+
+pub returns-in-Err-clause-why : goal.returns-in-Err-clause-why
+returns-in-Err-clause-why g c clean =
+    let reads = inside_of c.in_ok-are_numbered_streamed.ensures.reads in
+    rw c.from.ensures (stored c.in-Err.fault (if_storage c.in-Err.fault (c.in-Err.ensures.why clean) (λ f. inr (fails_then reads f))))

@@ -17,7 +17,7 @@ returns-in-Ok-each_row g c =
 pub returns-in-Err-each_row : goal.returns-in-Err-each_row
 returns-in-Err-each_row g c =
     let read = c.in-Err-each_row.ensures in
-    record { room = tt; next = next_failed c.in-Ok.is (inside_of read.reads); mode = read.reads.mode }
+    record { room = tt; next = next_failed c.in-Ok.is (inside_of read.reads) read.why; mode = read.reads.mode }
 
 pub returns-in-Err : goal.returns-in-Err
 returns-in-Err g c = record { room = c.requires.room; next = next_none c.in-Err.is; mode = λ outside. outside }

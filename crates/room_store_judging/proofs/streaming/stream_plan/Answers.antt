@@ -1,10 +1,11 @@
-use Rattle.std.proofs.Common.{arith, subst, sym}
+use Rattle.std.proofs.Common.{arith, inr, subst, sym}
 use Rattle.std.proofs.lemmas.Result.{IfErr-weaker, IfOk-weaker}
 use Rattle.sqlite.specs.Effect.{Database}
 use Rattle.sqlite.specs.Held.{state}
 use Rattle.sqlite.specs.State.{HasCleanDisk}
-use Rattle.room_store_judging.proofs.Findings.{held_numbered}
-use Rattle.room_store_judging.proofs.StreamLaws.{is_no_room, is_plan, nothing_then}
+use Rattle.room_tables.proofs.Told.{told_on}
+use Rattle.room_store_judging.proofs.Findings.{held_numbered, none_stored}
+use Rattle.room_store_judging.proofs.StreamLaws.{file_fails, is_no_room, is_plan, nothing_then}
 use Rattle.room_store_judging.specs.Holding.{HoldsRoom}
 use Rattle.room_store_judging.proofs.streaming.stream_plan.Goals as goal
 
@@ -40,3 +41,17 @@ returns-in-Err-clause-no_room g c clean none holds =
 
 pub returns-in-Err-clause-nothing : goal.returns-in-Err-clause-nothing
 returns-in-Err-clause-nothing g c = nothing_then _ _ _ c.in_ok-house.ensures.nothing c.in-Err.ensures.nothing
+
+pub returns-in_err-house-clause-why : goal.returns-in_err-house-clause-why
+returns-in_err-house-clause-why g c clean =
+    told_on _ c.in_err-house.field-0.0 _ c.from_residual.ensures.1 (λ storage. inr (c.in_err-house.ensures.why clean storage))
+
+pub returns-in-Ok-clause-why : goal.returns-in-Ok-clause-why
+returns-in-Ok-clause-why g c clean = none_stored c.plan_of_judged.result _ c.plan_of_judged.ensures.cause
+
+pub returns-in-Err-clause-why : goal.returns-in-Err-clause-why
+returns-in-Err-clause-why g c clean storage =
+    let mid = c.house_of_file.new.conn in
+    let early : HasCleanDisk (state g.S.Store mid) = omega (arith, c.in-Err.ensures.nothing.survives.clean) in
+    let house = c.in_ok-house.ensures.nothing in
+    file_fails g.S.Store c.args.conn.now mid _ house early c.in-Err.ensures.nothing.survives.counts c.requires.schema (c.in-Err.ensures.why clean storage)

@@ -13,7 +13,7 @@ returns-in-Ok-all_rows g c =
     record { room = room_after c.in-Ok.is read.reads c.requires.room; next = next_found c.in-Ok.is read.reads read.found; same_reference = c.all_rows.ensures.same_reference }
 
 pub returns-in-Err-all_rows : goal.returns-in-Err-all_rows
-returns-in-Err-all_rows g c = record { room = tt; next = next_failed c.in-Ok.is c.in-Err-all_rows.ensures.reads; same_reference = c.all_rows.ensures.same_reference }
+returns-in-Err-all_rows g c = record { room = tt; next = next_failed c.in-Ok.is c.in-Err-all_rows.ensures.reads c.in-Err-all_rows.ensures.why; same_reference = c.all_rows.ensures.same_reference }
 
 pub returns-in-Err : goal.returns-in-Err
 returns-in-Err g c = record { room = c.requires.room; next = next_none c.in-Err.is; same_reference = refl }

@@ -12,7 +12,10 @@ use Rattle.room_tables_sql.specs.Tables.{AreNumbered}
 use Rattle.room_tables.specs.Stands.{StandsFor, numbered}
 use Rattle.room_tables.proofs.Inside.{inside_then}
 use Rattle.room_tables_sql.proofs.ReadLaws.{fails_inside, told_inside}
-use Rattle.room_store_judging.proofs.Findings.{none_found, not_told}
+use Rattle.room_tables.proofs.Told.{if_storage}
+use Rattle.room_store_judging.proofs.Findings.{none_found, none_stored, not_told, told_storage}
+use Rattle.room_store_judging.proofs.RowLaws.{fails_first, fails_then}
+use Rattle.room_store_judging.specs.Unreadable.{areas_fail, meta_fails, terminals_fail}
 use Rattle.room_store_judging.proofs.whole.read_house.Goals as goal
 
 pub returns-clause-found : goal.returns-clause-found
@@ -54,6 +57,7 @@ returns-in_err-terminals g c =
     record {
       found = λ clean. none_found _ _ failed.0;
       no_plan = λ clean. not_told _ c.in_err-terminals.field-0.0 _ failed.1;
+      why = λ clean. told_storage _ c.in_err-terminals.field-0.0 _ failed.1 (if_storage c.in_err-terminals.field-0.0 (c.in_err-terminals.ensures.why clean) (λ f. fails_first (terminals_fail f)));
       reads = fails_inside failed.0 c.in_err-terminals.ensures.reads;
       same_reference = c.all_terminals.ensures.same_reference;
     }
@@ -64,6 +68,7 @@ returns-in_err-zone g c =
     record {
       found = λ clean. none_found _ _ failed.0;
       no_plan = λ clean. not_told _ c.in_err-zone.field-0.0 _ failed.1;
+      why = λ clean. told_storage _ c.in_err-zone.field-0.0 _ failed.1 (if_storage c.in_err-zone.field-0.0 (c.in_err-zone.ensures.why clean) (λ f. fails_then c.in_ok-terminals.ensures.reads (fails_first (meta_fails f))));
       reads = inside_then c.in_ok-terminals.ensures.reads _ (fails_inside failed.0 c.in_err-zone.ensures.reads);
       same_reference = c.zone.ensures.same_reference ∙ c.all_terminals.ensures.same_reference;
     }
@@ -74,6 +79,7 @@ returns-in_err-areas g c =
     record {
       found = λ clean. none_found _ _ failed.0;
       no_plan = λ clean. not_told _ c.in_err-areas.field-0.0 _ failed.1;
+      why = λ clean. told_storage _ c.in_err-areas.field-0.0 _ failed.1 (if_storage c.in_err-areas.field-0.0 (c.in_err-areas.ensures.why clean) (λ f. fails_then c.in_ok-terminals.ensures.reads (fails_then c.in_ok-zone.ensures.reads (fails_first (areas_fail f)))));
       reads = inside_then c.in_ok-terminals.ensures.reads _ (inside_then c.in_ok-zone.ensures.reads _ (fails_inside failed.0 c.in_err-areas.ensures.reads));
       same_reference = c.all_areas.ensures.same_reference ∙ c.zone.ensures.same_reference ∙ c.all_terminals.ensures.same_reference;
     }
@@ -81,3 +87,6 @@ returns-in_err-areas g c =
 pub returns-clause-reads : goal.returns-clause-reads
 returns-clause-reads g c =
     inside_then c.in_ok-terminals.ensures.reads _ (inside_then c.in_ok-zone.ensures.reads _ (told_inside _ c.in_ok-areas.ensures.reads))
+
+pub returns-clause-why : goal.returns-clause-why
+returns-clause-why g c clean = none_stored c.planned_house.result _ c.planned_house.ensures.cause

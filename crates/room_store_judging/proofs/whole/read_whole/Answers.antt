@@ -5,7 +5,9 @@ use Rattle.sqlite.specs.State.{HasCleanDisk}
 use Rattle.room_tables.specs.Numbering.{AreAllNumbered}
 use Rattle.room_tables.proofs.Inside.{inside_then}
 use Rattle.room_tables_sql.proofs.ReadLaws.{fails_inside, told_inside}
-use Rattle.room_store_judging.proofs.Findings.{none_found, not_told, stands_with, told_on}
+use Rattle.room_tables.proofs.Told.{if_storage, told_on}
+use Rattle.room_store_judging.proofs.Findings.{none_found, not_told, stands_with, told_storage}
+use Rattle.room_store_judging.proofs.RowLaws.{fails_at_rowids, fails_then}
 use Rattle.room_store_judging.specs.Holding.{HasHouse, HasRows, MakesNoPlan}
 use Rattle.room_store_judging.specs.declared.faults.TakeFault.TheVariants.{NotARoom}
 use Rattle.room_store_judging.proofs.whole.read_whole.Goals as goal
@@ -29,6 +31,7 @@ pub returns-in_err-are_numbered : goal.returns-in_err-are_numbered
 returns-in_err-are_numbered g c = record {
   stands = λ clean. none_found _ _ c.from_residual.ensures.0;
   no_plan = λ clean. not_told _ c.in_err-are_numbered.field-0.0 _ c.from_residual.ensures.1;
+  why = λ clean. told_storage _ c.in_err-are_numbered.field-0.0 _ c.from_residual.ensures.1 (if_storage c.in_err-are_numbered.field-0.0 (c.in_err-are_numbered.ensures.why clean) fails_at_rowids);
   reads = fails_inside c.from_residual.ensures.0 c.in_err-are_numbered.ensures.reads;
   same_reference = c.are_numbered.ensures.same_reference;
 }
@@ -49,6 +52,10 @@ returns-in_err-house-clause-no_plan g c clean =
     let none = subst (λ (db : Database). c.in_err-house.field-0.0 ≡ NotARoom → AreAllNumbered db.trees → MakesNoPlan db.trees) same (c.in_err-house.ensures.no_plan clean) in
     told_on c.from_residual-in_err-house.result c.in_err-house.field-0.0 _ c.from_residual-in_err-house.ensures.1 (λ is. inr (none is all))
 
+pub returns-in_err-house-clause-why : goal.returns-in_err-house-clause-why
+returns-in_err-house-clause-why g c clean =
+    told_on c.from_residual-in_err-house.result c.in_err-house.field-0.0 _ c.from_residual-in_err-house.ensures.1 (λ storage. fails_then c.in_ok-are_numbered.ensures.reads (c.in_err-house.ensures.why clean storage))
+
 pub returns-in_err-house-clause-reads : goal.returns-in_err-house-clause-reads
 returns-in_err-house-clause-reads g c = inside_then c.in_ok-are_numbered.ensures.reads _ (fails_inside c.from_residual-in_err-house.ensures.0 c.in_err-house.ensures.reads)
 
@@ -58,6 +65,7 @@ returns-in_err-rows g c =
     record {
       stands = λ clean. none_found _ _ failed.0;
       no_plan = λ clean. not_told _ c.in_err-rows.field-0.0 _ failed.1;
+      why = λ clean. told_storage _ c.in_err-rows.field-0.0 _ failed.1 (if_storage c.in_err-rows.field-0.0 (c.in_err-rows.ensures.why clean) (λ f. fails_then c.in_ok-are_numbered.ensures.reads (fails_then c.in_ok-house.ensures.reads f)));
       reads = inside_then c.in_ok-are_numbered.ensures.reads _ (inside_then c.in_ok-house.ensures.reads _ (fails_inside failed.0 c.in_err-rows.ensures.reads));
       same_reference = c.read_rows.ensures.same_reference ∙ c.read_house.ensures.same_reference ∙ c.are_numbered.ensures.same_reference;
     }

@@ -57,6 +57,11 @@ returns-clause-storage g c clean =
     let early : HasCleanDisk (state g.S.Store c.is_room_of.new.conn) = omega (arith, c.open_tables.ensures.survives.clean) in
     IfErr-weaker c.open_tables.result _ _ (λ e has is. inl (subst (λ (db : Database). HasTables db.schema) (c.in_ok-is_room_of.ensures.ok early) (has is))) (c.open_tables.ensures.storage clean)
 
+pub returns-clause-why : goal.returns-clause-why
+returns-clause-why g c clean =
+    let early : HasCleanDisk (state g.S.Store c.is_room_of.new.conn) = omega (arith, c.open_tables.ensures.survives.clean) in
+    IfErr-weaker c.open_tables.result _ _ (λ e why is. inr (record { mid = c.is_room_of.new.conn; same = c.in_ok-is_room_of.ensures.ok early; nothing = c.is_room_of.ensures.nothing; fails = why is })) (c.open_tables.ensures.why clean)
+
 pub returns-clause-untouched : goal.returns-clause-untouched
 returns-clause-untouched g c =
     both_errs c.open_tables.result _ _ _ c.open_tables.ensures.this_version c.open_tables.ensures.untouched (λ e other none is. elim is [
@@ -87,6 +92,7 @@ returns-in_err-is_room_of g c =
       old_room = λ clean. IfErr-weaker c.from_residual.result _ _ (λ e other. (λ is. absurd (other.0 is), λ is. absurd (other.1 is))) (none_opened _ c.in_err-is_room_of.field-0.0 failed.1);
       no_room = λ clean. IfErr-weaker c.from_residual.result _ _ (λ e other is. absurd (other.1 is)) (none_opened _ c.in_err-is_room_of.field-0.0 failed.1);
       storage = λ clean. IfErr-weaker c.from_residual.result _ _ (λ e hides is. inr (hides is)) (hidden c.from_residual.result c.in_err-is_room_of.field-0.0 _ failed.1 (c.in_err-is_room_of.ensures.why clean));
+      why = λ clean. IfErr-weaker c.from_residual.result _ _ (λ e hides is. inl (hides is)) (hidden c.from_residual.result c.in_err-is_room_of.field-0.0 _ failed.1 (c.in_err-is_room_of.ensures.why clean));
       untouched = any_fault c.from_residual.result _ (λ e _. looked);
       ended = c.is_room_of.ensures.ended;
       survives = survives_less old (state g.S.Store c.is_room_of.new.conn) (λ _. ⊥) (MayBeIndexed old.now) (λ db none. absurd none) looked.survives;
@@ -106,6 +112,7 @@ returns-then-branch g c =
       old_room = λ clean. (λ is. (c.in_ok-is_room_of.ensures.told clean).0 c.if-branch.true, λ is. cc);
       no_room = λ clean is. cc;
       storage = λ clean is. cc;
+      why = λ clean is. cc;
       untouched = λ is. looked;
       ended = c.is_room_of.ensures.ended;
       survives = survives_less old (state g.S.Store c.is_room_of.new.conn) (λ _. ⊥) (MayBeIndexed old.now) (λ db none. absurd none) looked.survives;

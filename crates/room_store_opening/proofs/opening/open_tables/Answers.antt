@@ -1,7 +1,7 @@
 use Rattle.std.proofs.Common.{IsTrue, inr, rules, sym, ◌∙◌, ◌≡◌}
 use Rattle.sqlite.specs.Held.{state}
 use Rattle.room_store_opening.proofs.FileLaws.{may_be_indexed, takes_opens}
-use Rattle.room_store_opening.proofs.TakeLaws.{has_tables, holds_new, survives_less, told_open}
+use Rattle.room_store_opening.proofs.TakeLaws.{has_tables, holds_new, survives_less, told_open, told_storage}
 use Rattle.room_store_opening.specs.Opening.{MayBeIndexed, schema_of}
 use Rattle.room_store_opening.proofs.opening.open_tables.Goals as goal
 
@@ -22,6 +22,11 @@ returns-in-Err-clause-storage g c clean is =
     let old = state g.S.Store c.args.conn.now in
     let has : old.now.schema ≡ schema_of c.in-Some.tables = search rules in
     has_tables c.in-Some.tables old.now.schema has c.in-Some.ensures.tables.1
+
+pub returns-in-Err-clause-why : goal.returns-in-Err-clause-why
+returns-in-Err-clause-why g c clean is =
+    let has : (state g.S.Store c.args.conn.now).now.schema ≡ schema_of c.in-Some.tables = search rules in
+    (c.in-Some.tables, has, c.in-Err.ensures.why clean (told_storage c.in-Err.fault (sym c.from.ensures ∙ is)))
 
 pub returns-in-Err-clause-untouched : goal.returns-in-Err-clause-untouched
 returns-in-Err-clause-untouched g c is = c.in-Err.ensures.untouched (told_open c.in-Err.fault (sym c.from.ensures ∙ is))

@@ -3,7 +3,7 @@ use Rattle.std.proofs.lemmas.Result.{IfErr-weaker, IfOk-weaker}
 use Rattle.sqlite.specs.Held.{state}
 use Rattle.room_model.specs.Slices.{room_of}
 use Rattle.room_store_writes.proofs.CommitLaws.{on_ok}
-use Rattle.room_store_judging.proofs.Findings.{held_is}
+use Rattle.room_store_judging.proofs.Findings.{held_is, none_stored}
 use Rattle.room_store_opening.proofs.TakeLaws.{becomes_holds, planless_by}
 use Rattle.room_store_opening.proofs.taking.find_room.Goals as goal
 
@@ -33,3 +33,6 @@ returns-in-Ok-clause-no_room g c clean =
 pub returns-in-Err-clause-no_room : goal.returns-in-Err-clause-no_room
 returns-in-Err-clause-no_room g c clean is =
     planless_by c.args.tables (state g.S.Store c.args.tx.now.conn.now).now.trees (c.in-Err.ensures.no_plan clean is)
+
+pub returns-in-Ok-clause-why : goal.returns-in-Ok-clause-why
+returns-in-Ok-clause-why g c clean = none_stored c.sound_plan.result _ c.sound_plan.ensures.cause

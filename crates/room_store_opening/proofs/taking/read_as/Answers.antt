@@ -1,4 +1,4 @@
-use Rattle.std.proofs.Common.{ap, arith, subst, sym, ◌∙◌}
+use Rattle.std.proofs.Common.{arith, inl, inr, subst, sym}
 use Rattle.std.proofs.lemmas.Result.{IfErr-weaker}
 use Rattle.sqlite.specs.Effect.{Database}
 use Rattle.sqlite.specs.Held.{state}
@@ -8,9 +8,9 @@ use Rattle.room_tables.proofs.RoomReads.{kept}
 use Rattle.room_tables_sql.proofs.WriteLaws.{commits_more}
 use Rattle.room_store_writes.proofs.CommitLaws.{ok_then}
 use Rattle.room_store_writes.specs.Houses.{house_of}
-use Rattle.room_store_opening.proofs.TakeLaws.{may_write_on, ok_holds}
+use Rattle.room_store_opening.proofs.TakeLaws.{may_write_on, not_made, ok_holds}
 use Rattle.room_store_judging.proofs.StreamLaws.{reads_commit}
-use Rattle.room_store_opening.specs.Opening.{Becomes}
+use Rattle.room_store_opening.specs.Opening.{Becomes, FailsToMake}
 use Rattle.room_store_opening.proofs.taking.read_as.Goals as goal
 
 pub returns-clause-stands : goal.returns-clause-stands
@@ -42,3 +42,12 @@ returns-clause-no_plan g c clean =
 
 pub returns-clause-commits : goal.returns-clause-commits
 returns-clause-commits g c = commits_more c.make_lacking.ensures.commits (reads_commit c.read_whole.result c.read_whole.ensures.reads)
+
+pub returns-clause-why : goal.returns-clause-why
+returns-clause-why g c clean =
+    let early : HasCleanDisk (state g.S.Store c.make_lacking.new.tx.conn.now) = omega (arith, c.read_whole.ensures.reads.survives.clean) in
+    IfErr-weaker c.read_whole.result _ _ (λ e why storage. inr (record { made = c.make_lacking.new.tx.conn.now; becomes = c.in_ok-make_lacking.ensures.becomes early; commits = c.make_lacking.ensures.commits; fails = why storage })) (c.read_whole.ensures.why clean)
+
+pub returns-in_err-make_lacking-clause-why : goal.returns-in_err-make_lacking-clause-why
+returns-in_err-make_lacking-clause-why g c clean =
+    not_made c.from_residual.result c.in_err-make_lacking.field-0.0 (FailsToMake g.S.Store c.args.tables c.args.tx.now.conn.now c.make_lacking.new.tx.conn.now) c.from_residual.ensures.1 (λ storage. inl storage) (c.in_err-make_lacking.ensures.why clean)

@@ -1,4 +1,5 @@
 use Rattle.std.proofs.Common.{arith, rules, ◌≡◌}
+use Rattle.std.proofs.lemmas.Result.{IfErr-weaker}
 use Rattle.std.specs.Prelude.{IfErr, IfOk}
 use Rattle.sqlite.specs.Held.{state}
 use Rattle.sqlite.specs.State.{HasCleanDisk}
@@ -8,9 +9,10 @@ use Rattle.room_tables_sql.proofs.ReadLaws.{still}
 use Rattle.room_store_writes.proofs.CommitLaws.{undone_leaves}
 use Rattle.room_store_writes.specs.Houses.{house_of}
 use Rattle.room_store_opening.proofs.TakeLaws.{becomes_back, ok_holds}
+use Rattle.room_store_opening.specs.Causes.{FailsInside}
 use Rattle.room_store_opening.specs.Opening.{HasNoPlanBy, StandsBy}
 use Rattle.room_store_judging.specs.Holding.{WritesNothing}
-use Rattle.room_store_judging.specs.declared.faults.TakeFault.TheVariants.{NotARoom}
+use Rattle.room_store_judging.specs.declared.faults.TakeFault.TheVariants.{NotARoom, Storage}
 use Rattle.room_store_opening.proofs.taking.read_file.Goals as goal
 
 pub returns-clause-stands : goal.returns-clause-stands
@@ -47,4 +49,15 @@ returns-clause-nothing g c =
           undone_leaves g.S.Store old last end (rw begun at c.read_as-found.ensures.commits.kept early) (c.rollback.ensures.undone clean) c.requires.committed;
       survives = still (survives_begin g.S.Store old (state g.S.Store last) (λ _. ⊥) (rw begun at c.read_as-found.ensures.commits.survives)) c.rollback.ensures.survives;
     } in
+    search rules
+
+pub returns-clause-why : goal.returns-clause-why
+returns-clause-why g c =
+    let old = c.args.conn.now in
+    let last = c.read_as-found.new.tx.conn.now in
+    let end = c.rollback.new.self.0 in
+    let begun = c.transaction-tx.ensures.begun in
+    let all : HasCleanDisk (state g.S.Store end) → IfErr c.read_as-found.result (λ e. e ≡ Storage → FailsInside g.S.Store c.args.tables old end) = λ clean.
+    let early : HasCleanDisk (state g.S.Store last) = omega (arith, c.rollback.ensures.survives.clean) in
+    IfErr-weaker c.read_as-found.result _ _ (λ e why storage. record { last = last; fails = why storage; undone = c.rollback.ensures.undone clean; until = c.rollback.ensures.survives.counts }) (rw begun at c.read_as-found.ensures.why early) in
     search rules

@@ -1,4 +1,4 @@
-use Rattle.std.proofs.Common.{arith, refl, subst, sym, ◌≡◌}
+use Rattle.std.proofs.Common.{arith, inl, inr, refl, subst, sym, ◌≡◌, ◌⊎◌}
 use Rattle.std.proofs.lemmas.Result.{IfErr-weaker}
 use Rattle.sqlite.specs.Effect.{Database}
 use Rattle.sqlite.specs.Held.{state}
@@ -6,10 +6,11 @@ use Rattle.sqlite.specs.State.{HasCleanDisk}
 use Rattle.room_store_writes.proofs.CommitLaws.{ok_then}
 use Rattle.room_tables_sql.proofs.ReadLaws.{any_err}
 use Rattle.room_store_judging.proofs.StreamLaws.{nothing_then}
-use Rattle.room_store_opening.proofs.TakeLaws.{any_fault, found_holds, looked_takes, refused, survives_less}
-use Rattle.room_store_opening.specs.Opening.{HoldsBy, MayBecome, schema_of}
+use Rattle.room_store_opening.proofs.TakeLaws.{any_fault, found_holds, lacking, looked_takes, refused, survives_less}
+use Rattle.room_store_opening.specs.Opening.{HoldsBy, MayBecome, TellsNoVersion, schema_of}
 use Rattle.room_store_judging.specs.Holding.{IsPlanOf}
-use Rattle.room_store_judging.specs.declared.faults.TakeFault.TheVariants.{NotARoom}
+use Rattle.room_store_judging.specs.Unreadable.{FailsToTake}
+use Rattle.room_store_judging.specs.declared.faults.TakeFault.TheVariants.{NotARoom, Storage}
 use Rattle.room_store_opening.proofs.taking.take.Goals as goal
 
 pub stream_plan-found-requires-clause-schema : goal.stream_plan-found-requires-clause-schema
@@ -38,6 +39,17 @@ returns-clause-no_room g c clean =
     let none = IfErr-weaker c.stream_plan-found.result _ (λ e. e ≡ NotARoom → ¬ HoldsBy c.args.tables old.now.trees) (λ e no is holds. no is (subst (λ t. HoldsBy t old.now.trees) c.in-Whole.is holds)) (c.stream_plan-found.ensures.no_room early) in
     IfErr-weaker c.if_open.result _ _ (λ e told is. refused c.stream_plan-found.result NotARoom (λ e. e ≡ NotARoom → ¬ HoldsBy c.args.tables old.now.trees) (told is) none refl) c.if_open.ensures.no_room
 
+pub returns-clause-why : goal.returns-clause-why
+returns-clause-why g c clean =
+    let old = c.args.conn.now in
+    let mid = c.stream_plan-found.new.conn in
+    let new = c.if_open.new.conn in
+    let early : HasCleanDisk (state g.S.Store mid) = omega (arith, c.if_open.ensures.nothing.survives.clean) in
+    let found = c.stream_plan-found.result in
+    IfErr-weaker c.if_open.result _ _ (λ e told storage.
+    let fails : FailsToTake g.S.Store old mid ⊎ TellsNoVersion (state g.S.Store mid) (state g.S.Store new) = elim (told storage) [ inl is ↦ inl (refused found Storage _ is (c.stream_plan-found.ensures.why early) refl) | inr none ↦ inr none ] in
+    rw c.in-Whole.is (record { mid = mid; nothing = c.stream_plan-found.ensures.nothing; fails = fails })) (c.if_open.ensures.storage clean)
+
 pub returns-clause-leaves : goal.returns-clause-leaves
 returns-clause-leaves g c clean =
     any_err c.if_open.result ((nothing_then (state g.S.Store c.args.conn.now) (state g.S.Store c.stream_plan-found.new.conn) (state g.S.Store c.if_open.new.conn) c.stream_plan-found.ensures.nothing c.if_open.ensures.nothing).left clean)
@@ -53,4 +65,15 @@ returns-clause-survives g c =
     survives_less old new (λ _. ⊥) (MayBecome c.args.tables old.now.trees) (λ db none. absurd none) (nothing_then old (state g.S.Store c.stream_plan-found.new.conn) new c.stream_plan-found.ensures.nothing c.if_open.ensures.nothing).survives
 
 pub returns-in_default : goal.returns-in_default
-returns-in_default g c = c.take_in.ensures
+returns-in_default g c =
+    let done = c.take_in.ensures in
+    record {
+      room = done.room;
+      takes = done.takes;
+      no_room = done.no_room;
+      why = λ clean. lacking g.S.Store c.args.tables c.in_default.not-Whole c.args.conn.now c.take_in.new.conn c.take_in.result (done.why clean);
+      leaves = done.leaves;
+      untouched = done.untouched;
+      ended = done.ended;
+      survives = done.survives;
+    }

@@ -1,4 +1,4 @@
-use Rattle.std.proofs.Common.{IsTrue, ap, arith, refl, rules, subst, sym, ◌∙◌, ◌≡◌}
+use Rattle.std.proofs.Common.{IsTrue, ap, arith, inl, inr, refl, rules, subst, sym, ◌∙◌, ◌≡◌, ◌⊎◌}
 use Rattle.std.proofs.lemmas.Result.{IfErr-weaker}
 use Rattle.std.specs.Prelude.{IfErr, IfOk, OnOk}
 use Rattle.sqlite.specs.Effect.{Database}
@@ -7,9 +7,10 @@ use Rattle.sqlite.specs.State.{HasCleanDisk, Survives}
 use Rattle.sqlite_rules.proofs.ViewLemmas.{on_ok_both}
 use Rattle.room_store_writes.proofs.CommitLaws.{ended_survives, ok_both, ok_then, undone_leaves, when_ok}
 use Rattle.room_store_opening.proofs.TakeLaws.{both_errs, found_holds, found_ok, may_become, refused, survives_less, under}
-use Rattle.room_store_opening.specs.Opening.{Becomes, HoldsBy, MayBecome, Takes}
+use Rattle.room_store_opening.specs.Causes.{FailsAtEnd, FailsInside}
+use Rattle.room_store_opening.specs.Opening.{Becomes, HoldsBy, IsUncommitted, MayBecome, Takes}
 use Rattle.room_store_judging.specs.Holding.{IsPlanOf, WritesNothing}
-use Rattle.room_store_judging.specs.declared.faults.TakeFault.TheVariants.{NotARoom}
+use Rattle.room_store_judging.specs.declared.faults.TakeFault.TheVariants.{NotARoom, Storage}
 use Rattle.room_store_opening.proofs.taking.take_in.Goals as goal
 
 pub finish-requires : goal.finish-requires
@@ -52,6 +53,22 @@ returns-clause-no_room g c =
     let early : HasCleanDisk last = omega (arith, c.finish.ensures.survives.clean) in
     let none = rw begun at c.find_room-found.ensures.no_room early in
     IfErr-weaker c.finish.result _ _ (λ e told is. refused c.find_room-found.result NotARoom (λ e. e ≡ NotARoom → ¬ HoldsBy c.args.tables old.now.trees) (told is) none refl) c.finish.ensures.no_room in
+    search rules
+
+pub returns-clause-why : goal.returns-clause-why
+returns-clause-why g c =
+    let old = c.args.conn.now in
+    let last = c.find_room-found.new.tx.conn.now in
+    let end = c.finish.new.tx.0 in
+    let begun = c.transaction-tx.ensures.begun in
+    let found = c.find_room-found.result in
+    let all : HasCleanDisk (state g.S.Store end) → IfErr c.finish.result (λ e. e ≡ Storage → FailsInside g.S.Store c.args.tables old end ⊎ FailsAtEnd g.S.Store c.args.tables old end) = λ clean.
+    let early : HasCleanDisk (state g.S.Store last) = omega (arith, c.finish.ensures.survives.clean) in
+    let why = rw begun at c.find_room-found.ensures.why early in
+    both_errs c.finish.result _ _ _ (c.finish.ensures.why clean) (c.finish.ensures.err clean) (λ e told back storage. elim told [
+      | inl is ↦ inl (record { last = last; fails = refused found e _ is why storage; undone = back; until = c.finish.ensures.survives.counts })
+      | inr none ↦ inr (record { last = last; commits = rw begun at c.find_room-found.ensures.commits; fails = subst (IsUncommitted (state g.S.Store last) (state g.S.Store end)) storage none })
+    ]) in
     search rules
 
 pub returns-clause-leaves : goal.returns-clause-leaves

@@ -3,8 +3,10 @@ use Rattle.std.proofs.lemmas.List.{at_drop_more, at_drop_all}
 use Rattle.sqlite.specs.Held.{state}
 use Rattle.sqlite.specs.State.{HasCleanDisk}
 use Rattle.sqlite.proofs.StateLemmas.{survives_then}
-use Rattle.room_tables.proofs.Repeats.{trees_stay, unchanged_after}
+use Rattle.room_tables.proofs.Repeats.{trees_stay, unchanged_after, well_so_far}
 use Rattle.room_tables.proofs.Rowids.{Left, none_left, next_selects, less_left, one_numbered}
+use Rattle.room_tables.proofs.Told.{fails_at_last}
+use Rattle.room_tables.specs.Numbering.{FailsAtRowids}
 use Rattle.room_tables.proofs.numbering.are_all_numbered.Goals as goal
 
 pub is_numbered-requires-clause-selects : goal.is_numbered-requires-clause-selects
@@ -27,6 +29,14 @@ loop-text-preserved g c =
           less_left old.now.trees _ _ _ (rw (trees_stay (before.stays (early clean))) at (c.in_ok-is_numbered.ensures.numbered clean))
           (subst (Left old.now.trees) (at_drop_more (map (λ text. text.now)) c.args.texts.now c.loop-text.text-index _ c.loop-text-test.true) (before.left (early clean))) c.if-not-branch.false;
     }
+
+pub returns-in_err-is_numbered-clause-why : goal.returns-in_err-is_numbered-clause-why
+returns-in_err-is_numbered-clause-why g c clean =
+    let before = c.loop-text.invariant in
+    let early : HasCleanDisk (state g.S.Store c.loop-text.tx.conn.now) = omega (arith, c.is_numbered.ensures.reads.survives.clean) in
+    let left = subst (Left (state g.S.Store c.args.tx.now.conn.now).now.trees) (at_drop_more (map (λ text. text.now)) c.args.texts.now c.loop-text.text-index _ c.loop-text-test.true) (before.left early) in
+    let selects = next_selects _ _ _ left in
+    fails_at_last c.is_numbered.new.tx.conn.now FailsAtRowids _ c.in_err-is_numbered.field-0.0 c.from_residual.ensures.1 (well_so_far (before.stays early) before.survives) (c.in_err-is_numbered.ensures.why clean) (λ fails. (_, selects.0, selects.1, fails))
 
 pub returns-then-not-branch-clause-numbered : goal.returns-then-not-branch-clause-numbered
 returns-then-not-branch-clause-numbered g c clean =
