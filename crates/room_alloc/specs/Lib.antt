@@ -1,6 +1,3 @@
-pub mod Lending
-pub mod Orders
-pub mod Posts
 pub mod Standby
 pub mod Candidates
 pub mod Proposed

@@ -1,5 +1,5 @@
 //! What may be proposed for an incident.
-ghost use Rattle.std.specs.Prelude.{◌≡◌, filter, is_some, IfOk, IfErr};
+ghost use Rattle.std.specs.Prelude.{◌≡◌, filter, IfOk, IfErr};
 ghost use Rattle.room_types.specs.declared.refusals.Refusal.TheVariants.{Memory};
 ghost use Rattle.room_alloc.specs.Candidates.{AreShort, has_point, is_candidate, is_point_short, unplanned};
 

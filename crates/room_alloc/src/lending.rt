@@ -1,36 +1,41 @@
 //! Offers of vehicles to other divisions, and the loans that come of them.
-ghost use Rattle.std.specs.Prelude.{◌≡◌, List, option_copied};
+ghost use Rattle.std.specs.Prelude.{◌≡◌, List, IfErr, MatchResult, None, Some};
 ghost use Rattle.room_place.specs.declared.plans.Area.{Area};
+ghost use Rattle.room_types.specs.declared.refusals.Refusal.TheVariants.{NoSuchOffer};
+ghost use Rattle.room_model.specs.Decisions.{Decides};
 ghost use Rattle.room_model.specs.Loans.{accept, decline, give_back, lend, recall, withdraw};
 ghost use Rattle.room_model.specs.Queries.{offered_to};
 ghost use Rattle.room_model.specs.Slices.{room_of};
-ghost use Rattle.room_alloc.specs.Lending.{as_accepted, as_declined, as_given_back, as_lent, as_recalled, as_withdrawn};
 
 use crate::held::{find, find_lent, held};
 use room_place::plans::{DivisionNumber, Plan};
 use room_types::callsign::Callsign;
+use room_types::changes::Change;
 use room_types::codes::Status;
+use room_types::decisions::Decision;
 use room_types::numbers::Moment;
 use room_types::refusals::Refusal;
 use room_types::slices::Slice;
 use room_types::tables::{Loan, Offer, Vehicle};
+use std::alloc::Global;
 
-/// A vehicle offered to another division of the plan: reserved and without its post, and the offer.
+/// Offers a vehicle to another division of the plan: it is reserved and without its post.
 ///
 /// Refused as `held` refuses, then as `NoSuchDivision` where `to` is the desk's own or not in the
 /// plan, `NotHome` where the vehicle is borrowed, `StillAssigned` where it has an order,
 /// `WrongStatus` where it is off duty or offered, `ShiftOver` where its shift is over.
 #[tactic(auto, unfolding(room_model::specs::Loans::lend, room_model::specs::Decisions::refuse_if))]
 pub fn lend(
+    alloc: Global,
     plan: &Plan,
     slice: &Slice,
     callsign: &Callsign,
     to: DivisionNumber,
     until: Moment,
     at: Moment,
-) -> Result<(Vehicle, Offer), Refusal>
-    ensures { as_lent result ≡ lend slice.now.division callsign.now to until at
-        (room_of plan.now.areas slice.now.rows) }
+) -> Result<Decision, Refusal>
+    ensures { Decides (lend slice.now.division callsign.now to until at
+        (room_of plan.now.areas slice.now.rows)) result }
 {
     let vehicle = held(slice, callsign)?;
     if to == slice.division || !plan.has(to) {
@@ -60,79 +65,91 @@ pub fn lend(
         since: at,
         until,
     };
-    Ok((reserved, offer))
+    Decision::done(alloc)
+        .with(Change::PutVehicle(reserved))?
+        .with(Change::PutOffer(offer))
 }
 
-/// The vehicle of an offer that its lender takes back: available. The caller drops the offer.
+/// Takes back an offer: its vehicle is available.
 ///
 /// Refused as `held` refuses, then as `NoSuchOffer` where the division offers no such vehicle.
 #[tactic(auto, unfolding(room_model::specs::Loans::withdraw, room_model::specs::Queries::offered_by))]
-pub fn withdraw(slice: &Slice, callsign: &Callsign) -> Result<Vehicle, Refusal>
-    ensures { (plan : List Area) → as_withdrawn result ≡ withdraw slice.now.division callsign.now
-        (room_of plan slice.now.rows) }
+pub fn withdraw(alloc: Global, slice: &Slice, callsign: &Callsign) -> Result<Decision, Refusal>
+    ensures { (plan : List Area) → Decides
+        (withdraw slice.now.division callsign.now (room_of plan slice.now.rows)) result }
 {
     let vehicle = held(slice, callsign)?;
     match slice.rows.offers.get(callsign) {
-        Some(offer) if offer.lender == slice.division => Ok(Vehicle {
-            status: Status::Available,
-            ..*vehicle
-        }),
-        _ => Err(Refusal::NoSuchOffer),
+        Some(offer) if offer.lender == slice.division => {}
+        _ => return Err(Refusal::NoSuchOffer),
     }
+    let available = Vehicle {
+        status: Status::Available,
+        ..*vehicle
+    };
+    Decision::done(alloc)
+        .with(Change::PutVehicle(available))?
+        .with(Change::DropOffer(vehicle.callsign))
 }
 
-/// The offer that its borrower declines. The caller settles the vehicle with the lender, and drops
-/// the offer.
+/// Declines an offer: its vehicle is the lender's, and available.
 ///
 /// Refused as `NoSuchOffer` where no such vehicle is offered to the division.
 #[tactic(auto, unfolding(room_model::specs::Loans::decline))]
-pub fn decline(slice: &Slice, callsign: &Callsign) -> Result<Offer, Refusal>
-    ensures { (plan : List Area) → as_declined result ≡ decline slice.now.division callsign.now
-        (room_of plan slice.now.rows) }
+pub fn decline(alloc: Global, slice: &Slice, callsign: &Callsign) -> Result<Decision, Refusal>
+    ensures { (plan : List Area) → Decides
+        (decline slice.now.division callsign.now (room_of plan slice.now.rows)) result }
 {
-    match offered_to(slice, callsign) {
-        Some(offer) => Ok(*offer),
-        None => Err(Refusal::NoSuchOffer),
-    }
+    let offer = offered_to(slice, callsign)?;
+    Decision::done(alloc)
+        .with(Change::Settle(offer.callsign, offer.lender))?
+        .with(Change::DropOffer(offer.callsign))
 }
 
-/// The loan that becomes of an offer which its borrower accepts. The caller settles the vehicle
-/// with the borrower, and drops the offer.
+/// Accepts an offer, which becomes a loan: its vehicle is the borrower's, and available.
 ///
 /// Refused as `NoSuchOffer` where no such vehicle is offered to the division. Nothing else of the
 /// lender's is looked at: the vehicle's shift may be over.
 #[tactic(auto, unfolding(room_model::specs::Loans::accept))]
-pub fn accept(slice: &Slice, callsign: &Callsign, at: Moment) -> Result<Loan, Refusal>
-    ensures { (plan : List Area) → as_accepted result ≡ accept slice.now.division callsign.now at
-        (room_of plan slice.now.rows) }
+pub fn accept(
+    alloc: Global,
+    slice: &Slice,
+    callsign: &Callsign,
+    at: Moment,
+) -> Result<Decision, Refusal>
+    ensures { (plan : List Area) → Decides
+        (accept slice.now.division callsign.now at (room_of plan slice.now.rows)) result }
 {
-    match offered_to(slice, callsign) {
-        Some(offer) => Ok(Loan {
-            callsign: offer.callsign,
-            lender: offer.lender,
-            borrower: offer.borrower,
-            since: at,
-            until: offer.until,
-            recalled: false,
-        }),
-        None => Err(Refusal::NoSuchOffer),
-    }
+    let offer = offered_to(slice, callsign)?;
+    let loan = Loan {
+        callsign: offer.callsign,
+        lender: offer.lender,
+        borrower: offer.borrower,
+        since: at,
+        until: offer.until,
+        recalled: false,
+    };
+    Decision::done(alloc)
+        .with(Change::Settle(offer.callsign, offer.borrower))?
+        .with(Change::DropOffer(offer.callsign))?
+        .with(Change::PutLoan(loan))
 }
 
-/// The loan marked as recalled, which does nothing else; a marked one stays as it is.
+/// Marks a loan as recalled, which does nothing else; a marked one stays as it is.
 ///
 /// Where the division has lent no such vehicle: refused as `NoSuchLoan` where it holds it, and
 /// else as `NoSuchVehicle`.
 #[tactic(auto, unfolding(room_model::specs::Loans::recall))]
-pub fn recall(slice: &Slice, callsign: &Callsign) -> Result<Loan, Refusal>
-    ensures { (plan : List Area) → as_recalled result ≡ recall slice.now.division callsign.now
-        (room_of plan slice.now.rows) }
+pub fn recall(alloc: Global, slice: &Slice, callsign: &Callsign) -> Result<Decision, Refusal>
+    ensures { (plan : List Area) → Decides
+        (recall slice.now.division callsign.now (room_of plan slice.now.rows)) result }
 {
     if let Some(loan) = find_lent(slice, callsign) {
-        return Ok(Loan {
+        let recalled = Loan {
             recalled: true,
             ..*loan
-        });
+        };
+        return Decision::done(alloc).with(Change::PutLoan(recalled));
     }
     match find(slice, callsign) {
         Some(_) => Err(Refusal::NoSuchLoan),
@@ -140,15 +157,14 @@ pub fn recall(slice: &Slice, callsign: &Callsign) -> Result<Loan, Refusal>
     }
 }
 
-/// A borrowed vehicle as its lender has it again, without a post. The caller drops the loan.
+/// Gives a borrowed vehicle back, without a post: its lender has it again, and the loan is over.
 ///
 /// Refused as `held` refuses, then as `NoSuchLoan` where the vehicle is at home, `StillAssigned`
 /// where it has an order.
 #[tactic(auto, unfolding(room_model::specs::Loans::give_back, room_model::specs::Decisions::refuse_if, room_model::specs::Queries::borrowed))]
-pub fn give_back(slice: &Slice, callsign: &Callsign) -> Result<Vehicle, Refusal>
-    ensures { (plan : List Area)
-        → as_given_back result ≡ give_back slice.now.division callsign.now
-        (room_of plan slice.now.rows) }
+pub fn give_back(alloc: Global, slice: &Slice, callsign: &Callsign) -> Result<Decision, Refusal>
+    ensures { (plan : List Area) → Decides
+        (give_back slice.now.division callsign.now (room_of plan slice.now.rows)) result }
 {
     let vehicle = held(slice, callsign)?;
     if vehicle.home == slice.division {
@@ -161,21 +177,27 @@ pub fn give_back(slice: &Slice, callsign: &Callsign) -> Result<Vehicle, Refusal>
         Some(loan) if loan.borrower == slice.division => loan.lender,
         _ => vehicle.home,
     };
-    Ok(Vehicle {
+    let returned = Vehicle {
         holder: lender,
         post: None,
         ..*vehicle
-    })
+    };
+    Decision::done(alloc)
+        .with(Change::PutVehicle(returned))?
+        .with(Change::DropLoan(vehicle.callsign))
 }
 
+// The offer of this vehicle to the division.
 #[tactic(auto, unfolding(room_model::specs::Queries::offered_to))]
-fn offered_to<'a>(slice: &'a Slice, callsign: &Callsign) -> Option<&'a Offer>
-    ensures { (plan : List Area)
-        → option_copied result ≡ offered_to slice.now.division callsign.now
-        (room_of plan slice.now.rows) }
+fn offered_to<'a>(slice: &'a Slice, callsign: &Callsign) -> Result<&'a Offer, Refusal>
+    ensures there { (plan : List Area) → MatchResult result (λ offer.
+        offered_to slice.now.division callsign.now (room_of plan slice.now.rows) ≡ Some
+        offer.now) (λ refusal.
+        offered_to slice.now.division callsign.now (room_of plan slice.now.rows) ≡ None) }
+    ensures refused { IfErr result (λ e. e ≡ NoSuchOffer) }
 {
     match slice.rows.offers.get(callsign) {
-        Some(offer) if offer.borrower == slice.division => Some(offer),
-        _ => None,
+        Some(offer) if offer.borrower == slice.division => Ok(offer),
+        _ => Err(Refusal::NoSuchOffer),
     }
 }

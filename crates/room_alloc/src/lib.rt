@@ -1,7 +1,8 @@
-//! Which vehicles are sent, where they stand by, and to whom they are lent.
+//! Which vehicles are sent, when they are on duty, where they stand by, and to whom they are lent.
 #![tactic(auto)]
 
 pub(crate) mod candidates;
+pub mod duty;
 pub mod held;
 pub mod lending;
 pub(crate) mod near_rows;

@@ -4,13 +4,14 @@ ghost use Rattle.room_place.specs.Choice.{AreFirst};
 ghost use Rattle.room_place.specs.declared.plans.Area.{Area};
 ghost use Rattle.room_types.specs.declared.refusals.Refusal.TheVariants.{Memory};
 ghost use Rattle.room_types.specs.declared.tables.Incident.{Incident};
+ghost use Rattle.room_model.specs.Decisions.{Decides};
 ghost use Rattle.room_model.specs.Incidents.{lacking};
 ghost use Rattle.room_model.specs.Proposals.{all_proposed, is_before, propose, proposed};
 ghost use Rattle.room_model.specs.Queries.{incident_of};
 ghost use Rattle.room_model.specs.Room.{IsInOrder};
 ghost use Rattle.room_model.specs.Slices.{room_of};
 ghost use Rattle.room_alloc.specs.Candidates.{AreShort, unplanned};
-ghost use Rattle.room_alloc.specs.Proposed.{AreForIncident, AreTold};
+ghost use Rattle.room_alloc.specs.Proposed.{AreForIncident};
 ghost use Rattle.room_alloc.specs.Rings.{AreApart, AreOfKind, ArePlaced, proposal_at};
 
 use crate::candidates::short_points;
@@ -18,8 +19,9 @@ use crate::nearness::Candidate;
 use crate::rings::{candidates_round, nearest};
 use room_incident::active::active;
 use room_incident::served::lack;
-use room_types::answers::{Listed, Proposal};
+use room_types::answers::{Answer, Listed, Proposal};
 use room_types::codes::Kind;
+use room_types::decisions::Decision;
 use room_types::numbers::{Moment, Number};
 use room_types::refusals::Refusal;
 use room_types::rows::Rows;
@@ -32,35 +34,23 @@ use std::alloc::{AllocError, Global};
 /// by callsign.
 ///
 /// Refused as `active` refuses, or as `Memory`.
+#[tactic(auto, unfolding(room_model::specs::Proposals::propose))]
 pub fn propose(
     alloc: Global,
     slice: &Slice,
     number: Number,
     at: Moment,
-) -> Result<Listed<Proposal>, Refusal>
-    ensures decision { (plan : List Area)
-        → AreTold result (propose slice.now.division number at (room_of plan slice.now.rows)) }
-    ensures first { IfOk result (λ few. (plan : List Area) (i : Incident)
+) -> Result<Decision, Refusal>
+    ensures decides { (plan : List Area) → Decides
+        (propose slice.now.division number at (room_of plan slice.now.rows)) result }
+    ensures first { IfOk result (λ x. (plan : List Area) (i : Incident)
         → incident_of slice.now.division number (room_of plan slice.now.rows) ≡ Some i
-        → AreForIncident slice.now.division i at (room_of plan slice.now.rows) few) }
+        → AreForIncident slice.now.division i at (room_of plan slice.now.rows) x.answer) }
 {
     in_order(&slice.rows);
-    proposals(alloc, slice, number, at)
-}
-
-fn proposals(
-    alloc: Global,
-    slice: &Slice,
-    number: Number,
-    at: Moment,
-) -> Result<Listed<Proposal>, Refusal>
-    ensures { (plan : List Area) → AreTold result
-        (propose slice.now.division number at (room_of plan slice.now.rows)) }
-{
-    match active(slice, number) {
-        Ok(incident) => of_all_kinds(alloc, slice, incident, at),
-        Err(refusal) => Err(refusal),
-    }
+    let incident = active(slice, number)?;
+    let proposals = of_all_kinds(alloc, slice, incident, at)?;
+    Ok(Decision::show(alloc, Answer::Proposals(proposals)))
 }
 
 fn of_all_kinds(

@@ -1,7 +1,6 @@
 //! Which vehicles may be sent, and which of them hold a standby point.
 ghost use Rattle.std.specs.Prelude.{◌≡◌, List, length, filter, option_map};
 ghost use Rattle.room_place.specs.declared.plans.Area.{Area};
-ghost use Rattle.room_model.specs.Points.{breaks_cover};
 ghost use Rattle.room_model.specs.Queries.{has_post, holders, is_eligible, point_of};
 ghost use Rattle.room_model.specs.Slices.{room_of};
 ghost use Rattle.room_alloc.specs.Standby.{is_holder};
@@ -11,14 +10,6 @@ use room_types::numbers::{Moment, PointNumber};
 use room_types::rows::Rows;
 use room_types::slices::Slice;
 use room_types::tables::Vehicle;
-
-/// Whether the division that holds the vehicle may send it: it is available or returning, and its
-/// shift ends later than now.
-pub fn eligible(vehicle: &Vehicle, at: Moment) -> bool
-    ensures { result ≡ is_eligible vehicle.now.holder at vehicle.now }
-{
-    is_eligible(vehicle, vehicle.holder, at)
-}
 
 /// How many vehicles hold the point now; none where the division has no such point.
 #[tactic(auto, unfolding(room_model::specs::Queries::point_of))]
@@ -30,24 +21,6 @@ pub fn cover(slice: &Slice, point: PointNumber, at: Moment) -> Option<usize>
     match slice.rows.points.get(&(slice.division, point)) {
         Some(_) => Some(holders(slice, point, at)),
         None => None,
-    }
-}
-
-/// Whether the vehicle holds a point that has no more holders than it wants.
-#[tactic(auto, unfolding(room_model::specs::Queries::point_of))]
-pub fn breaks_cover(slice: &Slice, vehicle: &Vehicle, at: Moment) -> bool
-    ensures { (plan : List Area) → result ≡ breaks_cover slice.now.division at
-        (room_of plan slice.now.rows) vehicle.now }
-{
-    if !is_eligible(vehicle, slice.division, at) {
-        return false;
-    }
-    let Some(post) = vehicle.post else {
-        return false;
-    };
-    match slice.rows.points.get(&(slice.division, post)) {
-        Some(point) => holders(slice, post, at) <= point.cover.get() as usize,
-        None => false,
     }
 }
 

@@ -1,22 +1,15 @@
--- What a decision of the code is to a decision of the machine.
-use Rattle.std.specs.Prelude.{Err, Ok, Result, not, ℕ, ◌≡◌, ◌⊎◌}
+-- What a request is decided on, and a report that is sent again.
+use Rattle.std.specs.Prelude.{not, ℕ, ◌≡◌, ◌⊎◌}
 use Rattle.room_types.specs.declared.asks.Ask.{Ask}
 use Rattle.room_types.specs.declared.asks.Press.{Press}
-use Rattle.room_types.specs.declared.refusals.Refusal.{Refusal}
 use Rattle.room_types.specs.declared.tables.Report.{Report}
-use Rattle.room_model.specs.Decisions.{Verdict, Decision, refuse_if, show}
+use Rattle.room_model.specs.Decisions.{Verdict, refuse_if, show}
 use Rattle.room_model.specs.Reports.{same_press}
 use Rattle.room_model.specs.Room.{Room}
 use Rattle.room_model.specs.Shares.{own}
 use Rattle.room_model.specs.Working.{working}
 use Rattle.room_types.specs.declared.answers.Answer.TheVariants as answer
 use Rattle.room_types.specs.declared.refusals.Refusal.TheVariants as refusal
-
--- The decision and a refusal are the machine's. Memory may be refused in their place, and then
--- nothing is decided.
-abbrev pub Decides : Verdict → Result Decision Refusal → Type 0
-Decides wanted (Ok x) = wanted ≡ Ok x
-Decides wanted (Err e) = (e ≡ refusal.Memory) ⊎ (wanted ≡ Err e)
 
 -- The rows are those of division d's that the ask reads at this moment, or all of them.
 abbrev pub AreRead : ℕ → Ask → ℕ → Room → Room → Type 0

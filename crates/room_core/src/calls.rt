@@ -1,25 +1,23 @@
 //! A call, decided on the rows of the division that it is placed in.
-ghost use Rattle.std.specs.Prelude.{◌≡◌, None, Ok, Some, not};
+ghost use Rattle.std.specs.Prelude.{◌≡◌, None, Some, not};
 ghost use Rattle.room_place.specs.Plans.{division_of};
 ghost use Rattle.room_types.specs.declared.asks.Ask.TheVariants.{Call as CallAsk};
 ghost use Rattle.room_types.specs.declared.asks.CallForm.{CallForm};
 ghost use Rattle.room_types.specs.declared.answers.Answer.TheVariants.{Called};
 ghost use Rattle.room_types.specs.declared.refusals.Refusal.TheVariants.{SerialReused};
-ghost use Rattle.room_incident.specs.Taken.{verdict_of_taken};
 ghost use Rattle.room_model.specs.Calls.{new_call, same_call, take_call};
-ghost use Rattle.room_model.specs.Decisions.{refuse_if, show};
+ghost use Rattle.room_model.specs.Decisions.{Decides, refuse_if, show};
 ghost use Rattle.room_model.specs.Queries.{kept_call};
 ghost use Rattle.room_model.specs.Room.{Room};
 ghost use Rattle.room_model.specs.Shares.{own};
 ghost use Rattle.room_model.specs.Slices.{room_of};
 ghost use Rattle.room_model.specs.WellFormed.{IsWellFormed};
-ghost use Rattle.room_core.specs.Deciding.{AreRead, Decides};
+ghost use Rattle.room_core.specs.Deciding.{AreRead};
 
-use crate::decisions::Decision;
-use room_incident::calls::{Taken, take_call};
-use room_types::answers::{Answer, Listed};
+use room_incident::calls::take_call;
+use room_types::answers::Answer;
 use room_types::asks::NewCall;
-use room_types::changes::Change;
+use room_types::decisions::Decision;
 use room_types::refusals::Refusal;
 use room_types::slices::Slice;
 use room_types::tables::Call;
@@ -46,10 +44,7 @@ pub fn decide_call(alloc: Global, slice: &Slice, new: &NewCall) -> Result<Decisi
         → own slice.now.division r ≡ own slice.now.division other
         → Decides (take_call new.now other) result }
 {
-    match take_call(slice, new) {
-        Ok(taken) => put(alloc, &taken),
-        Err(refusal) => Err(refusal),
-    }
+    take_call(alloc, slice, new)
 }
 
 /// A call whose serial the room has kept. Of the same content it gets its kept answer, and changes
@@ -68,18 +63,4 @@ pub fn decide_again(alloc: Global, kept: &Call, new: &NewCall) -> Result<Decisio
     }
     let answer = Answer::Called(kept.division, kept.given, kept.linked);
     Ok(Decision::show(alloc, answer))
-}
-
-fn put(alloc: Global, taken: &Taken) -> Result<Decision, Refusal>
-    ensures { Decides (verdict_of_taken (Ok taken.now)) result }
-{
-    let call = &taken.call;
-    let answer = Answer::Called(call.division, call.given, call.linked);
-    let mut changes = Listed::new(alloc);
-    if let Some(division) = taken.division {
-        changes.push(Change::PutDivision(division))?;
-    }
-    changes.push(Change::PutIncident(taken.incident))?;
-    changes.push(Change::PutCall(taken.call))?;
-    Ok(Decision::new(changes, answer))
 }

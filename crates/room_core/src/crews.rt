@@ -1,22 +1,19 @@
 //! What a crew asks, decided on its vehicle's rows.
-ghost use Rattle.std.specs.Prelude.{◌≡◌, None, Ok, Some, IfOk, IfErr};
-ghost use Rattle.room_types.specs.declared.refusals.Refusal.TheVariants.{Memory};
+ghost use Rattle.std.specs.Prelude.{◌≡◌, None, Ok, Some};
+ghost use Rattle.room_model.specs.Decisions.{Decides};
 ghost use Rattle.room_model.specs.Queries.{kept_report};
 ghost use Rattle.room_model.specs.Room.{IsInOrder, Room};
 ghost use Rattle.room_model.specs.Shares.{mine};
 ghost use Rattle.room_model.specs.Slices.{AreCrewRows};
 ghost use Rattle.room_model.specs.WellFormed.{IsWellFormed};
 ghost use Rattle.room_model.specs.Reports.{order_of, take_report};
-ghost use Rattle.room_fleet.specs.Reported.{changes_of};
-ghost use Rattle.room_core.specs.Deciding.{Decides, again};
+ghost use Rattle.room_core.specs.Deciding.{again};
 
-use crate::decisions::Decision;
-use room_fleet::buttons::{acts, ends_turn};
-use room_fleet::reports::{Reported, report};
-use room_types::answers::{Answer, Listed};
+use room_fleet::reports::take_report;
+use room_types::answers::Answer;
 use room_types::asks::Press;
-use room_types::changes::Change;
-use room_types::crews::{CrewRows, CrewSlice};
+use room_types::crews::CrewSlice;
+use room_types::decisions::Decision;
 use room_types::numbers::Moment;
 use room_types::refusals::Refusal;
 use room_types::tables::{Assignment, Report, Vehicle};
@@ -66,34 +63,5 @@ pub fn decide_report(
         → mine slice.now.rows.vehicle.callsign r ≡ mine slice.now.rows.vehicle.callsign other
         → Decides (take_report slice.now.rows.vehicle.callsign press.now at other) result }
 {
-    let reported = report(slice, press, at);
-    let kept = &reported.report;
-    let answer = Answer::Reported(kept.number, kept.outcome, kept.status);
-    match changes(alloc, &slice.rows, &reported) {
-        Ok(changes) => Ok(Decision::new(changes, answer)),
-        Err(refusal) => Err(refusal),
-    }
-}
-
-// From the rows before a report to those after it. The vehicle's comes last.
-fn changes(alloc: Global, before: &CrewRows, after: &Reported) -> Result<Listed<Change>, Refusal>
-    ensures ok { IfOk result (λ changes. changes ≡ changes_of before.now after.now) }
-    ensures err { IfErr result (λ e. e ≡ Memory) }
-{
-    let callsign = after.vehicle.callsign;
-    let mut changes = Listed::new(alloc);
-    changes.push(Change::PutReport(after.report))?;
-    if acts(after.report.outcome) {
-        if let Some(turn) = after.turn {
-            changes.push(Change::PutTurn(turn))?;
-        }
-        if ends_turn(after.report.button) {
-            changes.push(Change::DropAssignment(callsign))?;
-        }
-        if before.loan.is_some() && after.loan.is_none() {
-            changes.push(Change::DropLoan(callsign))?;
-        }
-    }
-    changes.push(Change::PutVehicle(after.vehicle))?;
-    Ok(changes)
+    take_report(alloc, slice, press, at)
 }

@@ -1,16 +1,27 @@
 //! What a desk asks, decided on its division's rows.
 ghost use Rattle.std.specs.Prelude.{◌≡◌};
+ghost use Rattle.room_model.specs.Decisions.{Decides};
 ghost use Rattle.room_model.specs.Room.{IsInOrder, Room};
 ghost use Rattle.room_model.specs.Shares.{own};
 ghost use Rattle.room_model.specs.Slices.{room_of};
 ghost use Rattle.room_model.specs.Step.{desk_asks};
 ghost use Rattle.room_model.specs.WellFormed.{IsWellFormed};
-ghost use Rattle.room_core.specs.Deciding.{AreRead, Decides};
+ghost use Rattle.room_core.specs.Deciding.{AreRead};
 
-use crate::decisions::Decision;
-use crate::{incidents, lending, queues, vehicles};
+use room_alloc::duty::{off_duty, on_duty};
+use room_alloc::lending::{accept, decline, give_back, lend, recall, withdraw};
+use room_alloc::orders::{mobilise, stand_down};
+use room_alloc::posts::{set_point, standby};
+use room_alloc::proposals::propose;
+use room_alloc::views::{loans, offers, points, vehicles};
+use room_incident::merges::merge;
+use room_incident::needs::{change_needs, close};
+use room_incident::views::{day_times, incidents};
 use room_place::plans::Plan;
+use room_queue::exceptions::clear;
+use room_queue::queues::queue;
 use room_types::asks::Ask;
+use room_types::decisions::Decision;
 use room_types::numbers::Moment;
 use room_types::refusals::Refusal;
 use room_types::slices::Slice;
@@ -49,38 +60,30 @@ fn decide(
         (room_of plan.now.areas slice.now.rows)) result }
 {
     match ask {
-        Ask::Incidents => incidents::incidents(alloc, slice),
-        Ask::Propose(number) => incidents::propose(alloc, slice, *number, at),
-        Ask::Mobilise(number, callsign) => {
-            incidents::mobilise(alloc, slice, *number, callsign, at)
-        }
-        Ask::Needs(number, needs) => incidents::change_needs(alloc, slice, *number, *needs),
-        Ask::Merge(from, into) => incidents::merge(alloc, slice, *from, *into),
-        Ask::Close(number) => incidents::close(alloc, slice, *number),
-        Ask::Vehicles => vehicles::vehicles(alloc, slice),
-        Ask::StandDown(callsign) => vehicles::stand_down(alloc, slice, callsign, at),
-        Ask::Standby(callsign, point) => vehicles::standby(alloc, slice, callsign, *point, at),
-        Ask::Duty(callsign, place, until) => {
-            vehicles::duty(alloc, slice, callsign, place, *until, at)
-        }
-        Ask::Off(callsign) => vehicles::off(alloc, slice, callsign),
-        Ask::Lend(callsign, to, until) => {
-            lending::lend(alloc, plan, slice, callsign, *to, *until, at)
-        }
-        Ask::Withdraw(callsign) => lending::withdraw(alloc, slice, callsign),
-        Ask::Decline(callsign) => lending::decline(alloc, slice, callsign),
-        Ask::Accept(callsign) => lending::accept(alloc, slice, callsign, at),
-        Ask::Recall(callsign) => lending::recall(alloc, slice, callsign),
-        Ask::GiveBack(callsign) => lending::give_back(alloc, slice, callsign),
-        Ask::Queue => queues::queue(alloc, slice, at),
-        Ask::Clear(callsign, number) => queues::clear(alloc, slice, callsign, *number),
-        Ask::Points => vehicles::points(alloc, slice, at),
-        Ask::SetPoint(number, place, cover) => {
-            vehicles::set_point(alloc, slice, *number, place, *cover)
-        }
-        Ask::Loans => lending::loans(alloc, slice),
-        Ask::Offers => lending::offers(alloc, slice),
-        Ask::Times(from, to) => incidents::times(alloc, slice, *from, *to),
+        Ask::Incidents => incidents(alloc, slice),
+        Ask::Propose(number) => propose(alloc, slice, *number, at),
+        Ask::Mobilise(number, callsign) => mobilise(alloc, slice, *number, callsign, at),
+        Ask::Needs(number, needs) => change_needs(alloc, slice, *number, *needs),
+        Ask::Merge(from, into) => merge(alloc, slice, *from, *into),
+        Ask::Close(number) => close(alloc, slice, *number),
+        Ask::Vehicles => vehicles(alloc, slice),
+        Ask::StandDown(callsign) => stand_down(alloc, slice, callsign, at),
+        Ask::Standby(callsign, point) => standby(alloc, slice, callsign, *point, at),
+        Ask::Duty(callsign, place, until) => on_duty(alloc, slice, callsign, place, *until, at),
+        Ask::Off(callsign) => off_duty(alloc, slice, callsign),
+        Ask::Lend(callsign, to, until) => lend(alloc, plan, slice, callsign, *to, *until, at),
+        Ask::Withdraw(callsign) => withdraw(alloc, slice, callsign),
+        Ask::Decline(callsign) => decline(alloc, slice, callsign),
+        Ask::Accept(callsign) => accept(alloc, slice, callsign, at),
+        Ask::Recall(callsign) => recall(alloc, slice, callsign),
+        Ask::GiveBack(callsign) => give_back(alloc, slice, callsign),
+        Ask::Queue => queue(alloc, slice, at),
+        Ask::Clear(callsign, number) => clear(alloc, slice, callsign, *number),
+        Ask::Points => points(alloc, slice, at),
+        Ask::SetPoint(number, place, cover) => set_point(alloc, slice, *number, place, *cover),
+        Ask::Loans => loans(alloc, slice),
+        Ask::Offers => offers(alloc, slice),
+        Ask::Times(from, to) => day_times(alloc, slice, *from, *to),
         Ask::Call(_) | Ask::Order | Ask::Report(_) => Err(Refusal::WrongRole),
     }
 }

@@ -4,10 +4,4 @@
 
 pub mod calls;
 pub mod crews;
-pub mod decisions;
 pub mod desks;
-mod incidents;
-mod lending;
-mod queues;
-mod vehicles;
-mod views;

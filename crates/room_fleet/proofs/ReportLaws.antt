@@ -1,13 +1,19 @@
 -- The reported rows are what the room decides of a report.
 use Rattle.std.proofs.Common.{Bool, None, Option, Some, eq-eqb, false, refl, true, ap, ◌∙◌, subst, sym, cond, ℕ, ◌≡◌}
-use Rattle.std.specs.Prelude.{is_none, is_some, IfSome, option_map, ◌&&◌, ◌==◌}
+use Rattle.std.proofs.lemmas.Bool.{false≢true}
+use Rattle.std.specs.List.{cons_option}
+use Rattle.std.specs.Prelude.{List, [], is_none, is_some, IfSome, option_map, ◌&&◌, ◌++◌, ◌==◌, ◌∷◌}
 use Rattle.room_types_keyed.proofs.EachRow.{row_key}
 use Rattle.room_types_keyed.specs.Keyed.{keep, row_at}
 use Rattle.room_types.specs.Keys.{callsign_cmp, loan_key, numbered_cmp, turn_key, vehicle_key}
 use Rattle.room_types.specs.Orders.{callsigns_total, exact_callsigns}
 use Rattle.room_types.specs.Texts.{Callsign}
-use Rattle.room_types.specs.declared.asks.Ask.TheVariants.{Report}
+use Rattle.room_types.specs.declared.answers.Answer.{Answer}
+use Rattle.room_types.specs.declared.answers.Answer.TheVariants.{Reported}
 use Rattle.room_types.specs.declared.asks.Press.{Press}
+use Rattle.room_types.specs.Codes.{acts}
+use Rattle.room_types.specs.declared.changes.Change.{Change}
+use Rattle.room_types.specs.declared.changes.Change.TheVariants.{PutReport, PutTurn, PutVehicle}
 use Rattle.room_types.specs.declared.codes.Button.{Button}
 use Rattle.room_types.specs.declared.codes.Outcome.{Outcome}
 use Rattle.room_types.specs.declared.codes.Outcome.TheVariants.{Late, Normal, Skipped, Stale, Wrong}
@@ -17,18 +23,18 @@ use Rattle.room_types.specs.declared.tables.Turn.{Turn}
 use Rattle.room_types.specs.declared.tables.Vehicle.{Vehicle}
 use Rattle.room_model.proofs.OpenTurns.{open_is, open_there}
 use Rattle.room_model.proofs.Tests.{none_of}
-use Rattle.room_model.specs.Decisions.{tell}
+use Rattle.room_model.specs.Decisions.{Verdict, tell}
 use Rattle.room_model.specs.Queries.{borrowed, held, kept_report, open_turn, vehicle_at}
-use Rattle.room_model.specs.Reports.{is_due, is_home, outcome_of, report_acts, report_held, report_in, report_kept, report_made, report_somewhere, turn_after, turn_changes}
+use Rattle.room_model.specs.Reports.{back_changes, drop_changes, ends_turn, is_due, is_home, outcome_of, report_acts, report_held, report_in, report_kept, report_made, report_somewhere, take_report, turn_after, turn_changes}
 use Rattle.room_model.specs.Room.{Room}
 use Rattle.room_model.specs.Slices.{AreCrewRows}
-use Rattle.room_model.specs.Step.{crew_asks}
 use Rattle.room_model.specs.WellFormed.{IsWellFormed, LoanAgrees, OpenAgrees, TurnAgrees}
-use Rattle.room_fleet.specs.Reported.{AreHolders, acted, answered, changes_acted, changes_of, goes_back, put_turn, reported, reported_as}
+use Rattle.room_fleet.specs.Reported.{AreHolders, acted, goes_back, reported, reported_as}
+use Rattle.room_fleet.specs.declared.reports.Reported.{Reported as Rows}
 
 -- ---- the changes are those of the rows that differ
 turn_put : (b : Button) (at : ℕ) (t : Option Turn)
-    → put_turn (option_map (turn_after b at) t) ≡ turn_changes b at t
+    → cons_option (option_map PutTurn (option_map (turn_after b at) t)) [] ≡ turn_changes b at t
 turn_put b at None = refl
 turn_put b at (Some t) = refl
 
@@ -42,29 +48,47 @@ loan_over false at None = refl
 loan_over true at None = refl
 loan_over home at (Some l) = loan_dropped (home && is_due at (Some l)) l
 
+-- as they are put one after another
+abbrev pub put_one_by_one : CrewRows → Rows → List Change
+put_one_by_one x y = PutReport y.report ∷ cons_option (option_map PutTurn y.turn) []
+    ++ (drop_changes y.vehicle.callsign (ends_turn y.report.button)
+    ++ (back_changes y.vehicle.callsign (is_some x.loan && is_none y.loan)
+    ++ PutVehicle y.vehicle ∷ []))
+
 acts_so : (x : CrewRows) (p : Press) (at : ℕ) (o : Outcome)
     → report_acts x.vehicle x.turn x.loan p at o (goes_back x p at)
-    ≡ changes_acted x (acted x p at o)
+    ≡ put_one_by_one x (acted x p at o)
 acts_so x p at o = rw (turn_put p.button at x.turn) (rw (loan_over (is_home p.button) at x.loan) refl)
 
-made_so : (x : CrewRows) (p : Press) (at : ℕ) (o : Outcome)
-    → report_made x.vehicle x.turn x.loan p at o
-    ≡ tell (answered (reported_as x p at o)) (changes_of x (reported_as x p at o))
-made_so x p at Normal = ap (tell (answered (acted x p at Normal))) (acts_so x p at Normal)
-made_so x p at Skipped = ap (tell (answered (acted x p at Skipped))) (acts_so x p at Skipped)
-made_so x p at Wrong = refl
-made_so x p at Late = refl
-made_so x p at Stale = refl
+-- as it is answered
+abbrev pub answer_of : Rows → Answer
+answer_of y = Reported y.report.number y.report.outcome y.report.status
 
+abbrev pub decided : CrewRows → Press → ℕ → Verdict
+decided x p at = report_held (Some x.vehicle) x.turn x.loan p at
+
+made_so : (x : CrewRows) (p : Press) (at : ℕ) (o : Outcome)
+    → acts (reported_as x p at o).report.outcome ≡ true
+    → report_made x.vehicle x.turn x.loan p at o
+    ≡ tell (answer_of (reported_as x p at o)) (put_one_by_one x (reported_as x p at o))
+made_so x p at Normal h = ap (tell (answer_of (acted x p at Normal))) (acts_so x p at Normal)
+made_so x p at Skipped h = ap (tell (answer_of (acted x p at Skipped))) (acts_so x p at Skipped)
+made_so x p at Wrong h = absurd (false≢true h)
+made_so x p at Late h = absurd (false≢true h)
+made_so x p at Stale h = absurd (false≢true h)
+
+pub acted_so : (x : CrewRows) (y : Rows) (p : Press) (at : ℕ) (changes : List Change)
+    (answer : Answer) → acts y.report.outcome ≡ true → y ≡ reported x p at
+    → changes ≡ put_one_by_one x y → answer ≡ answer_of y → decided x p at ≡ tell answer changes
+acted_so x y p at changes answer acting same are told =
+    subst (λ (z : Rows). acts z.report.outcome ≡ true → decided x p at ≡ tell (answer_of z) (put_one_by_one x z)) (sym same) (made_so x p at (outcome_of x.vehicle x.turn p)) acting
+    ∙ (ap (tell (answer_of y)) (sym are) ∙ ap (λ a. tell a changes) (sym told))
+
+-- ---- a room that has a vehicle's rows decides its report by them
 pub decided_so : (x : CrewRows) (r : Room) (p : Press) (at : ℕ) → AreHolders r x
-    → report_in x.vehicle.holder x.vehicle.callsign p at r
-    ≡ tell (answered (reported x p at)) (changes_of x (reported x p at))
+    → decided x p at ≡ report_in x.vehicle.holder x.vehicle.callsign p at r
 unfolding report_in
-decided_so x r p at rows =
-    ap (λ v. report_held v (open_turn x.vehicle.holder x.vehicle.callsign r) (borrowed x.vehicle.holder x.vehicle.callsign r) p at) rows.vehicle
-    ∙ (ap (λ t. report_held (Some x.vehicle) t (borrowed x.vehicle.holder x.vehicle.callsign r) p at) rows.turn
-    ∙ (ap (λ l. report_held (Some x.vehicle) x.turn l p at) rows.loan
-    ∙ made_so x p at (outcome_of x.vehicle x.turn p)))
+decided_so x r p at rows = rw (rows.vehicle, rows.turn, rows.loan) refl
 
 -- ---- a crew's rows of a well-formed room are its holder's
 module _ (c : Callsign) (r : Room) (x : CrewRows) (formed : IsWellFormed r)
@@ -125,12 +149,10 @@ module _ (c : Callsign) (r : Room) (x : CrewRows) (formed : IsWellFormed r)
   }
 
 pub asked_so : (c : Callsign) (r : Room) (x : CrewRows) (p : Press) (at : ℕ) → IsWellFormed r
-    → AreCrewRows c r x → kept_report c p.number r ≡ None
-    → crew_asks c (Report p) at r ≡ tell (answered (reported x p at))
-    (changes_of x (reported x p at))
+    → AreCrewRows c r x → kept_report c p.number r ≡ None → decided x p at ≡ take_report c p at r
 unfolding vehicle_at
 asked_so c r x p at formed rows new =
-    ap (λ k. report_kept k c p at r) new
-    ∙ (ap (λ v. report_somewhere v c p at r) rows.vehicle
-    ∙ (ap (λ k. report_in x.vehicle.holder k p at r) (sym (named c r x formed rows))
-    ∙ decided_so x r p at (are_holders c r x formed rows)))
+    decided_so x r p at (are_holders c r x formed rows)
+    ∙ (ap (λ k. report_in x.vehicle.holder k p at r) (named c r x formed rows)
+    ∙ (ap (λ v. report_somewhere v c p at r) (sym rows.vehicle)
+    ∙ ap (λ k. report_kept k c p at r) (sym new)))

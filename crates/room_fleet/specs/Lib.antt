@@ -1,2 +1,1 @@
-pub mod Duty
 pub mod Reported

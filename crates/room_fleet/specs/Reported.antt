@@ -1,16 +1,12 @@
 -- A vehicle's rows after a report whose number is new.
-use Rattle.std.specs.Prelude.{Bool, List, None, Option, Some, [], cond, false, is_none, is_some, option_map, ℕ, ◌&&◌, ◌++◌, ◌∷◌, ◌≡◌}
-use Rattle.room_types.specs.declared.answers.Answer.{Answer}
-use Rattle.room_types.specs.declared.answers.Answer.TheVariants as answer
+use Rattle.std.specs.Prelude.{Bool, None, Option, Some, cond, false, option_map, ℕ, ◌&&◌, ◌≡◌}
 use Rattle.room_types.specs.declared.asks.Press.{Press}
-use Rattle.room_types.specs.declared.changes.Change.{Change}
-use Rattle.room_types.specs.declared.changes.Change.TheVariants.{PutReport, PutTurn, PutVehicle}
 use Rattle.room_types.specs.declared.codes.Outcome.{Outcome}
 use Rattle.room_types.specs.declared.crews.CrewRows.{CrewRows}
 use Rattle.room_types.specs.declared.tables.Turn.{Turn}
 use Rattle.room_types.specs.Codes.{acts}
 use Rattle.room_model.specs.Queries.{borrowed, held, open_turn}
-use Rattle.room_model.specs.Reports.{back_changes, drop_changes, ends_turn, is_due, is_home, outcome_of, report_row, status_after, turn_after, vehicle_after, with_report}
+use Rattle.room_model.specs.Reports.{is_due, is_home, outcome_of, report_row, status_after, turn_after, vehicle_after, with_report}
 use Rattle.room_model.specs.Room.{Room}
 use Rattle.room_fleet.specs.declared.reports.Reported.{Reported}
 
@@ -66,33 +62,9 @@ TurnKeepsMoments None new = new ≡ None
 TurnKeepsMoments (Some t) None = ⊥
 TurnKeepsMoments (Some t) (Some u) = KeepsMoments t u
 
--- ---- what the room makes of it
+-- ---- the same rows in a room
 -- the room's holder of the vehicle has it, its open turn and its loan as these rows have them
 pub record AreHolders (r : Room) (x : CrewRows) : Type 0 where
   pub vehicle : held x.vehicle.holder x.vehicle.callsign r ≡ Some x.vehicle
   pub turn : open_turn x.vehicle.holder x.vehicle.callsign r ≡ x.turn
   pub loan : borrowed x.vehicle.holder x.vehicle.callsign r ≡ x.loan
-
--- the open turn's row is put, where there is one
-abbrev pub put_turn : Option Turn → List Change
-put_turn None = []
-put_turn (Some t) = PutTurn t ∷ []
-
--- a loan was there, and is no more
-abbrev pub is_over : CrewRows → Reported → Bool
-is_over x y = is_some x.loan && is_none y.loan
-
--- the rows that a report which acts changes, the vehicle's last
-abbrev pub changes_acted : CrewRows → Reported → List Change
-changes_acted x y = PutReport y.report ∷ put_turn y.turn
-    ++ (drop_changes y.vehicle.callsign (ends_turn y.report.button)
-    ++ (back_changes y.vehicle.callsign (is_over x y) ++ PutVehicle y.vehicle ∷ []))
-
--- from these rows to the reported ones
-abbrev pub changes_of : CrewRows → Reported → List Change
-changes_of x y = cond (acts y.report.outcome) (changes_acted x y)
-    (PutReport y.report ∷ PutVehicle y.vehicle ∷ [])
-
--- what the crew is told
-abbrev pub answered : Reported → Answer
-answered y = answer.Reported y.report.number y.report.outcome y.report.status

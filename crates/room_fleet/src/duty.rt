@@ -1,13 +1,15 @@
 //! A vehicle's shifts.
-ghost use Rattle.std.specs.Prelude.{◌≡◌};
+ghost use Rattle.room_model.specs.Decisions.{Decides};
 ghost use Rattle.room_model.specs.Vehicles.{on_duty, off_duty};
-ghost use Rattle.room_fleet.specs.Duty.{as_decided};
 
 use room_place::places::Place;
+use room_types::changes::Change;
 use room_types::codes::Status;
+use room_types::decisions::Decision;
 use room_types::numbers::Moment;
 use room_types::refusals::Refusal;
 use room_types::tables::Vehicle;
+use std::alloc::Global;
 
 /// The vehicle on duty: available at a place, with a shift up to `until`.
 ///
@@ -15,12 +17,13 @@ use room_types::tables::Vehicle;
 /// have ended at this moment or before.
 #[tactic(auto, unfolding(room_model::specs::Decisions::refuse_if))]
 pub fn on_duty(
+    alloc: Global,
     vehicle: &Vehicle,
-    until: Moment,
     place: &Place,
+    until: Moment,
     at: Moment,
-) -> Result<Vehicle, Refusal>
-    ensures { as_decided result ≡ on_duty place.now until at vehicle.now }
+) -> Result<Decision, Refusal>
+    ensures { Decides (on_duty place.now until at vehicle.now) result }
 {
     if !vehicle.status.is_off() {
         return Err(Refusal::WrongStatus);
@@ -28,12 +31,12 @@ pub fn on_duty(
     if until <= at {
         return Err(Refusal::ShiftOver);
     }
-    Ok(Vehicle {
+    Decision::done(alloc).with(Change::PutVehicle(Vehicle {
         status: Status::Available,
         shift_end: until,
         place: *place,
         ..*vehicle
-    })
+    }))
 }
 
 /// The vehicle off duty, and without a post.
@@ -41,8 +44,8 @@ pub fn on_duty(
 /// Refused as `StillAssigned` where it has an order, then as `WrongStatus` where it is off duty or
 /// offered.
 #[tactic(auto, unfolding(room_model::specs::Decisions::refuse_if))]
-pub fn off_duty(vehicle: &Vehicle) -> Result<Vehicle, Refusal>
-    ensures { as_decided result ≡ off_duty vehicle.now }
+pub fn off_duty(alloc: Global, vehicle: &Vehicle) -> Result<Decision, Refusal>
+    ensures { Decides (off_duty vehicle.now) result }
 {
     if vehicle.status.is_busy() {
         return Err(Refusal::StillAssigned);
@@ -50,9 +53,9 @@ pub fn off_duty(vehicle: &Vehicle) -> Result<Vehicle, Refusal>
     if !vehicle.status.is_free() {
         return Err(Refusal::WrongStatus);
     }
-    Ok(Vehicle {
+    Decision::done(alloc).with(Change::PutVehicle(Vehicle {
         status: Status::OffDuty,
         post: None,
         ..*vehicle
-    })
+    }))
 }

@@ -3,5 +3,4 @@
 
 pub mod buttons;
 pub mod duty;
-pub mod laws;
 pub mod reports;

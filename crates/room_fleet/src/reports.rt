@@ -1,15 +1,127 @@
 //! What a crew's report does to its vehicle's rows.
-ghost use Rattle.std.specs.Prelude.{◌≡◌, None, Some, max, option_copied};
+ghost use Rattle.std.specs.List.{cons_option};
+ghost use Rattle.std.specs.Prelude.{◌≡◌, ◌++◌, ◌∷◌, ◌&&◌, ℕ, [], IfErr, IfOk, None, Some, false, is_none, is_some, max, option_copied, option_map, true};
+ghost use Rattle.room_types.specs.Codes.{acts};
+ghost use Rattle.room_types.specs.declared.answers.Answer.TheVariants as answer;
+ghost use Rattle.room_types.specs.declared.asks.Press.{Press};
+ghost use Rattle.room_types.specs.declared.changes.Change.TheVariants.{PutReport, PutTurn, PutVehicle};
+ghost use Rattle.room_types.specs.declared.crews.CrewRows.{CrewRows};
+ghost use Rattle.room_types.specs.declared.refusals.Refusal.TheVariants.{Memory};
+ghost use Rattle.room_model.specs.Decisions.{Decides};
 ghost use Rattle.room_model.specs.Moments.{first_of};
-ghost use Rattle.room_model.specs.Reports.{is_due, outcome_of, report_row, turn_after, with_report};
-ghost use Rattle.room_fleet.specs.Reported.{IsKeptAlone, TurnKeepsMoments, acted, kept_alone, reported};
+ghost use Rattle.room_model.specs.Queries.{kept_report};
+ghost use Rattle.room_model.specs.Reports.{back_changes, drop_changes, ends_turn, is_due, outcome_of, report_held, report_in, report_row, take_report, turn_after, with_report};
+ghost use Rattle.room_model.specs.Room.{Room};
+ghost use Rattle.room_model.specs.Slices.{AreCrewRows};
+ghost use Rattle.room_model.specs.WellFormed.{IsWellFormed};
+ghost use Rattle.room_fleet.specs.Reported.{AreHolders, IsKeptAlone, TurnKeepsMoments, acted, kept_alone, reported};
 
-use crate::buttons::{acts, is_home, names_order, press as outcome_at, status_after};
+use crate::buttons::{acts, ends_turn, is_home, names_order, press as outcome_at, status_after};
+use room_types::answers::{Answer, Listed};
 use room_types::asks::Press;
+use room_types::changes::Change;
 use room_types::codes::{Button, Outcome, Status};
 use room_types::crews::{CrewRows, CrewSlice};
+use room_types::decisions::Decision;
 use room_types::numbers::{LastNumber, Moment};
+use room_types::refusals::Refusal;
 use room_types::tables::{Loan, Report, Turn, Vehicle};
+use std::alloc::Global;
+
+/// A report whose number the room has not kept (the caller sees to that): its row and those that it
+/// changes are put, and its crew is answered what it came to. The one refusal is `Memory`.
+pub fn take_report(
+    alloc: Global,
+    slice: &CrewSlice,
+    press: &Press,
+    at: Moment,
+) -> Result<Decision, Refusal>
+    // In any room where the holder has these rows.
+    ensures holder { (r : Room) → AreHolders r slice.now.rows
+        → Decides (report_in slice.now.rows.vehicle.holder slice.now.rows.vehicle.callsign
+        press.now at r) result }
+    // In a well-formed room that has these rows of the vehicle, and not the report's number.
+    ensures crew { (r : Room) → IsWellFormed r
+        → AreCrewRows slice.now.rows.vehicle.callsign r slice.now.rows
+        → kept_report slice.now.rows.vehicle.callsign press.now.number r ≡ None
+        → Decides (take_report slice.now.rows.vehicle.callsign press.now at r) result }
+{
+    let after = report(slice, press, at);
+    put(alloc, &slice.rows, &after)
+}
+
+// From the rows before a report to those after it.
+fn put(alloc: Global, before: &CrewRows, after: &Reported) -> Result<Decision, Refusal>
+    // Whatever the report was.
+    ensures { (press : Press) (at : ℕ) → after.now ≡ reported before.now press at
+        → Decides (report_held (Some before.now.vehicle) before.now.turn before.now.loan press at)
+        result }
+{
+    if acts(after.report.outcome) {
+        put_acted(alloc, before, after)
+    } else {
+        put_kept(alloc, after)
+    }
+}
+
+fn put_kept(alloc: Global, after: &Reported) -> Result<Decision, Refusal>
+    ensures { (before : CrewRows) (press : Press) (at : ℕ)
+        → acts after.now.report.outcome ≡ false → after.now ≡ reported before press at
+        → Decides (report_held (Some before.vehicle) before.turn before.loan press at) result }
+{
+    let kept = &after.report;
+    Decision::show(alloc, answer_of(kept))
+        .with(Change::PutReport(*kept))?
+        .with(Change::PutVehicle(after.vehicle))
+}
+
+fn put_acted(alloc: Global, before: &CrewRows, after: &Reported) -> Result<Decision, Refusal>
+    ensures { (press : Press) (at : ℕ)
+        → acts after.now.report.outcome ≡ true → after.now ≡ reported before.now press at
+        → Decides (report_held (Some before.now.vehicle) before.now.turn before.now.loan press at)
+        result }
+{
+    let changes = changes_acted(alloc, before, after)?;
+    let answer = answer_of(&after.report);
+    Ok(Decision { changes, answer })
+}
+
+// The vehicle's row comes last.
+fn changes_acted(
+    alloc: Global,
+    before: &CrewRows,
+    after: &Reported,
+) -> Result<Listed<Change>, Refusal>
+    ensures ok { IfOk result (λ changes.
+        changes ≡ PutReport after.now.report
+        ∷ cons_option (option_map PutTurn after.now.turn) []
+        ++ (drop_changes after.now.vehicle.callsign (ends_turn after.now.report.button)
+        ++ (back_changes after.now.vehicle.callsign
+        (is_some before.now.loan && is_none after.now.loan)
+        ++ PutVehicle after.now.vehicle ∷ []))) }
+    ensures memory { IfErr result (λ e. e ≡ Memory) }
+{
+    let callsign = after.vehicle.callsign;
+    let mut changes = Listed::new(alloc);
+    changes.push(Change::PutReport(after.report))?;
+    if let Some(turn) = after.turn {
+        changes.push(Change::PutTurn(turn))?;
+    }
+    if ends_turn(after.report.button) {
+        changes.push(Change::DropAssignment(callsign))?;
+    }
+    if before.loan.is_some() && after.loan.is_none() {
+        changes.push(Change::DropLoan(callsign))?;
+    }
+    changes.push(Change::PutVehicle(after.vehicle))?;
+    Ok(changes)
+}
+
+fn answer_of(kept: &Report) -> Answer
+    ensures { result ≡ answer.Reported kept.now.number kept.now.outcome kept.now.status }
+{
+    Answer::Reported(kept.number, kept.outcome, kept.status)
+}
 
 /// A vehicle's rows after a report.
 #[derive(Clone, Copy)]

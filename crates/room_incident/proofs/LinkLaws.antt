@@ -3,7 +3,7 @@ use Rattle.std.proofs.Common.{Bool, Bor, List, None, Option, Some, [], ap, arith
 use Rattle.std.proofs.lemmas.Bool.{eqb-true}
 use Rattle.std.proofs.lemmas.Bool.Decides.{nat_tests}
 use Rattle.std.specs.List.{list_all}
-use Rattle.std.specs.Prelude.{IfSome, filter, nat_lt, option_copied, option_map, ◌&&◌, ◌==◌, ◌||◌}
+use Rattle.std.specs.Prelude.{IfSome, filter, nat_lt, option_copied, ◌&&◌, ◌==◌, ◌||◌}
 use Rattle.room_place.specs.Choice.{least}
 use Rattle.room_place.specs.Places.{distance}
 use Rattle.room_place.specs.declared.places.Place.{Place}
@@ -52,8 +52,7 @@ module _ (d : ℕ) (p : Place) (at : ℕ) where
       ∙ ap (λ ys. least (is_nearer p) (filter (is_candidate d p at) ys)) (sym same)
 
   least_is_target : (xs : List Incident) (o : Option Incident)
-      → least (is_nearer p) (filter (is_candidate d p at) xs) ≡ o
-      → IsLinkTarget d p at xs (option_map (λ i. i.number) o)
+      → least (is_nearer p) (filter (is_candidate d p at) xs) ≡ o → IsLinkTarget d p at xs o
   least_is_target xs None e = λ i among. (elim (is_candidate d p at i) as (λ (b : Bool). is_candidate d p at i ≡ b → b ≡ false) [
     | true ↦ λ passes. absurd (none_among (is_nearer p) (turned p) (passed p) _ i e (into_filter (is_candidate d p at) xs i among passes))
     | false ↦ λ fails. refl
@@ -61,16 +60,14 @@ module _ (d : ℕ) (p : Place) (at : ℕ) where
   least_is_target xs (Some t) e =
       let found = among_filter (is_candidate d p at) xs t (least_among (is_nearer p) (turned p) (passed p) _ t e) in
       record {
-        target = t;
         among = found.0;
         candidate = found.1;
-        number = refl;
         nearest = λ i among passes. least_below (is_nearer p) (turned p) (passed p) _ t e i (into_filter (is_candidate d p at) xs i among passes);
       }
 
   pub target_is : (xs : List Incident) (o : Option Incident)
       → o ≡ least (is_nearer p) (filter (is_open_near p at) xs)
-      → list_all (owns_incident d) xs ≡ true → IsLinkTarget d p at xs (option_map (λ i. i.number) o)
+      → list_all (owns_incident d) xs ≡ true → IsLinkTarget d p at xs o
   target_is xs o e owned = least_is_target xs o (ap (least (is_nearer p)) (candidates_are xs owned) ∙ sym e)
 
   target_passes : (xs : List Incident) (t : Incident)

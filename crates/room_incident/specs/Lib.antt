@@ -1,5 +1,4 @@
 pub mod CallsOf
-pub mod Verdicts
 pub mod Joined
 pub mod Links
 pub mod Served

@@ -1,83 +1,67 @@
 //! What becomes of a call.
-ghost use Rattle.std.specs.Prelude.{◌≡◌, List, None, IfOk, IfSome, option_copied, true};
+ghost use Rattle.std.specs.Prelude.{◌≡◌, List, Option, Some, IfOk, true};
 ghost use Rattle.room_place.specs.declared.plans.Area.{Area};
 ghost use Rattle.room_types.specs.Codes.{is_active};
-ghost use Rattle.room_model.specs.Calls.{call_in, call_new, call_row, new_incident, with_call};
-ghost use Rattle.room_model.specs.Queries.{last_number, link_target};
+ghost use Rattle.room_types.specs.declared.tables.Division.{Division};
+ghost use Rattle.room_model.specs.Calls.{call_in, call_new, call_row, call_taken, new_incident, with_call};
+ghost use Rattle.room_model.specs.Decisions.{Decides};
+ghost use Rattle.room_model.specs.Queries.{last_number};
 ghost use Rattle.room_model.specs.Slices.{room_of};
 ghost use Rattle.room_incident.specs.CallsOf.{is_call_of};
-ghost use Rattle.room_incident.specs.Taken.{verdict_of_taken, Covers};
+ghost use Rattle.room_incident.specs.Taken.{Covers};
 
 use crate::links::nearest;
 use room_place::plans::DivisionNumber;
+use room_types::answers::Answer;
 use room_types::asks::NewCall;
+use room_types::changes::Change;
 use room_types::codes::State;
+use room_types::decisions::Decision;
 use room_types::numbers::{LastNumber, Number};
 use room_types::refusals::Refusal;
 use room_types::slices::Slice;
 use room_types::tables::{Call, Division, Incident};
-
-/// The rows that a call makes and changes.
-#[derive(Clone, Copy)]
-pub struct Taken {
-    pub call: Call,
-    /// The incident that it was linked to, or a new one.
-    pub incident: Incident,
-    /// The division with the new incident's number; none where the call was linked.
-    pub division: Option<Division>,
-}
+use std::alloc::Global;
 
 /// Takes a call whose place is in the slice's division and whose serial the room does not have
 /// (the caller sees to both). It is linked to an active incident near by, or makes a new one with
 /// the division's next number.
 ///
 /// Refused as `NumbersUsedUp` where it makes a new one and the last number is given out.
-#[tactic(auto, unfolding(room_model::specs::Decisions::refuse_if, room_model::specs::Calls::call_in))]
-pub fn take_call(slice: &Slice, new: &NewCall) -> Result<Taken, Refusal>
-    ensures taken { (plan : List Area)
-        → verdict_of_taken result ≡ call_in slice.now.division new.now
-        (room_of plan slice.now.rows) }
+#[tactic(auto, unfolding(room_model::specs::Calls::call_in))]
+pub fn take_call(alloc: Global, slice: &Slice, new: &NewCall) -> Result<Decision, Refusal>
+    ensures decides { (plan : List Area) → Decides
+        (call_in slice.now.division new.now (room_of plan slice.now.rows)) result }
     ensures covers { IfOk result (Covers new.now) }
 {
-    match target(slice, new) {
-        Some(incident) => Ok(linked(slice.division, incident, new)),
-        None => opened(slice, new),
+    match nearest(slice, &new.place, new.at) {
+        Some(incident) => link(alloc, slice.division, incident, new),
+        None => open_incident(alloc, slice, new),
     }
 }
 
-fn target<'a>(slice: &'a Slice, new: &NewCall) -> Option<&'a Incident>
-    ensures target { (plan : List Area)
-        → option_copied result ≡ link_target slice.now.division new.now.place new.now.at
-        (room_of plan slice.now.rows) }
-    ensures active { IfSome result (λ i. is_active i.now.state ≡ true) }
-    ensures division { IfSome result (λ i. i.now.division ≡ slice.now.division) }
-{
-    nearest(&slice.rows.incidents, &new.place, new.at)
-}
-
-#[tactic(auto, using(crate::proofs::CallLaws::linked_covers))]
-fn linked(division: DivisionNumber, incident: &Incident, new: &NewCall) -> Taken
+fn link(
+    alloc: Global,
+    division: DivisionNumber,
+    incident: &Incident,
+    new: &NewCall,
+) -> Result<Decision, Refusal>
     requires active { is_active incident.now.state ≡ true }
     requires division { incident.now.division ≡ division }
-    ensures rows { result ≡ record {
-      call = call_row division incident.now.number true new.now;
-      incident = with_call new.now incident.now;
-      division = None;
-    } }
-    ensures covers { Covers new.now result }
+    ensures decides { (last : Option Division) → Decides
+        (call_taken division new.now (Some incident.now) last) result }
+    ensures covers { IfOk result (Covers new.now) }
 {
-    Taken {
-        call: call_row(division, incident.number, true, new),
-        incident: with_call(new, incident),
-        division: None,
-    }
+    Decision::show(alloc, Answer::Called(division, incident.number, true))
+        .with(Change::PutIncident(with_call(new, incident)))?
+        .with(Change::PutCall(call_row(division, incident.number, true, new)))
 }
 
-#[tactic(auto, using(crate::proofs::CallLaws::opened_covers), unfolding(room_model::specs::Decisions::refuse_if, room_model::specs::Queries::last_number))]
-fn opened(slice: &Slice, new: &NewCall) -> Result<Taken, Refusal>
-    ensures taken { (plan : List Area)
-        → verdict_of_taken result ≡ call_new slice.now.division new.now
-        (last_number slice.now.division (room_of plan slice.now.rows)) }
+#[tactic(auto, unfolding(room_model::specs::Decisions::refuse_if, room_model::specs::Queries::last_number))]
+fn open_incident(alloc: Global, slice: &Slice, new: &NewCall) -> Result<Decision, Refusal>
+    ensures decides { (plan : List Area) → Decides
+        (call_new slice.now.division new.now
+        (last_number slice.now.division (room_of plan slice.now.rows))) result }
     ensures covers { IfOk result (Covers new.now) }
 {
     let Some(division) = slice.rows.divisions.get(&slice.division) else {
@@ -86,14 +70,14 @@ fn opened(slice: &Slice, new: &NewCall) -> Result<Taken, Refusal>
     let Some(number) = Number::new(division.last_incident.get() + 1) else {
         return Err(Refusal::NumbersUsedUp);
     };
-    Ok(Taken {
-        call: call_row(slice.division, number, false, new),
-        incident: new_incident(slice.division, number, new),
-        division: Some(Division {
-            last_incident: LastNumber::of(number.get()),
-            ..*division
-        }),
-    })
+    let numbered = Division {
+        last_incident: LastNumber::of(number.get()),
+        ..*division
+    };
+    Decision::show(alloc, Answer::Called(slice.division, number, false))
+        .with(Change::PutDivision(numbered))?
+        .with(Change::PutIncident(new_incident(slice.division, number, new)))?
+        .with(Change::PutCall(call_row(slice.division, number, false, new)))
 }
 
 // The incident keeps its place.

@@ -1,38 +1,26 @@
 //! One incident goes into another.
-ghost use Rattle.std.specs.Prelude.{◌≡◌, List, Some, IfOk, map};
-ghost use Rattle.room_place.specs.Choice.{Among};
+ghost use Rattle.std.specs.Prelude.{◌≡◌, ◌++◌, List, Some, IfErr, IfOk, map};
 ghost use Rattle.room_place.specs.declared.plans.Area.{Area};
 ghost use Rattle.room_types.specs.Slices.{incident_at};
-ghost use Rattle.room_types.specs.declared.changes.Change.TheVariants.{PutCall};
-ghost use Rattle.room_types.specs.declared.tables.Call.{Call};
+ghost use Rattle.room_types.specs.declared.refusals.Refusal.TheVariants.{Memory};
 ghost use Rattle.room_types.specs.declared.tables.Incident.{Incident};
+ghost use Rattle.room_model.specs.Decisions.{Decides};
 ghost use Rattle.room_model.specs.Incidents.{joined, merge, moved_call};
 ghost use Rattle.room_model.specs.Moments.{earlier};
 ghost use Rattle.room_model.specs.Queries.{calls_of};
 ghost use Rattle.room_model.specs.Slices.{room_of};
-ghost use Rattle.room_incident.specs.Verdicts.{DecidesAs};
-ghost use Rattle.room_incident.specs.Joined.{Joins, verdict_of_joined};
+ghost use Rattle.room_incident.specs.Joined.{Joins};
 
 use crate::calls::is_call_of;
 use crate::served::is_attended;
-use room_types::answers::Listed;
+use room_types::changes::Change;
 use room_types::codes::State;
+use room_types::decisions::Decision;
 use room_types::numbers::{Moment, Number};
 use room_types::refusals::Refusal;
 use room_types::slices::Slice;
 use room_types::tables::{Call, Incident};
-use std::alloc::{AllocError, Global};
-
-/// The rows of two incidents after one went into the other.
-#[derive(Drop)]
-pub struct Joined {
-    /// The one that went, merged now.
-    pub from: Incident,
-    /// The one that it went into.
-    pub into: Incident,
-    /// The calls that moved with it.
-    pub calls: Listed<Call>,
-}
+use std::alloc::Global;
 
 /// Merges one of the division's incidents into another, which gets the lower class, the larger
 /// needs, the earlier opening, the earlier first order, and the calls.
@@ -41,13 +29,12 @@ pub struct Joined {
 /// `IncidentNotOpen` where either is not active, then as `StillAssigned` where the one that goes
 /// has an open turn. `Memory` may be refused where nothing else is.
 #[tactic(auto, unfolding(room_model::specs::Decisions::refuse_if, room_model::specs::Incidents::merge, room_model::specs::Queries::incident_of))]
-pub fn merge(alloc: Global, slice: &Slice, from: Number, into: Number) -> Result<Joined, Refusal>
-    ensures joined { (plan : List Area)
-        → DecidesAs verdict_of_joined result
-        (merge slice.now.division from into (room_of plan slice.now.rows)) }
-    ensures joins { IfOk result (λ j. (n m : Incident)
+pub fn merge(alloc: Global, slice: &Slice, from: Number, into: Number) -> Result<Decision, Refusal>
+    ensures decides { (plan : List Area) → Decides
+        (merge slice.now.division from into (room_of plan slice.now.rows)) result }
+    ensures joins { IfOk result (λ x. (n m : Incident)
         → incident_at slice.now.division from slice.now.rows ≡ Some n
-        → incident_at slice.now.division into slice.now.rows ≡ Some m → Joins n m j) }
+        → incident_at slice.now.division into slice.now.rows ≡ Some m → Joins n m x) }
 {
     let Some(source) = slice.rows.incidents.get(&(slice.division, from)) else {
         return Err(Refusal::NoSuchIncident);
@@ -64,17 +51,14 @@ pub fn merge(alloc: Global, slice: &Slice, from: Number, into: Number) -> Result
     if is_attended(&slice.rows.turns, slice.division, from) {
         return Err(Refusal::StillAssigned);
     }
-    let Ok(calls) = moved_calls(alloc, slice, from, target.number) else {
-        return Err(Refusal::Memory);
+    let merged = Incident {
+        state: State::Merged(target.number),
+        ..*source
     };
-    Ok(Joined {
-        from: Incident {
-            state: State::Merged(target.number),
-            ..*source
-        },
-        into: with_source(source, target),
-        calls,
-    })
+    let decision = Decision::done(alloc)
+        .with(Change::PutIncident(with_source(source, target)))?
+        .with(Change::PutIncident(merged))?;
+    move_calls(decision, slice, from, target.number)
 }
 
 // The target keeps its number and its place.
@@ -102,24 +86,27 @@ fn earlier(one: Option<Moment>, other: Option<Moment>) -> Option<Moment>
 }
 
 // The calls of the one as calls of the other. What each was answered stays.
-fn moved_calls(
-    alloc: Global,
+fn move_calls(
+    decision: Decision,
     slice: &Slice,
     from: Number,
     into: Number,
-) -> Result<Listed<Call>, AllocError>
-    ensures puts { IfOk result (λ moved. (plan : List Area)
-        → map PutCall moved ≡ map (moved_call into)
-        (calls_of slice.now.division from (room_of plan slice.now.rows))) }
-    ensures all { IfOk result (λ moved. (c : Call) → Among c moved → c.incident ≡ into) }
+) -> Result<Decision, Refusal>
+    ensures ok { IfOk result (λ x. (plan : List Area)
+        → x ≡ record decision {
+          changes = decision.changes ++ map (moved_call into)
+              (calls_of slice.now.division from (room_of plan slice.now.rows));
+        }) }
+    ensures memory { IfErr result (λ e. e ≡ Memory) }
 {
-    let mut moved = Listed::new(alloc);
+    let mut moved = decision;
     for call in slice.rows.calls.as_slice() {
         if is_call_of(call, slice.division, from) {
-            moved.push(Call {
+            let call = Call {
                 incident: into,
                 ..*call
-            })?;
+            };
+            moved.changes.push(Change::PutCall(call))?;
         }
     }
     Ok(moved)

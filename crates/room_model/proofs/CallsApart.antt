@@ -34,7 +34,7 @@ use Rattle.room_model.specs.Calls.{call_in, call_kept, call_somewhere, call_take
 use Rattle.room_types.specs.Codes.{is_active}
 use Rattle.room_model.specs.Crossing.{CallIn, cross_call, cross_position, is_division_of}
 use Rattle.room_model.specs.Decisions.{changes_of}
-use Rattle.room_model.specs.Moments.{age, number_limit}
+use Rattle.room_model.specs.Moments.{age, link_metres, link_seconds, number_limit}
 use Rattle.room_model.specs.Queries.{is_candidate, is_nearer, kept_call, last_number, link_target}
 use Rattle.room_model.specs.Room.{IsInOrder, Room, apply}
 use Rattle.room_model.specs.Shares.{IsPlain, own}
@@ -92,9 +92,9 @@ module _ (d h : ℕ) (r : Room) (w : IsWellFormed r) (apart : h == d ≡ false) 
 
 -- ---- by the rows that it reads
 module _ (d : ℕ) (r : Room) (order : IsInOrder r) (f : CallForm) (at : ℕ) where
-  near_reads : (i : Incident) → nat_le (distance i.place f.place) 200
-      && nat_le (age at i.opened) 900 ≡ true → reads_incident (ask.Call f) at i ≡ true
-  near_reads i e = both_true _ _ (right_true (nat_le (distance i.place f.place) 200) _ e) (near_around i.place f.place (left_true _ _ e))
+  near_reads : (i : Incident) → nat_le (distance i.place f.place) link_metres
+      && nat_le (age at i.opened) link_seconds ≡ true → reads_incident (ask.Call f) at i ≡ true
+  near_reads i e = both_true _ _ (right_true (nat_le (distance i.place f.place) link_metres) _ e) (near_around i.place f.place (left_true _ _ e))
 
   target_read : link_target d f.place at (working d (ask.Call f) at r) ≡ link_target d f.place at r
   unfolding link_target

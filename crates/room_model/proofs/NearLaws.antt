@@ -8,6 +8,7 @@ use borrow.Author.Tests.{leb-false}
 use Rattle.room_place.specs.Places.{distance, root_from, square_between}
 use Rattle.room_place.specs.declared.places.Place.{Place}
 use Rattle.room_model.proofs.Tests.{both_true}
+use Rattle.room_model.specs.Moments.{link_metres}
 use Rattle.room_model.specs.Working.{is_around}
 
 -- A root is only cut short by its bits where it is the greatest of as many: below that, the next
@@ -29,7 +30,7 @@ one_side x y h = elim (cases_lt 200 x) [
   | inr near ↦ near
 ]
 
-pub near_around : (p q : Place) → nat_le (distance p q) 200 ≡ true → is_around p q ≡ true
+pub near_around : (p q : Place) → nat_le (distance p q) link_metres ≡ true → is_around p q ≡ true
 unfolding distance
 near_around p q near =
     let short : square_between p q < 201 * 201 = next_is_more (square_between p q) 20 0 200 (omega arith) (leb-true _ _ near) in

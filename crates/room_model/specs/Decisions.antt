@@ -1,7 +1,8 @@
 -- What a decision is.
-use Rattle.std.specs.Prelude.{Bool, Err, List, None, Ok, Option, Result, Some, [], cond, not}
+use Rattle.std.specs.Prelude.{Bool, Err, List, None, Ok, Option, Result, Some, [], cond, is_ok, not, true, ◌≡◌, ◌⊎◌}
 use Rattle.room_types.specs.declared.answers.Answer.{Answer}
 use Rattle.room_types.specs.declared.changes.Change.{Change}
+use Rattle.room_types.specs.declared.decisions.Decision.{Decision}
 use Rattle.room_types.specs.declared.refusals.Refusal.{Refusal}
 use Rattle.room_types.specs.declared.tables.Incident.{Incident}
 use Rattle.room_types.specs.declared.tables.Loan.{Loan}
@@ -10,11 +11,7 @@ use Rattle.room_types.specs.Codes.{is_active}
 use Rattle.room_types.specs.declared.answers.Answer.TheVariants as answer
 use Rattle.room_types.specs.declared.refusals.Refusal.TheVariants as refusal
 
--- the rows that change, and what is told
-pub record Decision : Type 0 where
-  pub changes : List Change
-  pub answer : Answer
-
+-- a decision, or why there is none
 abbrev pub Verdict : Type 0
 Verdict = Result Decision Refusal
 
@@ -54,3 +51,9 @@ changes_of (Err e) = []
 abbrev pub answer_of : Verdict → Result Answer Refusal
 answer_of (Ok x) = Ok x.answer
 answer_of (Err e) = Err e
+
+-- what the code gives is the machine's; in place of a decision, and of nothing else, memory may be
+-- refused, and then nothing is decided
+abbrev pub Decides : Verdict → Result Decision Refusal → Type 0
+Decides verdict (Ok x) = verdict ≡ Ok x
+Decides verdict (Err e) = (verdict ≡ Err e) ⊎ ((e ≡ refusal.Memory) × (is_ok verdict ≡ true))

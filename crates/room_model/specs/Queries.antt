@@ -20,7 +20,7 @@ use Rattle.room_types.specs.declared.tables.Turn.{Turn}
 use Rattle.room_types.specs.declared.tables.Vehicle.{Vehicle}
 use Rattle.room_types.specs.Texts.{Callsign}
 use Rattle.room_types.specs.Codes.{is_active, is_free, is_merged, same_kind}
-use Rattle.room_model.specs.Moments.{age}
+use Rattle.room_model.specs.Moments.{age, link_metres, link_seconds}
 use Rattle.room_model.specs.Room.{Room}
 
 -- ---- vehicles and what stands beside them
@@ -106,7 +106,8 @@ is_attended d n r = list_any (λ t. t.division == d && (t.incident == n && is_no
 abbrev pub is_candidate : ℕ → Place → ℕ → Incident → Bool
 is_candidate d p at i =
     i.division == d
-    && (is_active i.state && (nat_le (distance i.place p) 200 && nat_le (age at i.opened) 900))
+    && (is_active i.state
+    && (nat_le (distance i.place p) link_metres && nat_le (age at i.opened) link_seconds))
 
 -- by distance, and then by number
 abbrev pub is_nearer : Place → Incident → Incident → Bool

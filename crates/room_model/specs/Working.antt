@@ -13,7 +13,7 @@ use Rattle.room_types.specs.declared.tables.Incident.{Incident}
 use Rattle.room_types.specs.declared.tables.Report.{Report}
 use Rattle.room_types.specs.declared.tables.Turn.{Turn}
 use Rattle.room_types.specs.declared.tables.Vehicle.{Vehicle}
-use Rattle.room_model.specs.Moments.{age}
+use Rattle.room_model.specs.Moments.{age, link_metres, link_seconds}
 use Rattle.room_model.specs.Queries.{held, incident_of}
 use Rattle.room_model.specs.Room.{Room}
 use Rattle.room_types.specs.declared.asks.Ask.TheVariants as ask
@@ -108,16 +108,17 @@ names_incident (ask.Merge m into) n = m == n || into == n
 names_incident (ask.Close m) n = m == n
 names_incident a n = false
 
--- in the square whose sides lie 200 m from a place: whatever lies outside it is more than 200 m
--- away
+-- in the square whose sides lie as far from a place as a call may be from its incident: whatever
+-- lies outside it is farther away
 abbrev pub is_around : Place → Place → Bool
-is_around p q = nat_le (abs_diff p.east q.east) 200 && nat_le (abs_diff p.north q.north) 200
+is_around p q =
+    nat_le (abs_diff p.east q.east) link_metres && nat_le (abs_diff p.north q.north) link_metres
 
 -- the ask is for times that its opening lies in, or a call at `at` that may be linked to it: it was
 -- opened then, around the call's place
 abbrev pub names_opening : Ask → ℕ → Incident → Bool
 names_opening (ask.Times from to) at i = int_le from (pos i.opened) && int_lt (pos i.opened) to
-names_opening (ask.Call f) at i = nat_le (age at i.opened) 900 && is_around i.place f.place
+names_opening (ask.Call f) at i = nat_le (age at i.opened) link_seconds && is_around i.place f.place
 names_opening a at i = false
 
 -- active and read, named, or opened then

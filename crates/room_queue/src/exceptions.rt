@@ -1,33 +1,56 @@
 //! Clearing a report that was out of turn.
-ghost use Rattle.std.specs.Prelude.{◌≡◌, ◌&&◌, ℕ, not, option_copied};
+ghost use Rattle.std.specs.Prelude.{◌≡◌, ◌&&◌, List, not, option_copied};
+ghost use Rattle.room_place.specs.declared.plans.Area.{Area};
 ghost use Rattle.room_types.specs.Codes.{is_normal};
-ghost use Rattle.room_types.specs.Texts.{Callsign};
+ghost use Rattle.room_model.specs.Decisions.{Decides};
 ghost use Rattle.room_model.specs.Queries.{report_of};
-ghost use Rattle.room_model.specs.Queue.{clear, clear_found};
-ghost use Rattle.room_model.specs.Room.{Room};
-ghost use Rattle.room_queue.specs.Cleared.{as_decided};
+ghost use Rattle.room_model.specs.Queue.{clear};
+ghost use Rattle.room_model.specs.Slices.{room_of};
 
+use room_types::callsign::Callsign;
+use room_types::changes::Change;
 use room_types::codes::Outcome;
+use room_types::decisions::Decision;
+use room_types::numbers::Number;
 use room_types::refusals::Refusal;
+use room_types::slices::Slice;
 use room_types::tables::Report;
+use std::alloc::Global;
 
-/// The report as seen to; nothing else of its row changes.
+/// Clears the division's report: it was seen to. Nothing else of its row changes.
 ///
 /// Refused as `NoSuchException` exactly where there is no such report, it was seen to before, or it
 /// was normal.
 #[tactic(auto, unfolding(room_model::specs::Decisions::refuse_if, room_model::specs::Queue::clear))]
-pub fn clear(report: Option<&Report>) -> Result<Report, Refusal>
-    ensures decided { as_decided result ≡ clear_found (option_copied report.entry) }
-    // In each room where the division has this report under the callsign and number, or none.
-    ensures room { (d : ℕ) (c : Callsign) (n : ℕ) (r : Room)
-        → report_of d c n r ≡ option_copied report.entry → as_decided result ≡ clear d c n r }
+pub fn clear(
+    alloc: Global,
+    slice: &Slice,
+    callsign: &Callsign,
+    number: Number,
+) -> Result<Decision, Refusal>
+    ensures { (plan : List Area) → Decides
+        (clear slice.now.division callsign.now number (room_of plan slice.now.rows)) result }
 {
-    match report {
-        Some(report) if is_exception(report) => Ok(Report {
-            cleared: true,
-            ..*report
-        }),
+    match own_report(slice, callsign, number) {
+        Some(report) if is_exception(report) => {
+            Decision::done(alloc).with(Change::PutReport(Report {
+                cleared: true,
+                ..*report
+            }))
+        }
         _ => Err(Refusal::NoSuchException),
+    }
+}
+
+#[tactic(auto, unfolding(room_model::specs::Queries::report_of))]
+fn own_report<'a>(slice: &'a Slice, callsign: &Callsign, number: Number) -> Option<&'a Report>
+    ensures { (plan : List Area)
+        → option_copied result ≡ report_of slice.now.division callsign.now number
+        (room_of plan slice.now.rows) }
+{
+    match slice.rows.reports.get(&(*callsign, number)) {
+        Some(report) if report.division == slice.division => Some(report),
+        _ => None,
     }
 }
 

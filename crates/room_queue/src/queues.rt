@@ -3,8 +3,9 @@ ghost use Rattle.std.specs.Prelude.{◌≡◌, ◌++◌, List, [], IfErr, IfOk, 
 ghost use Rattle.std.specs.List.{cons_option};
 ghost use Rattle.room_place.specs.declared.plans.Area.{Area};
 ghost use Rattle.room_types.specs.declared.answers.Answer.TheVariants.{Queue};
+ghost use Rattle.room_types.specs.declared.answers.Entry.{Entry};
 ghost use Rattle.room_types.specs.declared.refusals.Refusal.TheVariants.{Memory};
-ghost use Rattle.room_model.specs.Decisions.{show};
+ghost use Rattle.room_model.specs.Decisions.{Decides};
 ghost use Rattle.room_model.specs.Queue.{IsQueueOf, entries, show_queue};
 ghost use Rattle.room_model.specs.Slices.{room_of};
 ghost use Rattle.room_queue.specs.Seen.{with_held, with_sent};
@@ -12,19 +13,30 @@ ghost use Rattle.room_queue.specs.Served.{AreServed};
 
 use crate::entries;
 use crate::served::{Served, gather};
-use room_types::answers::{Entry, Listed};
+use room_types::answers::{Answer, Entry, Listed};
+use room_types::decisions::Decision;
 use room_types::numbers::Moment;
 use room_types::refusals::Refusal;
 use room_types::rows::Rows;
 use room_types::slices::Slice;
 use std::alloc::{AllocError, Global};
 
-/// What needs an eye in the division: all of it, by rank, since, number and callsign, each once.
-/// The one refusal is `Memory`.
-pub fn queue(alloc: Global, slice: &Slice, at: Moment) -> Result<Listed<Entry>, Refusal>
-    ensures answer { IfOk result (λ queue. (plan : List Area)
-        → show_queue slice.now.division at (room_of plan slice.now.rows) ≡ show (Queue queue)) }
+/// Shows what needs an eye in the division: all of it, by rank, since, number and callsign, each
+/// once. The one refusal is `Memory`.
+#[tactic(auto, unfolding(room_model::specs::Queue::show_queue))]
+pub fn queue(alloc: Global, slice: &Slice, at: Moment) -> Result<Decision, Refusal>
+    ensures decides { (plan : List Area) → Decides
+        (show_queue slice.now.division at (room_of plan slice.now.rows)) result }
     // Strictly in order, and exactly the entries that hold.
+    ensures entries { IfOk result (λ x. (plan : List Area) (queue : List Entry)
+        → x.answer ≡ Queue queue
+        → IsQueueOf (entries slice.now.division at (room_of plan slice.now.rows)) queue) }
+{
+    let queue = in_order(alloc, slice, at)?;
+    Ok(Decision::show(alloc, Answer::Queue(queue)))
+}
+
+fn in_order(alloc: Global, slice: &Slice, at: Moment) -> Result<Listed<Entry>, Refusal>
     ensures entries { IfOk result (λ queue. (plan : List Area)
         → IsQueueOf (entries slice.now.division at (room_of plan slice.now.rows)) queue) }
     ensures memory { IfErr result (λ refusal. refusal ≡ Memory) }

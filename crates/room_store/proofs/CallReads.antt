@@ -1,7 +1,5 @@
 -- What a call is decided by, once its serial and its place were looked up.
-use Rattle.std.proofs.Common.{Err, List, None, Option, Some, [], false, not, refl, sym, true, ℕ, ◌&&◌, ◌∙◌, ◌≡◌}
-use Rattle.std.proofs.lemmas.Bool.{and_parts}
-use Rattle.std.specs.Prelude.{filter, ◌==◌}
+use Rattle.std.proofs.Common.{Err, List, None, Option, Some, not, refl, sym, ℕ, ◌∙◌, ◌≡◌}
 use Rattle.room_place.specs.Plans.{division_of}
 use Rattle.room_place.specs.declared.plans.Area.{Area}
 use Rattle.room_types_keyed.specs.Keyed.{row_at}
@@ -12,31 +10,15 @@ use Rattle.room_types.specs.declared.asks.Ask.TheVariants.{Call}
 use Rattle.room_types.specs.declared.asks.CallForm.{CallForm}
 use Rattle.room_types.specs.declared.asks.Event.{Event}
 use Rattle.room_types.specs.declared.asks.NewCall.{NewCall}
-use Rattle.room_types.specs.declared.asks.Who.TheVariants.{Desk, Position}
+use Rattle.room_types.specs.declared.asks.Who.TheVariants.{Position}
 use Rattle.room_types.specs.declared.refusals.Refusal.TheVariants.{OutsideArea, SerialReused}
 use Rattle.room_types.specs.declared.tables.Call.{Call as Call'}
-use Rattle.room_types.specs.declared.tables.Incident.{Incident}
 use Rattle.room_model.specs.Calls.{new_call, same_call}
 use Rattle.room_model.specs.Decisions.{Verdict, refuse_if, show}
 use Rattle.room_model.specs.Queries.{kept_call}
 use Rattle.room_model.specs.Room.{Room}
-use Rattle.room_model.specs.Step.{IsAddressed, decided, is_desks}
-use Rattle.room_store_reads.specs.Reading.{is_near}
-use Rattle.room_store_reads.proofs.RoomReads.{filter_never}
+use Rattle.room_model.specs.Step.{decided}
 use Rattle.room_store.specs.Acting.{IsIn}
-
--- no call is a desk's
-near_none : (ask : Ask) (at : ℕ) → is_desks ask ≡ true → (i : Incident) → is_near ask at i ≡ false
-near_none (Call form) at desks i = cc
-near_none ask at desks i = refl
-
--- so none of the incidents is one that what a desk asks may be linked to
-pub desk_near : (desk : ℕ) (event : Event) → event.who ≡ Desk desk → (room : Room)
-    → IsAddressed event room → (division : ℕ)
-    → filter (λ i. i.division == division && is_near event.ask event.at i) room.incidents ≡ []
-desk_near desk event is room addressed division =
-    let asks = rw is at addressed in
-    filter_never (λ i. i.division == division) (is_near event.ask event.at) room.incidents (near_none event.ask event.at (and_parts _ _ asks).0)
 
 pub kept_is : (position serial : ℕ) (room : Room)
     → row_at pair_cmp call_key room.calls (position, serial) ≡ kept_call position serial room

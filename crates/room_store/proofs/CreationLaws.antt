@@ -26,7 +26,7 @@ use Rattle.room_model.proofs.Tests.{both_true, left_true, right_true}
 use Rattle.room_store.specs.Creating.{AreNewTerminals, may_use}
 use Rattle.room_store_writes.specs.Filling.{division_numbers, in_order, new_division, new_divisions, new_room, put_all}
 use Rattle.room_store_writes.proofs.CreationSteps.{divisions_more, divisions_to}
-use Rattle.room_store_reads.proofs.RoomReads.{turned_number}
+use Rattle.room_store_cache.proofs.Filters.{turned_number}
 
 keyed_if : (b : Bool) (xs : List Division) (x : Division) → IsKeyed nat_cmp division_key xs
     → IsKeyed nat_cmp division_key (cond b (put_row nat_cmp division_key xs x) xs)

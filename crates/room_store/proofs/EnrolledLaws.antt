@@ -73,7 +73,7 @@ module _ {S : Type 0} (g : Ghosts S) (old new : Store S) (row : FleetRow)
       → StandsInPlan (state g old.conn).now.trees old.plan (house_of old.plan terminals) room
   in_plan is_open = record { stands = is.tables is_open; plan = is.plan }
 
-  pub room_after_row : new.plan ≡ old.plan → new.known ≡ old.known → KnowsNothing new.cache
+  pub room_after_row : new.plan ≡ old.plan → new.terminals ≡ old.terminals → KnowsNothing new.cache
       → Enrols (state g old.conn) (state g new.conn) row
       (StandsInPlan (state g old.conn).now.trees old.plan) (fate_in row)
       → IsRoom g new (terminals_enrolled room terminals row) (room_enrolled room terminals row)
@@ -81,7 +81,7 @@ module _ {S : Type 0} (g : Ghosts S) (old new : Store S) (row : FleetRow)
     formed = enrolled_kept room terminals row is.formed;
     fits = terminals_kept room terminals row is.fits;
     plan = rw same (plan_by (fate_of room terminals row) row room ∙ is.plan);
-    known = rw same_known (still_known room terminals row old.known.items is.known);
+    known = rw same_known (still_known room terminals row old.terminals.kept.items is.known);
     cache = knows_nothing new.cache (room_enrolled room terminals row) nothing;
     tables = λ _. rw same (wrote.stands (house_of old.plan terminals) room (in_plan wrote.was_open));
   }

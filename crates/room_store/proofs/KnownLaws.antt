@@ -1,8 +1,8 @@
--- What a store knows beside its tables: terminals that it has looked up, what they tell and that
--- they stay; and what else it knows, which may be nothing.
-use Rattle.std.proofs.Common.{List, None, Option, Some, [], ap, false, get_or, length, refl, subst, sym, true, ◌<◌, ◌∙◌, ◌≡◌}
+-- What a store knows beside its tables: terminals, and that they stay; and what else it knows, which
+-- may be nothing.
+use Rattle.std.proofs.Common.{List, Some, [], false, refl, subst, sym, true, ◌∙◌, ◌≡◌}
 use Rattle.std.proofs.lemmas.List.Elements.{All-nil, All-same, All-weaker}
-use Rattle.std.specs.Prelude.{All, HoldsAt, IfSome, option_map, ℕ}
+use Rattle.std.specs.Prelude.{All, IfSome}
 use Rattle.room_types_keyed.proofs.EachRow.{row_key}
 use Rattle.room_types.specs.Texts.{Token}
 use Rattle.room_types.specs.declared.fleet.FleetRow.{FleetRow}
@@ -13,12 +13,11 @@ use Rattle.room_model.proofs.EnrolLaws.{exact_tokens, is_added, tokens_total}
 use Rattle.room_model.proofs.KeptCalls.{row_stays}
 use Rattle.room_model.specs.Enrol.{fate_of, new_terminal, terminal_at, terminal_key, terminals_by, terminals_enrolled, token_cmp}
 use Rattle.room_model.specs.Room.{Room}
-use Rattle.room_service.specs.Rooms.{who_at}
 use Rattle.room_store_cache.specs.Cache.{IsCacheOf, KnowsNothing}
 use Rattle.room_store_cache.specs.Boards.{IsBoardOf}
 use Rattle.room_store_cache.specs.Dossiers.{IsDossierOf}
 use Rattle.room_store_cache.specs.declared.cache.Cache.{Cache}
-use Rattle.room_store.specs.Keeping.{IsOneOf}
+use Rattle.room_store_cache.specs.Terminals.{AreTerminalsOf, IsOneOf}
 
 -- where none is kept, nothing is asked of any
 none_kept : {A : Type 0} (P : A → Type 0) (xs : List A) → xs ≡ [] → All P xs
@@ -34,26 +33,15 @@ knows_nothing cache room nothing = record {
 }
 
 -- a store that begins knows no terminal
-pub knows_none : (terminals known : List Terminal) → known ≡ [] → All (IsOneOf terminals) known
+pub knows_none : (terminals known : List Terminal) → known ≡ [] → AreTerminalsOf known terminals
 knows_none terminals known none = none_kept (IsOneOf terminals) known none
 
-module _ (terminals : List Terminal) (token : Token) where
-  -- the terminal of a token that is known tells who shows it
-  pub known_tells : (known : List Terminal) (at : ℕ) (t : Terminal) → All (IsOneOf terminals) known
-      → at < length known → HoldsAt (λ t. t.token ≡ token) known at → t ≡ get_or known at t
-      → Some t.who ≡ who_at terminals token
-  known_tells known at t all inside has here =
-      let one : IsOneOf terminals t = subst (IsOneOf terminals) (sym here) (all at t inside) in
-      let key : t.token ≡ token = subst (λ (u : Terminal). u.token ≡ token) (sym here) (has t) in
-      sym (ap (option_map (λ (u : Terminal). u.who)) (subst (λ k. terminal_at k terminals ≡ Some t) key one))
-
-  -- a terminal that was looked up is one of these
-  pub looked_up : (found : Option Terminal) → found ≡ terminal_at token terminals
-      → IfSome found (IsOneOf terminals)
-  looked_up None is = tt
-  looked_up (Some t) is =
-      let key : t.token ≡ token = subst (λ o. IfSome o (λ u. u.token ≡ token)) (sym is) (row_key token_cmp terminal_key tokens_total exact_tokens terminals token) in
-      subst (λ k. terminal_at k terminals ≡ Some t) (sym key) (sym is)
+-- a terminal that was looked up is one of these
+pub looked_up : (terminals : List Terminal) (token : Token) (t : Terminal)
+    → Some t ≡ terminal_at token terminals → IsOneOf terminals t
+looked_up terminals token t is =
+    let key : t.token ≡ token = subst (λ o. IfSome o (λ u. u.token ≡ token)) (sym is) (row_key token_cmp terminal_key tokens_total exact_tokens terminals token) in
+    subst (λ k. terminal_at k terminals ≡ Some t) (sym key) (sym is)
 
 module _ (room : Room) (terminals : List Terminal) (row : FleetRow) where
   -- a terminal stays one of them when a row is enrolled, since the row's token was free
@@ -63,6 +51,6 @@ module _ (room : Room) (terminals : List Terminal) (row : FleetRow) where
   stays Same is t one = one
   stays (Refused why) is t one = one
 
-  pub still_known : (known : List Terminal) → All (IsOneOf terminals) known
-      → All (IsOneOf (terminals_enrolled room terminals row)) known
+  pub still_known : (known : List Terminal) → AreTerminalsOf known terminals
+      → AreTerminalsOf known (terminals_enrolled room terminals row)
   still_known known = All-weaker (IsOneOf terminals) (IsOneOf (terminals_enrolled room terminals row)) (stays (fate_of room terminals row) refl) known

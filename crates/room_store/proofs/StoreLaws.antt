@@ -1,6 +1,6 @@
 -- A store's room, before and after an event.
 use Rattle.std.proofs.Common.{Bool, Err, IsTrue, List, Ok, Result, [], ap, false, inl, inr, subst, sym, true, ◌∙◌, ◌∷◌, ◌≡◌}
-use Rattle.std.specs.Prelude.{All, OnErr, OnOk}
+use Rattle.std.specs.Prelude.{OnErr, OnOk}
 use Rattle.sqlite.specs.Effect.{Database}
 use Rattle.sqlite.specs.Held.{state}
 use Rattle.sqlite.specs.State.{HasCleanDisk, State, Survives}
@@ -19,7 +19,8 @@ use Rattle.room_tables_schema.specs.Connections.{HasRoomSchema}
 use Rattle.room_store_writes.specs.Writing.{Commits, IsSettled, Leaves}
 use Rattle.room_store_cache.specs.Cache.{IsCacheOf}
 use Rattle.room_store.specs.Acting.{IsFor}
-use Rattle.room_store.specs.Keeping.{IsKept, IsOneOf, IsReady, IsRoom, LeavesOneOf, ShowsRoom}
+use Rattle.room_store_cache.specs.Terminals.{AreTerminalsOf}
+use Rattle.room_store.specs.Keeping.{IsKept, IsReady, IsRoom, LeavesOneOf, ShowsRoom}
 use Rattle.room_store_writes.specs.Houses.{house_of}
 use Rattle.room_store.specs.declared.store.Store.{Store}
 
@@ -41,7 +42,7 @@ ready_schema g held ready sound clean = (ready.sound sound clean).schema
 -- tables that were left stand for the room that they stood for
 pub room_left : {S : Type 0} (g : Ghosts S) (old new : Store S) (terminals : List Terminal)
     (room : Room) → Leaves (state g old.conn) (state g new.conn) → new.plan ≡ old.plan
-    → All (IsOneOf terminals) new.known.items → IsCacheOf new.cache room
+    → AreTerminalsOf new.terminals.kept.items terminals → IsCacheOf new.cache room
     → IsRoom g old terminals room → IsRoom g new terminals room
 room_left g old new terminals room left same known cache is = record {
   formed = is.formed;
@@ -61,7 +62,7 @@ module _ {S : Type 0} (g : Ghosts S) (old new : Store S) (event : Event)
       room
   for_room is_open = record { stands = is.tables is_open; formed = is.formed; plan = is.plan; cache = is.cache; addressed = addressed }
 
-  pub room_moved : IsNumbered event.ask → new.plan ≡ old.plan → new.known ≡ old.known
+  pub room_moved : IsNumbered event.ask → new.plan ≡ old.plan → new.terminals ≡ old.terminals
       → IsCacheOf new.cache (room_after event room)
       → Commits (state g old.conn) (state g new.conn)
       (IsFor (state g old.conn).now.trees old.plan old.cache event) (room_after event)

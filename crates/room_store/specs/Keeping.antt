@@ -1,11 +1,11 @@
 -- What a store keeps true between calls, and which room it stands for.
-use Rattle.std.specs.Prelude.{All, List, Some, [], false, IsTrue, ◌∷◌, ◌≡◌, ◌⊎◌}
+use Rattle.std.specs.Prelude.{List, [], false, IsTrue, ◌∷◌, ◌≡◌, ◌⊎◌}
 use Rattle.sqlite.specs.Held.{state}
 use Rattle.sqlite.specs.State.{HasCleanDisk, State}
 use Rattle.sqlite_trees.specs.Tree.{Trees}
 use Rattle.sqlite_trees.specs.declared.store.Store.{Ghosts}
 use Rattle.room_types.specs.declared.fleet.Terminal.{Terminal}
-use Rattle.room_model.specs.Enrol.{AreTerminals, terminal_at}
+use Rattle.room_model.specs.Enrol.{AreTerminals}
 use Rattle.room_model.specs.Room.{Room}
 use Rattle.room_model.specs.WellFormed.{IsWellFormed}
 use Rattle.room_tables_schema.specs.Schema.{room_schema}
@@ -13,6 +13,7 @@ use Rattle.room_tables.specs.Stands.{House, Stands}
 use Rattle.room_store_writes.specs.Houses.{house_of}
 use Rattle.room_store_writes.specs.Writing.{IsSettled}
 use Rattle.room_store_cache.specs.Cache.{IsCacheOf, KnowsNothing}
+use Rattle.room_store_cache.specs.Terminals.{AreTerminalsOf}
 use Rattle.room_store.specs.declared.store.Store.{Store}
 
 -- The connection shows a room: it is open, its tables are a room's, and they are as they were
@@ -29,10 +30,6 @@ pub record IsReady {S : Type 0} (g : Ghosts S) (held : Store S) : Type 0 where
       → ShowsRoom (state g held.conn)
   pub unsound : held.is_sound ≡ false → KnowsNothing held.cache
 
--- the terminal is one of these: that of its token
-abbrev pub IsOneOf : List Terminal → Terminal → Type 0
-IsOneOf terminals t = terminal_at t.token terminals ≡ Some t
-
 -- It stands for this well-formed room with these terminals, those that it knows are of these, and
 -- what else it knows is so in the room. Of a connection that a fault has shut, the tables tell
 -- nothing.
@@ -41,7 +38,7 @@ pub record IsRoom {S : Type 0} (g : Ghosts S) (held : Store S) (terminals : List
   pub formed : IsWellFormed room
   pub fits : AreTerminals room terminals
   pub plan : room.plan ≡ held.plan.areas
-  pub known : All (IsOneOf terminals) held.known.items
+  pub known : AreTerminalsOf held.terminals.kept.items terminals
   pub cache : IsCacheOf held.cache room
   pub tables : IsTrue (state g held.conn).is_open
       → Stands (state g held.conn).now.trees (house_of held.plan terminals) room

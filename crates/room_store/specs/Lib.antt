@@ -1,3 +1,5 @@
+-- what is decided of an event, or why nothing is
+pub mod Deciding
 -- what acting on an event makes of the tables
 pub mod Acting
 -- what a store keeps, and which room it stands for

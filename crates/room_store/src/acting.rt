@@ -8,7 +8,7 @@ ghost use Rattle.room_tables_sql.specs.Outcomes.{ReadsOnly};
 ghost use Rattle.room_types.specs.declared.answers.Answer.{Answer as Told};
 ghost use Rattle.room_types.specs.declared.refusals.Refusal.{Refusal as Why};
 ghost use Rattle.room_types.specs.declared.refusals.Refusal.TheVariants.{Memory};
-ghost use Rattle.room_model.specs.Decisions.{answer_of, changes_of};
+ghost use Rattle.room_model.specs.Decisions.{changes_of};
 ghost use Rattle.room_model.specs.Events.{IsNumbered};
 ghost use Rattle.room_model.specs.Room.{Room};
 ghost use Rattle.room_model.specs.Step.{answer_to, decided, room_after};
@@ -17,16 +17,17 @@ ghost use Rattle.room_tables.specs.Stands.{House, Stands};
 ghost use Rattle.room_store_writes.specs.Writing.{Commits, Leaves};
 ghost use Rattle.room_store_cache.specs.Cache.{IsCacheOf};
 ghost use Rattle.room_store.specs.Acting.{IsFor};
+ghost use Rattle.room_store.specs.Deciding.{in_parts, unless_want};
 
 use crate::deciding::decide;
 use crate::faults::refusal_of;
-use room_core::decisions::Decision;
 use room_place::plans::Plan;
 use room_store_cache::cache::Cache;
 use room_store_writes::writing::write;
 use room_types::answers::{Answer, Listed};
 use room_types::asks::{Ask, Event};
 use room_types::changes::Change;
+use room_types::decisions::Decision;
 use room_types::refusals::Refusal;
 use sqlite::{Alter, Connection};
 use std::alloc::Global;
@@ -79,7 +80,7 @@ pub(crate) fn act_on<S: Alter, F: FnOnce(&Result<Answer, Refusal>) -> Result<Vec
     if let Err(fault) = write(conn, changes.as_slice()) {
         return Err(refusal_of(fault));
     }
-    cache.follow(changes.as_slice());
+    cache.apply(changes.as_slice());
     Ok(bytes)
 }
 
@@ -121,11 +122,11 @@ pub(crate) fn prepare<S: Alter, F: FnOnce(&Result<Answer, Refusal>) -> Result<Ve
     ensures reads { ReadsOnly S.Store conn.old conn.new result }
     ensures wants { IfErr result IsWant }
 {
-    let decision = match decide(alloc, conn, plan, cache, event) {
-        Ok(decision) => decision,
-        Err(fault) => return Err(refusal_of(fault)),
+    let decision = decide(alloc, conn, plan, cache, event);
+    let (changes, answer) = match parts(alloc, decision) {
+        Ok(parts) => parts,
+        Err(refusal) => return Err(refusal),
     };
-    let (changes, answer) = parts(alloc, decision);
     let rendered = render(&answer);
     drop(answer);
     match rendered {
@@ -134,20 +135,18 @@ pub(crate) fn prepare<S: Alter, F: FnOnce(&Result<Answer, Refusal>) -> Result<Ve
     }
 }
 
-// The changes of a decision, and the answer.
+// The changes of a decision, and the answer: a refusal too, unless memory or storage is wanting.
 fn parts(
     alloc: Global,
     decision: Result<Decision, Refusal>,
-) -> (Listed<Change>, Result<Answer, Refusal>)
-    ensures changes { result.0 ≡ changes_of decision }
-    ensures answer { result.1 ≡ answer_of decision }
+) -> Result<(Listed<Change>, Result<Answer, Refusal>), Refusal>
+    ensures { result ≡ in_parts (unless_want decision) }
 {
     match decision {
-        Ok(decision) => {
-            let (changes, answer) = decision.into_parts();
-            (changes, Ok(answer))
-        }
-        Err(refusal) => (Listed::new(alloc), Err(refusal)),
+        Ok(Decision { changes, answer }) => Ok((changes, Ok(answer))),
+        Err(Refusal::Memory) => Err(Refusal::Memory),
+        Err(Refusal::Storage) => Err(Refusal::Storage),
+        Err(refusal) => Ok((Listed::new(alloc), Err(refusal))),
     }
 }
 

@@ -12,6 +12,7 @@ ghost use Rattle.room_store_writes.specs.Filling.{StandsNew};
 use crate::store::Store;
 use room_place::plans::Plan;
 use room_store_cache::cache::Cache;
+use room_store_cache::terminals::Terminals;
 use room_store_writes::filling::create_in;
 use room_tables_schema::faults::Fault;
 use room_tables_schema::testing::is_empty;
@@ -104,7 +105,7 @@ impl<S: Alter> Store<S> {
                 Ok(()) => Ok(Store {
                     conn,
                     plan: own,
-                    known: Vec::new(alloc),
+                    terminals: Terminals::new(alloc),
                     cache: Cache::new(alloc),
                     is_sound: true,
                 }),

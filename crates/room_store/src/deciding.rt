@@ -1,15 +1,14 @@
 //! What the room in the tables decides of an event. Nothing is written.
-ghost use Rattle.std.specs.Prelude.{◌≡◌, IsTrue, IfErr, IfOk};
+ghost use Rattle.std.specs.Prelude.{◌≡◌, IsTrue, IfOk};
 ghost use Rattle.sqlite.specs.Held.{state};
 ghost use Rattle.sqlite.specs.State.{HasCleanDisk};
 ghost use Rattle.room_tables_schema.specs.Connections.{HasRoomSchema};
-ghost use Rattle.room_tables_schema.specs.declared.faults.Fault.TheVariants.{Memory};
 ghost use Rattle.room_tables_sql.specs.Outcomes.{ReadsOnly};
-ghost use Rattle.room_core.specs.Deciding.{AreRead, Decides};
+ghost use Rattle.room_core.specs.Deciding.{AreRead};
 ghost use Rattle.room_types.specs.declared.asks.Ask.TheVariants.{Call as CallAsk};
 ghost use Rattle.room_types.specs.declared.asks.Who.TheVariants.{Position};
 ghost use Rattle.room_model.specs.Calls.{new_call};
-ghost use Rattle.room_model.specs.Decisions.{Verdict};
+ghost use Rattle.room_model.specs.Decisions.{Decides};
 ghost use Rattle.room_model.specs.Reports.{take_report};
 ghost use Rattle.room_model.specs.Room.{Room};
 ghost use Rattle.room_model.specs.Slices.{room_of};
@@ -18,58 +17,59 @@ ghost use Rattle.room_model.specs.WellFormed.{IsWellFormed};
 ghost use Rattle.room_tables.specs.Stands.{House};
 ghost use Rattle.room_tables.specs.Finding.{Finds};
 ghost use Rattle.room_store.specs.Acting.{IsFor, IsIn};
+ghost use Rattle.room_store.specs.Deciding.{unless_want};
 ghost use Rattle.room_store_reads.specs.CrewParts.{HasVehicle};
-ghost use Rattle.room_store_reads.specs.Parts.{AreKnown, AreNear};
+ghost use Rattle.room_store_reads.specs.Parts.{AreKnown};
 ghost use Rattle.room_store_cache.specs.Cache.{HasFleetOf, IsCacheOf};
 
+use crate::faults::refusal_of;
 use room_core::calls::{decide_again, decide_call};
 use room_core::crews::{decide_order, decide_report, decide_report_again};
-use room_core::decisions::Decision;
 use room_core::desks::decide_desk;
 use room_place::plans::{DivisionNumber, Plan};
 use room_store_cache::cache::Cache;
 use room_store_cache::fleets::Fleet;
 use room_store_reads::crews::{load_crew, load_report};
-use room_store_reads::learning::learn;
 use room_store_reads::working::load_working;
 use room_tables::loading::row_at;
-use room_tables_schema::faults::Fault;
 use room_types::asks::{Ask, CallForm, Event, NewCall, Press, Who};
 use room_types::callsign::Callsign;
 use room_types::crews::CrewSlice;
+use room_types::decisions::Decision;
 use room_types::numbers::{Moment, PositionNumber};
 use room_types::refusals::Refusal;
-use room_types::rows::Rows;
 use room_types::slices::Slice;
-use room_types::tables::{Call, Incident, Vehicle};
+use room_types::tables::{Call, Vehicle};
 use sqlite::{Alter, Connection};
 use std::alloc::Global;
 
-/// What the machine decides of an event in the room that the tables stand for. A fault is of memory
-/// or of storage; rows that don't agree are one of storage, and so is an event that is not
-/// addressed.
+/// What the machine decides of an event in the room that the tables stand for. A want of memory or
+/// of storage is no decision of it: rows that don't agree are one of storage, and so is an event
+/// that is not addressed.
 pub(crate) fn decide<S: Alter>(
     alloc: Global,
     conn: &mut Connection<S>,
     plan: &Plan,
     cache: &mut Cache,
     event: &Event,
-) -> Result<Result<Decision, Refusal>, Fault>
+) -> Result<Decision, Refusal>
     requires room { HasRoomSchema S.Store conn.old }
     requires open { IsTrue cache.old.fleet.is_known → HasCleanDisk (state S.Store conn.old)
         → IsTrue (state S.Store conn.old).is_open }
     ensures decided { HasCleanDisk (state S.Store conn.new)
-        → IfOk result (λ x. (house : House) (room : Room)
+        → IfOk (unless_want result) (λ x. (house : House) (room : Room)
         → IsFor (state S.Store conn.old).now.trees plan.now cache.old event.now house room
         → x ≡ decided event.now room) }
     ensures cache { HasCleanDisk (state S.Store conn.new)
-        → IfOk result (λ _. (house : House) (room : Room)
+        → IfOk (unless_want result) (λ _. (house : House) (room : Room)
         → IsFor (state S.Store conn.old).now.trees plan.now cache.old event.now house room
         → IsCacheOf cache.new room) }
-    ensures reads { ReadsOnly S.Store conn.old conn.new result }
+    ensures reads { ReadsOnly S.Store conn.old conn.new (unless_want result) }
 {
-    cache.fleet.know(alloc, conn)?;
-    decide_known(alloc, conn, plan, cache, event)
+    match cache.fleet.fill(alloc, conn) {
+        Ok(()) => decide_known(alloc, conn, plan, cache, event),
+        Err(fault) => Err(refusal_of(fault)),
+    }
 }
 
 // The same where the fleet is known.
@@ -79,24 +79,21 @@ fn decide_known<S: Alter>(
     plan: &Plan,
     cache: &mut Cache,
     event: &Event,
-) -> Result<Result<Decision, Refusal>, Fault>
+) -> Result<Decision, Refusal>
     requires room { HasRoomSchema S.Store conn.old }
     requires open { HasCleanDisk (state S.Store conn.old)
         → IsTrue (state S.Store conn.old).is_open }
-    ensures decided { Finds S.Store conn.old conn.new result (λ room x. IsWellFormed room
-        → room.plan ≡ plan.now.areas → IsAddressed event.now room
+    ensures decided { Finds S.Store conn.old conn.new (unless_want result) (λ room x.
+        IsWellFormed room → room.plan ≡ plan.now.areas → IsAddressed event.now room
         → HasFleetOf cache.old.fleet room → IsCacheOf cache.old room → x ≡ decided event.now room) }
-    ensures cache { Finds S.Store conn.old conn.new result (λ room _. IsWellFormed room
-        → room.plan ≡ plan.now.areas → IsAddressed event.now room
+    ensures cache { Finds S.Store conn.old conn.new (unless_want result) (λ room _.
+        IsWellFormed room → room.plan ≡ plan.now.areas → IsAddressed event.now room
         → HasFleetOf cache.old.fleet room → IsCacheOf cache.old room
         → IsCacheOf cache.new room) }
-    ensures reads { ReadsOnly S.Store conn.old conn.new result }
+    ensures reads { ReadsOnly S.Store conn.old conn.new (unless_want result) }
 {
     match &event.who {
-        Who::Desk(division) => {
-            let near = Rows::new(alloc);
-            for_division(alloc, conn, plan, cache, *division, event, &near)
-        }
+        Who::Desk(division) => for_division(alloc, conn, plan, cache, *division, event),
         Who::Crew(callsign) => {
             for_crew(
                 alloc,
@@ -109,13 +106,12 @@ fn decide_known<S: Alter>(
         }
         Who::Position(position) => match &event.ask {
             Ask::Call(form) => for_call(alloc, conn, plan, cache, *position, form, event),
-            _ => Err(Fault::Storage),
+            _ => Err(Refusal::Storage),
         },
     }
 }
 
-// What is for a division: what its desk asks, or a call that is placed in it and not kept, with the
-// incidents that it may be linked to.
+// What is for a division: what its desk asks, or a call that is placed in it and not kept.
 fn for_division<S: Alter>(
     alloc: Global,
     conn: &mut Connection<S>,
@@ -123,31 +119,30 @@ fn for_division<S: Alter>(
     cache: &mut Cache,
     division: DivisionNumber,
     event: &Event,
-    near: &Rows<Incident>,
-) -> Result<Result<Decision, Refusal>, Fault>
+) -> Result<Decision, Refusal>
     requires room { HasRoomSchema S.Store conn.old }
     requires open { HasCleanDisk (state S.Store conn.old)
         → IsTrue (state S.Store conn.old).is_open }
-    ensures decided { Finds S.Store conn.old conn.new result (λ room x. IsWellFormed room
-        → room.plan ≡ plan.now.areas → IsIn event.now.who event.now.ask division room
-        → AreKnown cache.old room → AreNear division event.now.ask event.now.at room near.now
+    ensures decided { Finds S.Store conn.old conn.new (unless_want result) (λ room x.
+        IsWellFormed room → room.plan ≡ plan.now.areas
+        → IsIn event.now.who event.now.ask division room → AreKnown cache.old room
         → x ≡ decided event.now room) }
-    ensures known { Finds S.Store conn.old conn.new result (λ room _. IsWellFormed room
-        → AreKnown cache.old room → AreNear division event.now.ask event.now.at room near.now
-        → AreKnown cache.new room) }
+    ensures known { Finds S.Store conn.old conn.new (unless_want result) (λ room _.
+        IsWellFormed room → AreKnown cache.old room → AreKnown cache.new room) }
     ensures fleet { cache.new.fleet ≡ cache.old.fleet }
-    ensures recents { cache.new.recents ≡ cache.old.recents }
-    ensures reads { ReadsOnly S.Store conn.old conn.new result }
+    ensures reads { ReadsOnly S.Store conn.old conn.new (unless_want result) }
 {
-    let rows = load_working(alloc, conn, division, &event.ask, cache, near)?;
-    learn(alloc, cache, division, &event.ask, &rows);
+    let rows = match load_working(alloc, conn, division, &event.ask, event.at, cache) {
+        Ok(rows) => rows,
+        Err(fault) => return Err(refusal_of(fault)),
+    };
     match Slice::build(division, rows) {
         Some(slice) => {
             let decision = decide_on(alloc, plan, &slice, event);
             drop(slice);
-            machines(decision)
+            decision
         }
-        None => Err(Fault::Storage),
+        None => Err(Refusal::Storage),
     }
 }
 
@@ -177,26 +172,27 @@ fn for_crew<S: Alter>(
     callsign: &Callsign,
     ask: &Ask,
     at: Moment,
-) -> Result<Result<Decision, Refusal>, Fault>
+) -> Result<Decision, Refusal>
     requires room { HasRoomSchema S.Store conn.old }
     requires open { HasCleanDisk (state S.Store conn.old)
         → IsTrue (state S.Store conn.old).is_open }
-    ensures decided { Finds S.Store conn.old conn.new result (λ room x. IsWellFormed room
-        → HasFleetOf fleet.old room → x ≡ crew_asks callsign.now ask.now at room) }
-    ensures known { Finds S.Store conn.old conn.new result (λ room _. HasFleetOf fleet.old room
-        → HasFleetOf fleet.new room) }
-    ensures reads { ReadsOnly S.Store conn.old conn.new result }
+    ensures decided { Finds S.Store conn.old conn.new (unless_want result) (λ room x.
+        IsWellFormed room → HasFleetOf fleet.old room
+        → x ≡ crew_asks callsign.now ask.now at room) }
+    ensures known { Finds S.Store conn.old conn.new (unless_want result) (λ room _.
+        HasFleetOf fleet.old room → HasFleetOf fleet.new room) }
+    ensures reads { ReadsOnly S.Store conn.old conn.new (unless_want result) }
 {
-    let Some(vehicle) = fleet.rows().vehicles.get(callsign).copied() else {
-        return Err(Fault::Storage);
+    let Some(vehicle) = fleet.get().vehicles.get(callsign).copied() else {
+        return Err(Refusal::Storage);
     };
     match ask {
         Ask::Order => {
-            let assignment = fleet.rows().assignments.get(callsign).copied();
-            Ok(Ok(decide_order(alloc, &vehicle, assignment)))
+            let assignment = fleet.get().assignments.get(callsign).copied();
+            Ok(decide_order(alloc, &vehicle, assignment))
         }
         Ask::Report(press) => for_report(alloc, conn, fleet, &vehicle, press, at),
-        _ => Ok(Err(Refusal::WrongRole)),
+        _ => Err(Refusal::WrongRole),
     }
 }
 
@@ -208,25 +204,31 @@ fn for_report<S: Alter>(
     vehicle: &Vehicle,
     press: &Press,
     at: Moment,
-) -> Result<Result<Decision, Refusal>, Fault>
+) -> Result<Decision, Refusal>
     requires room { HasRoomSchema S.Store conn.old }
     requires open { HasCleanDisk (state S.Store conn.old)
         → IsTrue (state S.Store conn.old).is_open }
-    ensures decided { Finds S.Store conn.old conn.new result (λ room x. IsWellFormed room
-        → HasFleetOf fleet.old room → HasVehicle vehicle.now room
+    ensures decided { Finds S.Store conn.old conn.new (unless_want result) (λ room x.
+        IsWellFormed room → HasFleetOf fleet.old room → HasVehicle vehicle.now room
         → x ≡ take_report vehicle.now.callsign press.now at room) }
-    ensures known { Finds S.Store conn.old conn.new result (λ room _. HasFleetOf fleet.old room
-        → HasFleetOf fleet.new room) }
-    ensures reads { ReadsOnly S.Store conn.old conn.new result }
+    ensures known { Finds S.Store conn.old conn.new (unless_want result) (λ room _.
+        HasFleetOf fleet.old room → HasFleetOf fleet.new room) }
+    ensures reads { ReadsOnly S.Store conn.old conn.new (unless_want result) }
 {
-    let found = load_report(conn, vehicle, press.number)?;
+    let found = match load_report(conn, vehicle, press.number) {
+        Ok(found) => found,
+        Err(fault) => return Err(refusal_of(fault)),
+    };
     if let Some(kept) = found {
-        return Ok(decide_report_again(alloc, &kept, press));
+        return decide_report_again(alloc, &kept, press);
     }
-    let rows = load_crew(conn, fleet, vehicle)?;
+    let rows = match load_crew(conn, fleet, vehicle) {
+        Ok(rows) => rows,
+        Err(fault) => return Err(refusal_of(fault)),
+    };
     match CrewSlice::build(rows) {
-        Some(slice) => machines(decide_report(alloc, &slice, press, at)),
-        None => Err(Fault::Storage),
+        Some(slice) => decide_report(alloc, &slice, press, at),
+        None => Err(Refusal::Storage),
     }
 }
 
@@ -239,26 +241,26 @@ fn for_call<S: Alter>(
     position: PositionNumber,
     form: &CallForm,
     event: &Event,
-) -> Result<Result<Decision, Refusal>, Fault>
+) -> Result<Decision, Refusal>
     requires room { HasRoomSchema S.Store conn.old }
-    ensures decided { Finds S.Store conn.old conn.new result (λ room x. IsWellFormed room
-        → room.plan ≡ plan.now.areas → event.now.who ≡ Position position
+    ensures decided { Finds S.Store conn.old conn.new (unless_want result) (λ room x.
+        IsWellFormed room → room.plan ≡ plan.now.areas → event.now.who ≡ Position position
         → event.now.ask ≡ CallAsk form.now → HasFleetOf cache.old.fleet room
         → IsCacheOf cache.old room → x ≡ decided event.now room) }
-    ensures cache { Finds S.Store conn.old conn.new result (λ room _. IsWellFormed room
-        → event.now.ask ≡ CallAsk form.now → HasFleetOf cache.old.fleet room
+    ensures cache { Finds S.Store conn.old conn.new (unless_want result) (λ room _.
+        IsWellFormed room → event.now.ask ≡ CallAsk form.now → HasFleetOf cache.old.fleet room
         → IsCacheOf cache.old room → IsCacheOf cache.new room) }
-    ensures reads { ReadsOnly S.Store conn.old conn.new result }
+    ensures reads { ReadsOnly S.Store conn.old conn.new (unless_want result) }
 {
-    let found = row_at::<Call, S>(conn, &(position, form.serial))?;
+    let found = match row_at::<Call, S>(conn, &(position, form.serial)) {
+        Ok(found) => found,
+        Err(fault) => return Err(refusal_of(fault)),
+    };
     match found {
-        Some(kept) => Ok(decide_again(alloc, &kept, &new_call(position, form, event.at))),
+        Some(kept) => decide_again(alloc, &kept, &new_call(position, form, event.at)),
         None => match plan.division_of(form.place) {
-            Some(division) => {
-                let near = cache.recents.near(alloc, conn, division, form, event.at)?;
-                for_division(alloc, conn, plan, cache, division, event, &near)
-            }
-            None => Ok(Err(Refusal::OutsideArea)),
+            Some(division) => for_division(alloc, conn, plan, cache, division, event),
+            None => Err(Refusal::OutsideArea),
         },
     }
 }
@@ -274,16 +276,5 @@ fn new_call(position: PositionNumber, form: &CallForm, at: Moment) -> NewCall
         needs: form.needs,
         note: form.note,
         at,
-    }
-}
-
-// Want of memory is no decision of the machine.
-fn machines(decision: Result<Decision, Refusal>) -> Result<Result<Decision, Refusal>, Fault>
-    ensures decided { IfOk result (λ x. (wanted : Verdict) → Decides wanted decision → x ≡ wanted) }
-    ensures memory { IfErr result (λ fault. fault ≡ Memory) }
-{
-    match decision {
-        Err(Refusal::Memory) => Err(Fault::Memory),
-        decision => Ok(decision),
     }
 }

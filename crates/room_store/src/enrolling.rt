@@ -65,7 +65,7 @@ impl<S: Alter> Store<S> {
         requires ready { IsReady S.Store self.old }
         ensures ready { IsReady S.Store self.new }
         ensures plan { self.new.plan ≡ self.old.plan }
-        ensures known { self.new.known ≡ self.old.known }
+        ensures known { self.new.terminals ≡ self.old.terminals }
         ensures cache { (room : Room) → IsCacheOf self.old.cache room
             → IsCacheOf self.new.cache room }
         ensures fate { HasCleanDisk (state S.Store self.new.conn)

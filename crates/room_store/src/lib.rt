@@ -7,7 +7,6 @@ mod deciding;
 pub mod digests;
 mod enrolling;
 mod faults;
-mod knowing;
 pub mod migrating;
 pub mod opening;
 mod serving;

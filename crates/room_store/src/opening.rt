@@ -17,6 +17,7 @@ ghost use Rattle.room_store_opening.specs.declared.opening.OpenFault.TheVariants
 
 use crate::store::Store;
 use room_store_cache::cache::Cache;
+use room_store_cache::terminals::Terminals;
 use room_store_opening::opening::{OpenFault, open_in};
 use sqlite::{Alter, Connection};
 use std::alloc::Global;
@@ -63,7 +64,7 @@ impl<S: Alter> Store<S> {
             Ok(plan) => Ok(Store {
                 conn,
                 plan,
-                known: Vec::new(alloc),
+                terminals: Terminals::new(alloc),
                 cache: Cache::new(alloc),
                 is_sound: true,
             }),

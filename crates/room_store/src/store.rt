@@ -1,5 +1,5 @@
 //! A room that is kept in the tables of a connection.
-ghost use Rattle.std.specs.Prelude.{◌≡◌, false, List, Result, Ok, IsTrue, IfOk, IfErr, OnOk, OnErr, MatchResult, option_map};
+ghost use Rattle.std.specs.Prelude.{◌≡◌, false, List, Result, Ok, IsTrue, IfOk, IfErr, OnOk, OnErr, MatchResult};
 ghost use Rattle.std.specs.Fn.{FnOnceReturnsAt};
 ghost use Rattle.sqlite.specs.Held.{state};
 ghost use Rattle.sqlite.specs.State.{HasCleanDisk, Survives};
@@ -25,16 +25,15 @@ ghost use Rattle.room_store_writes.specs.Houses.{house_of};
 
 use crate::acting::{act_on, know_number};
 use crate::faults::refusal_of;
-use crate::knowing::{keep, place_of};
 use crate::towards::act_towards_on;
 use room_place::plans::Plan;
 use room_service::digests::{Head, Miss};
 use room_store_cache::cache::Cache;
+use room_store_cache::terminals::Terminals;
 use room_tables::terminals::terminal_at;
 use room_tables_schema::testing::is_room;
 use room_types::answers::Answer;
 use room_types::asks::{Event, Who};
-use room_types::fleet::Terminal;
 use room_types::refusals::Refusal;
 use room_types::token::Token;
 use sqlite::{Alter, Connection};
@@ -49,8 +48,8 @@ use std::alloc::Global;
 pub struct Store<S: Alter> {
     pub(crate) conn: Connection<S>,
     pub(crate) plan: Plan,
-    // Terminals that were looked up, in the order of their tokens. Each is one of the room's.
-    pub(crate) known: Vec<Terminal>,
+    // Terminals that are known, each of them one of the room's.
+    pub(crate) terminals: Terminals,
     // What else is known of the room.
     pub(crate) cache: Cache,
     pub(crate) is_sound: bool,
@@ -83,7 +82,7 @@ impl<S: Alter> Store<S> {
         let Store {
             conn,
             plan: _,
-            known: _,
+            terminals: _,
             cache: _,
             is_sound: _,
         } = self;
@@ -116,15 +115,15 @@ impl<S: Alter> Store<S> {
         if !self.is_sound {
             return Err(Refusal::Storage);
         }
-        let at = match place_of(&self.known, token) {
-            Ok(at) => return Ok(Some(self.known[at].who)),
-            Err(at) => at,
-        };
+        if let Some(terminal) = self.terminals.get(token) {
+            return Ok(Some(terminal.who));
+        }
         let _ = self.conn.is_autocommit();
         match terminal_at(&mut self.conn, token) {
-            Ok(terminal) => {
-                keep(&mut self.known, at, &terminal);
-                Ok(who_of(terminal))
+            Ok(None) => Ok(None),
+            Ok(Some(terminal)) => {
+                self.terminals.fill(&terminal);
+                Ok(Some(terminal.who))
             }
             Err(fault) => {
                 self.test_file();
@@ -148,7 +147,7 @@ impl<S: Alter> Store<S> {
             → FnOnceReturnsAt F.FnOnce render answer r → IfErr r (λ e. e ≡ Memory) }
         ensures ready { IsReady S.Store self.new }
         ensures plan { self.new.plan ≡ self.old.plan }
-        ensures known { self.new.known ≡ self.old.known }
+        ensures known { self.new.terminals ≡ self.old.terminals }
         // After a failure nothing is known of the room any more, but terminals.
         ensures failed { OnErr result (KnowsNothing self.new.cache) }
         ensures bytes { HasCleanDisk (state S.Store self.new.conn)
@@ -216,7 +215,7 @@ impl<S: Alter> Store<S> {
             → FnOnceReturnsAt F.FnOnce render answer r → IfErr r (λ e. e ≡ Memory) }
         ensures ready { IsReady S.Store self.new }
         ensures plan { self.new.plan ≡ self.old.plan }
-        ensures known { self.new.known ≡ self.old.known }
+        ensures known { self.new.terminals ≡ self.old.terminals }
         // After a failure nothing is known of the room any more, but terminals.
         ensures failed { OnErr result (KnowsNothing self.new.cache) }
         ensures bytes { HasCleanDisk (state S.Store self.new.conn)
@@ -285,7 +284,7 @@ impl<S: Alter> Store<S> {
         requires outside { self.old.conn.in_transaction ≡ false }
         ensures ready { IsReady S.Store self.new }
         ensures plan { self.new.plan ≡ self.old.plan }
-        ensures known { self.new.known ≡ self.old.known }
+        ensures known { self.new.terminals ≡ self.old.terminals }
         ensures nothing { KnowsNothing self.new.cache }
         ensures leaves { HasCleanDisk (state S.Store self.new.conn)
             → Leaves (state S.Store self.old.conn) (state S.Store self.new.conn) }
@@ -315,13 +314,4 @@ fn can_read<S: Alter>(conn: &mut Connection<S>) -> bool
     // Outside a transaction the tables are as they were committed.
     let _ = conn.is_autocommit();
     terminal_at(conn, &token).is_ok()
-}
-
-fn who_of(terminal: Option<Terminal>) -> Option<Who>
-    ensures { result ≡ option_map (λ t. t.who) terminal }
-{
-    match terminal {
-        Some(terminal) => Some(terminal.who),
-        None => None,
-    }
 }

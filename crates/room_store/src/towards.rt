@@ -90,7 +90,7 @@ pub(crate) fn act_towards_on<
     if let Err(undone) = write_towards(conn, changes.as_slice(), head) {
         return Err(miss_of(undone));
     }
-    cache.follow(changes.as_slice());
+    cache.apply(changes.as_slice());
     Ok(bytes)
 }
 

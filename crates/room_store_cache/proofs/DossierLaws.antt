@@ -12,6 +12,7 @@ use Rattle.room_types.specs.declared.changes.Change.TheVariants.{PutIncident, Pu
 use Rattle.room_types.specs.declared.tables.Incident.{Incident}
 use Rattle.room_types.specs.declared.tables.Turn.{Turn}
 use Rattle.room_model.specs.Room.{IsInOrder, Room, apply_one}
+use Rattle.room_store_cache.proofs.Filters.{same_number}
 use Rattle.room_store_cache.proofs.KeptLaws.{pass_put}
 use Rattle.room_store_cache.specs.Dossiers.{IsDossierOf}
 use Rattle.room_store_cache.specs.declared.dossiers.Dossier.{Dossier}
@@ -19,9 +20,6 @@ use Rattle.room_store_cache.specs.declared.dossiers.Dossier.{Dossier}
 -- it is what the division has under the number
 abbrev pub is_under : Dossier → ℕ → ℕ → Bool
 is_under x d n = x.division == d && x.number == n
-
-same_number : (m n : ℕ) → is_eq (nat_cmp m n) ≡ (m == n)
-same_number m n = grind (arith, nat_tests)
 
 pair_is : (d n a b : ℕ) → is_eq (pair_cmp (d, n) (a, b)) ≡ d == a && n == b
 pair_is d n a b = is_eq-then (nat_cmp d a) (nat_cmp n b) ∙ (λ i. same_number d a i && same_number n b i)

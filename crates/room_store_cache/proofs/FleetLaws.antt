@@ -1,5 +1,5 @@
 -- What a change does to the fleet's rows and the turns that are known.
-use Rattle.std.proofs.Common.{Bool, List, Some, cond, false, refl, subst, sym, true, ℕ, ◌∙◌, ◌≡◌}
+use Rattle.std.proofs.Common.{Bool, List, Some, cond, false, refl, true, ℕ, ◌∙◌, ◌≡◌}
 use Rattle.std.proofs.lemmas.Cmp.{tied_itself}
 use Rattle.std.specs.Cmp.{Equal-is}
 use Rattle.std.specs.Ordering.{is_eq}
@@ -12,13 +12,7 @@ use Rattle.room_types.specs.Texts.{Callsign}
 use Rattle.room_types.specs.declared.changes.Change.TheVariants.{PutTurn}
 use Rattle.room_types.specs.declared.tables.Turn.{Turn}
 use Rattle.room_model.specs.Room.{Room, apply_one}
-use Rattle.room_store_cache.specs.Cache.{AreTurnsOf}
-
--- a turn that is known is the room's
-pub known_turn : (known : List Turn) (r : Room) (k : Callsign × ℕ) (t : Turn)
-    → AreTurnsOf known r → Some t ≡ row_at numbered_cmp turn_key known k
-    → Some t ≡ row_at numbered_cmp turn_key r.turns k
-known_turn known r k t are found = sym (subst (λ o. IfSome o (λ x. row_at numbered_cmp turn_key r.turns k ≡ Some x)) (sym found) (are k))
+use Rattle.room_store_cache.specs.Turns.{AreTurnsOf}
 
 -- the second room has this turn in its key's place, and the others of the first
 pub record HasMet (t : Turn) (before after : Room) : Type 0 where

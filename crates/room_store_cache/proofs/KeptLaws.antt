@@ -1,5 +1,5 @@
 -- What a change does to rows kept beside a table, and to a list whose elements each follow it.
-use Rattle.std.proofs.Common.{Bool, List, None, Option, Some, [], arith, cond, false, get_or, length, map, refl, set, subst, sym, true, ℕ, ◌+◌, ◌++◌, ◌<◌, ◌∷◌, ◌≡◌}
+use Rattle.std.proofs.Common.{Bool, List, None, Option, Some, [], arith, cond, false, get_or, length, map, refl, set, subst, sym, take, true, ℕ, ◌+◌, ◌++◌, ◌<◌, ◌∙◌, ◌∷◌, ◌≡◌}
 use Rattle.std.proofs.lemmas.List.{get_or-set_other, map-append}
 use Rattle.std.proofs.lemmas.List.Elements.{All-cons, All-head, All-map, All-tail, AllWithin-more_set}
 use Rattle.std.proofs.lemmas.List.Quantifiers.{all_pairs_push}
@@ -9,8 +9,9 @@ use Rattle.std.specs.Ordering.{is_eq, match_ordering}
 use Rattle.std.specs.Prelude.{All, AllPairs, IfNone, filter, is_some, ◌≢◌}
 use Rattle.std.specs.declared.cmp.Ordering.{Ordering}
 use Rattle.std.specs.declared.cmp.Ordering.TheVariants.{Equal, Greater, Less}
-use Rattle.room_types_keyed.proofs.KeyedLaws.{filter_put}
+use Rattle.room_types_keyed.proofs.KeyedLaws.{filter_put, keyed_taken, with_passing}
 use Rattle.room_types_keyed.specs.Keyed.{IsKeyed, drop_row, put_row}
+use Rattle.room_tables.proofs.Streams.{put_end}
 
 module _ {R K : Type 0} (cmp : K → K → Ordering) (key : R → K) (total : IsTotalOrder cmp) where
   -- a row is put in the table: it is put in those that pass, or the one of its key is taken out
@@ -19,6 +20,15 @@ module _ {R K : Type 0} (cmp : K → K → Ordering) (key : R → K) (total : Is
       → cond passes (put_row cmp key kept x) (drop_row cmp key kept (key x))
       ≡ filter p (put_row cmp key all x)
   pass_put p kept all x passes is keyed e = rw (filter_put cmp key total p all x keyed, is, e) refl
+
+  -- one row more that passes, put among those before it
+  pub put_passing : (p : R → Bool) (table rows : List R) (i : ℕ) (x : R)
+      → IsKeyed cmp key table → i < length table → x ≡ get_or table i x
+      → rows ≡ filter p (take i table) → p x ≡ true
+      → put_row cmp key rows x ≡ filter p (take (i + 1) table)
+  put_passing p table rows i x keyed inside here so_far passes =
+      let more = with_passing p table rows i x inside here so_far passes in
+      put_end cmp key total rows x (subst (IsKeyed cmp key) (sym more) (keyed_taken cmp key total p table (i + 1) keyed)) ∙ more
 
 module _ {R K : Type 0} (cmp : K → K → Ordering) (key : R → K) where
   -- what is so of each row stays so where one more is put, and where one is taken out

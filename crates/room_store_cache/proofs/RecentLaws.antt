@@ -1,10 +1,9 @@
 -- What a change does to the incidents that are known, and what a call is given of them.
-use Rattle.std.proofs.Common.{Bool, Err, List, Ok, Result, ap, arith, cond, false, get_or, length, subst, sym, take, true, ℕ, ◌&&◌, ◌+◌, ◌-◌, ◌<◌, ◌∙◌, ◌≡◌, ◌≤◌}
+use Rattle.std.proofs.Common.{Bool, Err, List, Ok, Result, ap, arith, cond, false, true, ℕ, ◌&&◌, ◌-◌, ◌∙◌, ◌≡◌, ◌≤◌}
 use Rattle.std.proofs.lemmas.Bool.Decides.{nat_tests}
 use Rattle.std.proofs.lemmas.Int.{ints}
 use Rattle.std.specs.Prelude.{OnErr, OnOk, filter, int_le, nat_le, pos, ◌==◌}
 use Rattle.std.specs.Result.{is_err}
-use Rattle.room_types_keyed.proofs.KeyedLaws.{keyed_taken, with_passing}
 use Rattle.room_types_keyed.specs.Keyed.{IsKeyed, drop_row, put_row}
 use Rattle.room_types.specs.Keys.{incident_key, pair_cmp}
 use Rattle.room_types.specs.Orders.{pairs_total}
@@ -13,7 +12,6 @@ use Rattle.room_types.specs.declared.asks.CallForm.{CallForm}
 use Rattle.room_types.specs.declared.tables.Incident.{Incident}
 use Rattle.room_model.proofs.Tests.{filter_filter, left_true, right_true}
 use Rattle.room_model.specs.Working.{is_around, names_opening}
-use Rattle.room_tables.proofs.Streams.{put_end}
 use Rattle.room_store_cache.proofs.KeptLaws.{pass_put}
 use Rattle.room_store_cache.specs.Recent.{opened_since}
 
@@ -41,15 +39,6 @@ pub since_put : (from : ℕ) (x : Incident) (late : Bool) (known all : List Inci
 since_put from x late known all is keyed e =
     let same : nat_le from x.opened ≡ opened_since from x = grind (arith, ints, nat_tests) in
     pass_put pair_cmp incident_key pairs_total (opened_since from) known all x late (is ∙ same) keyed e
-
--- one row more that passes
-pub put_passing : (p : Incident → Bool) (xs kept : List Incident) (i : ℕ) (x : Incident)
-    → IsKeyed pair_cmp incident_key xs → i < length xs → x ≡ get_or xs i x
-    → kept ≡ filter p (take i xs) → p x ≡ true
-    → put_row pair_cmp incident_key kept x ≡ filter p (take (i + 1) xs)
-put_passing p xs kept i x keyed inside here so_far passes =
-    let more = with_passing p xs kept i x inside here so_far passes in
-    put_end pair_cmp incident_key pairs_total kept x (subst (IsKeyed pair_cmp incident_key) (sym more) (keyed_taken pair_cmp incident_key pairs_total p xs (i + 1) keyed)) ∙ more
 
 -- what a call may be linked to was not opened before what is known
 linked_since : (first at opened : ℕ) → first ≤ at - 900 → nat_le (at - opened) 900 ≡ true

@@ -1,13 +1,10 @@
 -- What is known of a room.
-use Rattle.std.specs.Prelude.{IfSome, IsTrue, List, None, Some, [], false, ℕ, ◌≡◌}
-use Rattle.room_types_keyed.specs.Keyed.{row_at}
-use Rattle.room_types.specs.Keys.{numbered_cmp, turn_key}
-use Rattle.room_types.specs.Texts.{Callsign}
-use Rattle.room_types.specs.declared.tables.Turn.{Turn}
+use Rattle.std.specs.Prelude.{IsTrue, None, [], false, ◌≡◌}
 use Rattle.room_model.specs.Room.{Room}
 use Rattle.room_store_cache.specs.Boards.{AreBoardsOf}
 use Rattle.room_store_cache.specs.Dossiers.{AreDossiersOf}
 use Rattle.room_store_cache.specs.Recent.{AreRecent}
+use Rattle.room_store_cache.specs.Turns.{AreTurnsOf}
 use Rattle.room_store_cache.specs.declared.cache.Cache.{Cache}
 use Rattle.room_store_cache.specs.declared.fleets.Fleet.{Fleet}
 use Rattle.room_store_cache.specs.declared.fleets.FleetRows.{FleetRows}
@@ -21,15 +18,10 @@ pub record AreRowsOf (rows : FleetRows) (room : Room) : Type 0 where
   pub loans : rows.loans ≡ room.loans
   pub offers : rows.offers ≡ room.offers
 
--- each of these turns is the room's of its key
-abbrev pub AreTurnsOf : List Turn → Room → Type 0
-AreTurnsOf turns room = (k : Callsign × ℕ) → IfSome (row_at numbered_cmp turn_key turns k) (λ t.
-    row_at numbered_cmp turn_key room.turns k ≡ Some t)
-
 -- the fleet is known
 pub record HasFleetOf (fleet : Fleet) (room : Room) : Type 0 where
   pub rows : AreRowsOf fleet.rows room
-  pub turns : AreTurnsOf fleet.turns room
+  pub turns : AreTurnsOf fleet.turns.kept room
 
 -- it is so, where it is known
 abbrev pub IsFleetOf : Fleet → Room → Type 0

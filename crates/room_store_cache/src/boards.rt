@@ -1,15 +1,20 @@
 //! What waits in a division: its active incidents and its uncleared exceptions.
-ghost use Rattle.std.specs.Prelude.{◌≡◌, ◌≢◌, [], All, AllPairs, IfNone, IfSome, map};
-ghost use Rattle.room_model.specs.Room.{IsInOrder, Room, apply_one};
+ghost use Rattle.std.specs.Prelude.{◌≡◌, ◌≢◌, ℕ, [], All, AllPairs, IfErr, IfNone, IfOk, IfSome, map};
+ghost use Rattle.room_types.specs.declared.asks.Ask.TheVariants.{Queue};
+ghost use Rattle.room_model.specs.Room.{Room};
+ghost use Rattle.room_model.specs.Slices.{room_of};
+ghost use Rattle.room_model.specs.Working.{working};
+ghost use Rattle.room_tables_schema.specs.declared.faults.Fault.TheVariants.{Memory};
 ghost use Rattle.room_store_cache.specs.Boards.{AreBoardsOf, IsBoardOf, is_exception, is_waiting};
 
-use crate::rows::keep_if;
-use crate::views::{View, follow_each};
+use crate::rows::{own_rows, put_if};
+use crate::views::{Entry, View, apply_each};
 use room_place::plans::DivisionNumber;
 use room_tables_schema::faults::Fault;
 use room_types::changes::Change;
 use room_types::codes::Outcome;
 use room_types::rows::Rows;
+use room_types::slices::DivisionRows;
 use room_types::tables::{Incident, Report};
 use std::alloc::Global;
 
@@ -21,7 +26,7 @@ pub struct Board {
     pub exceptions: Rows<Report>,
 }
 
-/// The boards of some divisions, at most one of each.
+/// The boards of some divisions that are known, at most one of each.
 #[derive(Drop)]
 pub struct Boards {
     kept: Vec<Board>,
@@ -29,7 +34,7 @@ pub struct Boards {
 }
 
 impl Boards {
-    /// None is kept yet.
+    /// None is known yet.
     pub fn new(alloc: Global) -> Boards
         ensures { result.kept.items ≡ [] }
     {
@@ -38,14 +43,7 @@ impl Boards {
         }
     }
 
-    /// None is kept any more.
-    pub fn forget(&mut self)
-        ensures { self.new.kept.items ≡ [] }
-    {
-        self.kept.clear();
-    }
-
-    /// The board of a division, if it is kept.
+    /// The board of a division, if it is known.
     pub fn get(&self, division: DivisionNumber) -> Option<&Board>
         ensures so { (room : Room) → AreBoardsOf self.now.kept.items room
             → IfSome result (λ x. (x.now.division ≡ division) × IsBoardOf x.now room) }
@@ -59,8 +57,22 @@ impl Boards {
         None
     }
 
-    /// Keeps the board of a division, where none is kept and memory is not refused.
-    pub fn keep(&mut self, board: Board)
+    /// Keeps what waits in a division, out of the rows that its queue reads, where it isn't known.
+    pub fn fill(&mut self, alloc: Global, division: DivisionNumber, rows: &DivisionRows)
+        ensures { (room : Room) (at : ℕ)
+            → room_of room.plan rows.now ≡ working division Queue at room
+            → AreBoardsOf self.old.kept.items room → AreBoardsOf self.new.kept.items room }
+    {
+        if self.get(division).is_some() {
+            return;
+        }
+        if let Ok(board) = board_of(alloc, division, rows) {
+            self.insert(board);
+        }
+    }
+
+    // Keeps the board of a division, where none is kept and memory is not refused.
+    fn insert(&mut self, board: Board)
         ensures { (room : Room) → AreBoardsOf self.old.kept.items room → IsBoardOf board room
             → AreBoardsOf self.new.kept.items room }
     {
@@ -68,34 +80,53 @@ impl Boards {
             let _ = self.kept.push(board);
         }
     }
+}
 
-    /// What is kept after a change of the room: nothing, where memory is refused.
-    pub fn follow(&mut self, change: &Change)
-        ensures { (room : Room) → IsInOrder room → AreBoardsOf self.old.kept.items room
-            → AreBoardsOf self.new.kept.items (apply_one room change.now) }
-    {
-        follow_each(&mut self.kept, change);
+impl View for Boards {
+    ghost is_so = { λ boards room. AreBoardsOf boards.kept.items room };
+
+    ghost is_empty = { λ boards. boards.kept.items ≡ [] };
+
+    fn apply(&mut self, change: &Change) {
+        apply_each(&mut self.kept, change);
+    }
+
+    fn forget(&mut self) {
+        self.kept.clear();
     }
 }
 
-impl View for Board {
+impl Entry for Board {
     ghost is_so = { IsBoardOf };
 
     ghost division_of = { λ x. x.division };
 
-    fn follow(&mut self, change: &Change) -> Result<(), Fault> {
+    fn apply(&mut self, change: &Change) -> Result<(), Fault> {
         match change {
             Change::PutIncident(incident) => {
                 let is_shown = is_waiting(self.division, incident);
-                keep_if(is_shown, &mut self.incidents, incident)
+                put_if(is_shown, &mut self.incidents, incident)
             }
             Change::PutReport(report) => {
                 let is_shown = is_exception(self.division, report);
-                keep_if(is_shown, &mut self.exceptions, report)
+                put_if(is_shown, &mut self.exceptions, report)
             }
             _ => Ok(()),
         }
     }
+}
+
+// What waits in a division, out of the rows that its queue reads. The one fault is `Memory`.
+fn board_of(alloc: Global, division: DivisionNumber, rows: &DivisionRows) -> Result<Board, Fault>
+    ensures board { IfOk result (λ board. (room : Room) (at : ℕ)
+        → room_of room.plan rows.now ≡ working division Queue at room → IsBoardOf board room) }
+    ensures memory { IfErr result (λ e. e ≡ Memory) }
+{
+    Ok(Board {
+        division,
+        incidents: own_rows(alloc, &rows.incidents, division)?,
+        exceptions: own_rows(alloc, &rows.reports, division)?,
+    })
 }
 
 // Whether an incident is the division's and active.

@@ -6,11 +6,12 @@ use crate::boards::Boards;
 use crate::dossiers::Dossiers;
 use crate::fleets::Fleet;
 use crate::recents::Recents;
+use crate::views::View;
 use room_types::changes::Change;
 use std::alloc::Global;
 
-/// What is known of a room. The tables alone are kept: each of these is read from them where it is
-/// not known.
+/// What is known of a room: a copy, which each commit is applied to. The room is what the tables
+/// stand for, and each part of the copy is filled from them where it is not known.
 #[derive(Drop)]
 pub struct Cache {
     pub fleet: Fleet,
@@ -42,16 +43,17 @@ impl Cache {
         self.recents.forget();
     }
 
-    /// What is known after changes of the room. What memory is refused for is not known any more.
-    pub fn follow(&mut self, changes: &[Change])
+    /// Makes changes of the room that were committed. What memory is refused for is not known any
+    /// more.
+    pub fn apply(&mut self, changes: &[Change])
         ensures { (room : Room) → IsInOrder room → IsCacheOf self.old room
             → IsCacheOf self.new (apply room changes.now) }
     {
         for change in changes {
-            self.fleet.follow(change);
-            self.boards.follow(change);
-            self.dossiers.follow(change);
-            self.recents.follow(change);
+            self.fleet.apply(change);
+            self.boards.apply(change);
+            self.dossiers.apply(change);
+            self.recents.apply(change);
         }
     }
 }

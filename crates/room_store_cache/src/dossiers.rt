@@ -1,20 +1,29 @@
 //! Active incidents that desks named last, each with all its turns.
-ghost use Rattle.std.specs.Prelude.{◌≡◌, ◌≤◌, ◌==◌, ◌&&◌, [], IfSome, vec_len};
-ghost use Rattle.room_model.specs.Room.{IsInOrder, Room, apply_one};
+ghost use Rattle.std.specs.Prelude.{◌≡◌, ◌≤◌, ◌==◌, ◌&&◌, ℕ, [], true, IfErr, IfOk, IfSome, vec_len};
+ghost use Rattle.room_types.specs.declared.asks.Ask.TheVariants.{Queue};
+ghost use Rattle.room_types.specs.declared.asks.Ask.{Ask};
+ghost use Rattle.room_model.specs.Room.{IsInOrder, Room};
+ghost use Rattle.room_model.specs.Slices.{room_of};
+ghost use Rattle.room_model.specs.Working.{reads_number, working};
+ghost use Rattle.room_tables_schema.specs.declared.faults.Fault.TheVariants.{Memory};
 ghost use Rattle.room_store_cache.specs.Dossiers.{AreDossiersOf, IsDossierOf};
 
-use crate::rows::keep_if;
-use crate::views::{View, follow_each};
+use crate::rows::{put, put_if};
+use crate::views::{Entry, View, apply_each};
 use room_place::plans::DivisionNumber;
 use room_tables_schema::faults::Fault;
 use room_types::changes::Change;
 use room_types::numbers::Number;
 use room_types::rows::Rows;
+use room_types::slices::DivisionRows;
 use room_types::tables::{Incident, Turn};
 use std::alloc::Global;
 
 // How many are kept: one more takes the place of the one that was kept first.
 const MOST: usize = 64;
+
+// How many incidents that a queue shows are kept with their turns: where more wait, none is.
+const MOST_SHOWN: usize = 32;
 
 /// What a division has under an incident's number: the incident, if there is one, and its turns.
 #[derive(Drop)]
@@ -25,7 +34,7 @@ pub struct Dossier {
     pub turns: Rows<Turn>,
 }
 
-/// Some dossiers of the room, 64 at most.
+/// Some dossiers of the room that are known, 64 at most.
 #[derive(Drop)]
 pub struct Dossiers {
     // In the order in which they were kept.
@@ -34,7 +43,7 @@ pub struct Dossiers {
 }
 
 impl Dossiers {
-    /// None is kept yet.
+    /// None is known yet.
     pub fn new(alloc: Global) -> Dossiers
         ensures { result.kept.items ≡ [] }
     {
@@ -43,14 +52,7 @@ impl Dossiers {
         }
     }
 
-    /// None is kept any more.
-    pub fn forget(&mut self)
-        ensures { self.new.kept.items ≡ [] }
-    {
-        self.kept.clear();
-    }
-
-    /// The dossier of a division's number, if it is kept.
+    /// The dossier of a division's number, if it is known.
     pub fn get(&self, division: DivisionNumber, number: Number) -> Option<&Dossier>
         ensures { (room : Room) → AreDossiersOf self.now.kept.items room
             → IfSome result (λ x. (x.now.division ≡ division) × (x.now.number ≡ number)
@@ -64,8 +66,44 @@ impl Dossiers {
         None
     }
 
-    /// Keeps a dossier, where memory is not refused.
-    pub fn keep(&mut self, dossier: Dossier)
+    /// Keeps the incidents that a queue shows, with their turns, where they are few.
+    pub fn fill_shown(&mut self, alloc: Global, division: DivisionNumber, rows: &DivisionRows)
+        ensures { (room : Room) (at : ℕ) → IsInOrder room
+            → room_of room.plan rows.now ≡ working division Queue at room
+            → AreDossiersOf self.old.kept.items room → AreDossiersOf self.new.kept.items room }
+    {
+        if rows.incidents.len() > MOST_SHOWN {
+            return;
+        }
+        for incident in rows.incidents.as_slice() {
+            self.fill(alloc, division, incident.number, rows);
+        }
+    }
+
+    /// Keeps what a division has under a number, out of the rows of a request that reads its turns,
+    /// where it isn't known.
+    pub fn fill(
+        &mut self,
+        alloc: Global,
+        division: DivisionNumber,
+        number: Number,
+        rows: &DivisionRows,
+    )
+        ensures { (room : Room) (ask : Ask) (at : ℕ) → IsInOrder room
+            → reads_number division ask room number ≡ true
+            → room_of room.plan rows.now ≡ working division ask at room
+            → AreDossiersOf self.old.kept.items room → AreDossiersOf self.new.kept.items room }
+    {
+        if self.get(division, number).is_some() {
+            return;
+        }
+        if let Ok(dossier) = dossier_of(alloc, division, number, rows) {
+            self.insert(dossier);
+        }
+    }
+
+    // Keeps a dossier, where memory is not refused.
+    fn insert(&mut self, dossier: Dossier)
         ensures { (room : Room) → AreDossiersOf self.old.kept.items room → IsDossierOf dossier room
             → AreDossiersOf self.new.kept.items room }
     {
@@ -75,22 +113,8 @@ impl Dossiers {
         let _ = self.kept.push(dossier);
     }
 
-    /// What is kept after a change of the room: nothing, where memory is refused. An incident that
-    /// is active no more is let go.
-    pub fn follow(&mut self, change: &Change)
-        ensures { (room : Room) → IsInOrder room → AreDossiersOf self.old.kept.items room
-            → AreDossiersOf self.new.kept.items (apply_one room change.now) }
-    {
-        if let Change::PutIncident(incident) = change
-            && !incident.state.is_active()
-        {
-            self.let_go(incident.division, incident.number);
-        }
-        follow_each(&mut self.kept, change);
-    }
-
-    // Lets the dossier of a division's number go.
-    fn let_go(&mut self, division: DivisionNumber, number: Number)
+    // Takes the dossier of a division's number out.
+    fn remove(&mut self, division: DivisionNumber, number: Number)
         ensures { (room : Room) → AreDossiersOf self.old.kept.items room
             → AreDossiersOf self.new.kept.items room }
     {
@@ -103,12 +127,32 @@ impl Dossiers {
     }
 }
 
-impl View for Dossier {
+impl View for Dossiers {
+    ghost is_so = { λ dossiers room. AreDossiersOf dossiers.kept.items room };
+
+    ghost is_empty = { λ dossiers. dossiers.kept.items ≡ [] };
+
+    // An incident that is active no more is taken out.
+    fn apply(&mut self, change: &Change) {
+        if let Change::PutIncident(incident) = change
+            && !incident.state.is_active()
+        {
+            self.remove(incident.division, incident.number);
+        }
+        apply_each(&mut self.kept, change);
+    }
+
+    fn forget(&mut self) {
+        self.kept.clear();
+    }
+}
+
+impl Entry for Dossier {
     ghost is_so = { IsDossierOf };
 
     ghost division_of = { λ x. x.division };
 
-    fn follow(&mut self, change: &Change) -> Result<(), Fault> {
+    fn apply(&mut self, change: &Change) -> Result<(), Fault> {
         match change {
             Change::PutIncident(incident) => {
                 if self.is_of(incident.division, incident.number) {
@@ -118,7 +162,7 @@ impl View for Dossier {
             }
             Change::PutTurn(turn) => {
                 let is_own = self.is_of(turn.division, turn.incident);
-                keep_if(is_own, &mut self.turns, turn)
+                put_if(is_own, &mut self.turns, turn)
             }
             _ => Ok(()),
         }
@@ -132,4 +176,30 @@ impl Dossier {
     {
         self.division == division && self.number == number
     }
+}
+
+// What rows have under an incident's number whose turns are read. The one fault is `Memory`.
+fn dossier_of(
+    alloc: Global,
+    division: DivisionNumber,
+    number: Number,
+    rows: &DivisionRows,
+) -> Result<Dossier, Fault>
+    ensures dossier { IfOk result (λ dossier. (room : Room) (ask : Ask) (at : ℕ)
+        → IsInOrder room → reads_number division ask room number ≡ true
+        → room_of room.plan rows.now ≡ working division ask at room → IsDossierOf dossier room) }
+    ensures memory { IfErr result (λ e. e ≡ Memory) }
+{
+    let mut turns = Rows::new(alloc);
+    for turn in rows.turns.as_slice() {
+        if turn.incident == number {
+            put(&mut turns, turn)?;
+        }
+    }
+    Ok(Dossier {
+        division,
+        number,
+        incident: rows.incidents.get(&(division, number)).copied(),
+        turns,
+    })
 }

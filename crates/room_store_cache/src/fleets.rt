@@ -1,4 +1,4 @@
-//! The rows of the tables that don't grow with time, and the open turns that were met.
+//! The rows of the tables that don't grow with time, and open turns of the fleet's vehicles.
 ghost use Rattle.std.specs.Prelude.{◌≡◌, Some, false, IfErr, IsTrue, OnOk};
 ghost use Rattle.sqlite.specs.Held.{state};
 ghost use Rattle.sqlite.specs.State.{HasCleanDisk};
@@ -8,11 +8,13 @@ ghost use Rattle.room_tables_schema.specs.declared.faults.Fault.TheVariants.{Mem
 ghost use Rattle.room_tables_sql.specs.Outcomes.{ReadsOnly};
 ghost use Rattle.room_types_keyed.specs.Keyed.{row_at};
 ghost use Rattle.room_types.specs.Keys.{callsign_cmp, numbered_cmp, turn_key, vehicle_key};
-ghost use Rattle.room_types.specs.declared.changes.Change.TheVariants.{PutTurn};
-ghost use Rattle.room_model.specs.Room.{IsInOrder, Room, apply_one, settled};
-ghost use Rattle.room_store_cache.specs.Cache.{AreRowsOf, AreTurnsOf, HasFleetOf, IsFleetOf};
+ghost use Rattle.room_model.specs.Room.{Room, apply_one, settled};
+ghost use Rattle.room_store_cache.specs.Cache.{AreRowsOf, HasFleetOf, IsFleetOf};
+ghost use Rattle.room_store_cache.specs.Turns.{AreTurnsOf};
 
 use crate::rows::put;
+use crate::turns::Turns;
+use crate::views::View;
 use room_place::plans::DivisionNumber;
 use room_tables::loading::row_at;
 use room_tables::streaming::each_row;
@@ -22,7 +24,7 @@ use room_types::callsign::Callsign;
 use room_types::changes::Change;
 use room_types::codes::Status;
 use room_types::numbers::Number;
-use room_types::rows::{Row, Rows};
+use room_types::rows::Rows;
 use room_types::tables::{Assignment, Division, Loan, Offer, Point, Turn, Vehicle};
 use sqlite::{Alter, Connection};
 use std::alloc::Global;
@@ -39,13 +41,12 @@ pub struct FleetRows {
     pub offers: Rows<Offer>,
 }
 
-/// All rows of these tables, as the room has them, and open turns of it that were met; or nothing
-/// is known.
+/// All rows of these tables, as the room has them, and open turns of it; or nothing is known.
 #[derive(Drop)]
 pub struct Fleet {
     is_known: bool,
     rows: FleetRows,
-    turns: Rows<Turn>,
+    turns: Turns,
 }
 
 impl Fleet {
@@ -56,26 +57,19 @@ impl Fleet {
         Fleet {
             is_known: false,
             rows: no_rows(alloc),
-            turns: Rows::new(alloc),
+            turns: Turns::new(alloc),
         }
     }
 
-    /// Nothing is known any more.
-    pub fn forget(&mut self)
-        ensures { self.new.is_known ≡ false }
-    {
-        self.is_known = false;
-    }
-
     /// The rows that are known.
-    pub fn rows(&self) -> &FleetRows
+    pub fn get(&self) -> &FleetRows
         ensures { result.now ≡ self.now.rows }
     {
         &self.rows
     }
 
-    /// Reads the tables, where they are not known. A refusal is of memory or of storage.
-    pub fn know<S: Alter>(&mut self, alloc: Global, conn: &mut Connection<S>) -> Result<(), Fault>
+    /// Reads the tables, where nothing is known. A refusal is of memory or of storage.
+    pub fn fill<S: Alter>(&mut self, alloc: Global, conn: &mut Connection<S>) -> Result<(), Fault>
         requires room { HasRoomSchema S.Store conn.old }
         requires open { IsTrue self.old.is_known → HasCleanDisk (state S.Store conn.old)
             → IsTrue (state S.Store conn.old).is_open }
@@ -87,7 +81,7 @@ impl Fleet {
             return Ok(());
         }
         self.rows = read_rows(alloc, conn)?;
-        self.turns = Rows::new(alloc);
+        self.turns = Turns::new(alloc);
         self.is_known = true;
         Ok(())
     }
@@ -102,42 +96,46 @@ impl Fleet {
         requires open { HasCleanDisk (state S.Store conn.old)
             → IsTrue (state S.Store conn.old).is_open }
         ensures turn { Finds S.Store conn.old conn.new result (λ room turn.
-            AreTurnsOf self.old.turns room
+            AreTurnsOf self.old.turns.kept room
             → turn ≡ row_at numbered_cmp turn_key room.turns key.now) }
         ensures known { Finds S.Store conn.old conn.new result (λ room _.
-            AreTurnsOf self.old.turns room → AreTurnsOf self.new.turns room) }
+            AreTurnsOf self.old.turns.kept room → AreTurnsOf self.new.turns.kept room) }
         ensures rows { self.new.rows ≡ self.old.rows }
         ensures is_known { self.new.is_known ≡ self.old.is_known }
         ensures reads { ReadsOnly S.Store conn.old conn.new result }
     {
         if let Some(turn) = self.turns.get(key) {
-            return Ok(Some(*turn));
+            return Ok(Some(turn));
         }
         let Some(turn) = row_at::<Turn, S>(conn, key)? else {
             return Ok(None);
         };
-        meet(&mut self.turns, &turn);
+        self.turns.fill(&turn);
         Ok(Some(turn))
     }
+}
 
-    /// What is known after a change of the room: nothing, where memory is refused.
-    pub fn follow(&mut self, change: &Change)
-        ensures { (room : Room) → IsInOrder room → IsFleetOf self.old room
-            → IsFleetOf self.new (apply_one room change.now) }
-    {
+impl View for Fleet {
+    ghost is_so = { IsFleetOf };
+
+    ghost is_empty = { λ fleet. fleet.is_known ≡ false };
+
+    fn apply(&mut self, change: &Change) {
         if !self.is_known {
             return;
         }
-        if let Change::PutTurn(turn) = change {
-            meet(&mut self.turns, turn);
-        }
-        self.is_known = self.rows.follow(change).is_ok();
+        self.turns.apply(change);
+        self.is_known = self.rows.apply(change).is_ok();
+    }
+
+    fn forget(&mut self) {
+        self.is_known = false;
     }
 }
 
 impl FleetRows {
     /// Makes a change, where it is of one of these tables. The one fault is `Memory`.
-    fn follow(&mut self, change: &Change) -> Result<(), Fault>
+    fn apply(&mut self, change: &Change) -> Result<(), Fault>
         ensures rows { OnOk result ((room : Room) → AreRowsOf self.old room
             → AreRowsOf self.new (apply_one room change.now)) }
         ensures memory { IfErr result (λ e. e ≡ Memory) }
@@ -227,20 +225,4 @@ fn settle(
         ..*vehicle
     };
     put(vehicles, &settled)
-}
-
-// Keeps a turn in its key's place. One that has ended is not kept, nor one for which memory is
-// refused, nor the one that was there before.
-fn meet(turns: &mut Rows<Turn>, turn: &Turn)
-    ensures read { (room : Room) → AreTurnsOf turns.old room
-        → row_at numbered_cmp turn_key room.turns (turn_key turn.now) ≡ Some turn.now
-        → AreTurnsOf turns.new room }
-    ensures made { (room : Room) → AreTurnsOf turns.old room
-        → AreTurnsOf turns.new (apply_one room (PutTurn turn.now)) }
-{
-    // It tells that the turns are in order, so that no other has the key of one that is taken out.
-    let _in_order = turns.as_slice();
-    if turn.ended.is_some() || turns.put(*turn).is_err() {
-        let _ = turns.take(&turn.key());
-    }
 }

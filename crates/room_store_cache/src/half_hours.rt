@@ -3,7 +3,7 @@ ghost use Rattle.std.specs.Prelude.{◌≡◌, ◌+◌, ◌≤◌, All, IfSome, 
 ghost use Rattle.room_types.specs.Keys.{incident_key, pair_cmp};
 ghost use Rattle.room_types_keyed.specs.Keyed.{drop_row, put_row};
 
-use crate::rows::keep_if;
+use crate::rows::put_if;
 use room_types::rows::Rows;
 use room_types::tables::Incident;
 
@@ -48,7 +48,7 @@ impl HalfHour {
         if is_since && !is_in(from, incident) {
             return None;
         }
-        match keep_if(is_since, &mut incidents, incident) {
+        match put_if(is_since, &mut incidents, incident) {
             Ok(()) => Some(HalfHour { from, incidents }),
             Err(_) => None,
         }

@@ -1,6 +1,6 @@
-//! Rows that are known beside the tables: what stands of the fleet, its open turns that were met,
-//! what waits in a division, the incidents that desks named last with their turns, and those that
-//! were opened last.
+//! What is known of a room beside its tables: what stands of the fleet with open turns, what waits
+//! in a division, the incidents that desks named last with their turns, those that were opened
+//! last, and terminals.
 #![tactic(auto)]
 
 pub mod boards;
@@ -10,4 +10,6 @@ pub mod fleets;
 pub mod half_hours;
 pub mod recents;
 pub mod rows;
+pub mod terminals;
+pub mod turns;
 pub mod views;

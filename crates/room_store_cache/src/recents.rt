@@ -1,5 +1,5 @@
 //! The incidents opened from a moment on, and those of them that a call may be linked to.
-ghost use Rattle.std.specs.Prelude.{◌≡◌, ◌+◌, ◌≤◌, ◌==◌, ◌&&◌, None, filter, IsTrue, IfErr, IfOk, IfSome, OnOk};
+ghost use Rattle.std.specs.Prelude.{◌≡◌, ◌+◌, ◌-◌, ◌≤◌, ◌==◌, ◌&&◌, None, filter, IsTrue, IfErr, IfOk, IfSome, OnOk};
 ghost use Rattle.sqlite.specs.Held.{state};
 ghost use Rattle.sqlite.specs.State.{HasCleanDisk};
 ghost use Rattle.room_tables.specs.Finding.{Finds};
@@ -7,28 +7,24 @@ ghost use Rattle.room_tables_schema.specs.Connections.{HasRoomSchema};
 ghost use Rattle.room_tables_schema.specs.declared.faults.Fault.TheVariants.{Memory};
 ghost use Rattle.room_tables_sql.specs.Outcomes.{ReadsOnly};
 ghost use Rattle.room_types.specs.declared.asks.Ask.TheVariants.{Call};
-ghost use Rattle.room_model.specs.Room.{IsInOrder, Room, apply_one};
+ghost use Rattle.room_model.specs.Room.{Room};
 ghost use Rattle.room_model.specs.Working.{names_opening};
-ghost use Rattle.room_store_cache.specs.Recent.{AreRecent};
+ghost use Rattle.room_store_cache.specs.Recent.{AreRecent, opened_since};
 
 use crate::half_hours::HalfHour;
 use crate::rows::put;
+use crate::views::View;
 use room_place::plans::DivisionNumber;
 use room_tables::incidents::incidents_since;
 use room_tables_schema::faults::Fault;
 use room_types::asks::CallForm;
 use room_types::changes::Change;
+use room_types::links::{LINK_METRES, LINK_SECONDS};
 use room_types::numbers::Moment;
 use room_types::rows::Rows;
 use room_types::tables::Incident;
 use sqlite::{Alter, Connection};
 use std::alloc::Global;
-
-// How many seconds before its moment an incident may have been opened that a call is linked to.
-const LINKED_WITHIN: u32 = 900;
-
-// How many metres from its place, in each direction, an incident may lie that a call is linked to.
-const LINKED_AROUND: u32 = 200;
 
 // How many seconds more are kept than a call looks back: after these they are read anew, without
 // the oldest.
@@ -49,11 +45,29 @@ impl Recents {
         Recents { known: None }
     }
 
-    /// Nothing is known any more.
-    pub fn forget(&mut self)
-        ensures { self.new.known ≡ None }
+    /// The half hour that is known, where it has all that a call at this moment may be linked to,
+    /// and is not to be read anew.
+    pub fn get(&self, at: Moment) -> Option<&HalfHour>
+        ensures so { (room : Room) → AreRecent self.now room
+            → IfSome result (λ x. x.now.incidents ≡ filter (opened_since x.now.from)
+            room.incidents) }
+        ensures reach { IfSome result (λ x. x.now.from ≤ at - 900) }
+        ensures last { IfSome result (λ _. IfSome self.now.known (λ x. at ≤ x.from + 1800)) }
     {
-        self.known = None;
+        let from = first_linked(at);
+        match &self.known {
+            Some(known) if known.from <= from && from - known.from <= KEPT_LONGER => Some(known),
+            _ => None,
+        }
+    }
+
+    /// Keeps the incidents that were opened from a second on, where they are of one half hour.
+    pub fn fill(&mut self, from: u32, incidents: Rows<Incident>)
+        ensures so { (room : Room) → incidents ≡ filter (opened_since from) room.incidents
+            → AreRecent self.new room }
+        ensures from { IfSome self.new.known (λ x. x.from ≡ from) }
+    {
+        self.known = HalfHour::new(from, incidents);
     }
 
     /// The incidents of a division that a call may be linked to. Where not all of them are known,
@@ -78,31 +92,41 @@ impl Recents {
         ensures last { OnOk result (IfSome self.new.known (λ x. at ≤ x.from + 1800)) }
         ensures reads { ReadsOnly S.Store conn.old conn.new result }
     {
-        let from = at.get().saturating_sub(LINKED_WITHIN);
-        if let Some(known) = &self.known
-            && known.from <= from
-            && from - known.from <= KEPT_LONGER
-        {
+        if let Some(known) = self.get(at) {
             return around(alloc, &known.incidents, division, form, at);
         }
+        let from = first_linked(at);
         let since = incidents_since(alloc, conn, i64::from(from))?;
         let near = around(alloc, &since, division, form, at);
-        self.known = HalfHour::new(from, since);
+        self.fill(from, since);
         near
     }
+}
 
-    /// What is known after a change of the room: nothing, where memory is refused, or where an
-    /// incident was opened after the half hour.
-    pub fn follow(&mut self, change: &Change)
-        ensures { (room : Room) → IsInOrder room → AreRecent self.old room
-            → AreRecent self.new (apply_one room change.now) }
-    {
+impl View for Recents {
+    ghost is_so = { AreRecent };
+
+    ghost is_empty = { λ recents. recents.known ≡ None };
+
+    // Nothing is known either where an incident was opened after the half hour.
+    fn apply(&mut self, change: &Change) {
         if let Change::PutIncident(incident) = change
             && let Some(known) = self.known.take()
         {
             self.known = known.with(incident);
         }
     }
+
+    fn forget(&mut self) {
+        self.known = None;
+    }
+}
+
+// The first second in which an incident may have been opened that a call at a moment is linked to.
+fn first_linked(at: Moment) -> u32
+    ensures { result ≡ at - 900 }
+{
+    at.get().saturating_sub(LINK_SECONDS)
 }
 
 // Those of a division that a call may be linked to. The one fault is `Memory`.
@@ -133,7 +157,7 @@ fn may_link(incident: &Incident, division: DivisionNumber, form: &CallForm, at: 
         && names_opening (Call form.now) at incident.now }
 {
     incident.division == division
-        && at.get().saturating_sub(incident.opened.get()) <= LINKED_WITHIN
-        && incident.place.east.get().abs_diff(form.place.east.get()) <= LINKED_AROUND
-        && incident.place.north.get().abs_diff(form.place.north.get()) <= LINKED_AROUND
+        && at.get().saturating_sub(incident.opened.get()) <= LINK_SECONDS
+        && incident.place.east.get().abs_diff(form.place.east.get()) <= LINK_METRES
+        && incident.place.north.get().abs_diff(form.place.north.get()) <= LINK_METRES
 }

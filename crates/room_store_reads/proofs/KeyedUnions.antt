@@ -1,16 +1,15 @@
 -- Rows in key order, put among others of the same table.
-use Rattle.std.proofs.Common.{Bool, List, Option, Some, [], ap, cond, false, get_or, length, refl, subst, sym, take, true, ℕ, ◌&&◌, ◌+◌, ◌<◌, ◌∙◌, ◌∷◌, ◌≡◌, ◌||◌}
+use Rattle.std.proofs.Common.{Bool, List, Option, Some, [], ap, cond, false, refl, sym, true, ◌&&◌, ◌∙◌, ◌∷◌, ◌≡◌, ◌||◌}
 use Rattle.std.proofs.lemmas.Cmp.{tied_itself}
 use Rattle.std.specs.Cmp.{IsTotalOrder}
 use Rattle.std.specs.Ordering.{is_eq, ordering_reverse}
 use Rattle.std.specs.Prelude.{filter}
 use Rattle.std.specs.declared.cmp.Ordering.{Ordering}
 use Rattle.std.specs.declared.cmp.Ordering.TheVariants.{Equal, Greater, Less}
-use Rattle.room_types_keyed.proofs.KeyedLaws.{below_filter, keyed_filter, keyed_taken, put_below, row_filter, with_passing}
-use Rattle.room_tables.proofs.Streams.{put_end}
+use Rattle.room_types_keyed.proofs.KeyedLaws.{below_filter, keyed_filter, put_below, row_filter}
 use Rattle.room_types_keyed.specs.Keyed.{IsBelowAll, IsKeyed, keep, put_row, row_at}
-use Rattle.room_store_reads.specs.Reading.{listed}
-use Rattle.room_store_reads.proofs.RoomReads.{filter_and}
+use Rattle.room_store_reads.specs.Extents.{listed}
+use Rattle.room_store_cache.proofs.Filters.{filter_and}
 
 -- each row put in its place
 abbrev pub put_all : {R K : Type 0} → (K → K → Ordering) → (R → K) → List R → List R → List R
@@ -73,12 +72,3 @@ module _ {R K : Type 0} (cmp : K → K → Ordering) (key : R → K) (total : Is
       ap listed (ap (keep p) e ∙ sym (row_filter cmp key total p table k h))
       ∙ sym (at_key (filter p table) k (keyed_filter cmp key total p table h))
       ∙ sym (filter_and p (λ x. is_eq (cmp k (key x))) table)
-
-  -- one row more that passes, put among those before it
-  pub put_passing : (p : R → Bool) (table rows : List R) (i : ℕ) (x : R)
-      → IsKeyed cmp key table → i < length table → x ≡ get_or table i x
-      → rows ≡ filter p (take i table) → p x ≡ true
-      → put_row cmp key rows x ≡ filter p (take (i + 1) table)
-  put_passing p table rows i x keyed inside here so_far passes =
-      let more = with_passing p table rows i x inside here so_far passes in
-      put_end cmp key total rows x (subst (IsKeyed cmp key) (sym more) (keyed_taken cmp key total p table (i + 1) keyed)) ∙ more

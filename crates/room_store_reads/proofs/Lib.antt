@@ -1,7 +1,3 @@
 pub mod KeyedUnions
-pub mod RoomReads
-pub mod ReportTests
-pub mod ReadNumbers
-pub mod OneIncident
+pub mod Selected
 pub mod CrewReads
-pub mod QueueReads

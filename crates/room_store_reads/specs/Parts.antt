@@ -1,27 +1,36 @@
 -- Parts of a division's working rows, as they stand in the room.
-use Rattle.std.specs.Prelude.{List, filter, ℕ, ◌&&◌, ◌==◌, ◌≡◌}
+use Rattle.std.specs.Ordering.{is_eq}
+use Rattle.std.specs.Prelude.{Bool, List, None, Option, Some, [], false, ℕ, ◌||◌, ◌∷◌, ◌≡◌}
 use Rattle.room_types.specs.declared.asks.Ask.{Ask}
-use Rattle.room_types.specs.declared.tables.Incident.{Incident}
+use Rattle.room_types.specs.Keys.{numbered_cmp, turn_key}
+use Rattle.room_types.specs.Texts.{Callsign}
+use Rattle.room_types.specs.declared.tables.Turn.{Turn}
 use Rattle.room_model.specs.Room.{Room}
 use Rattle.room_model.specs.Working.{working}
 use Rattle.room_store_cache.specs.Boards.{AreBoardsOf}
 use Rattle.room_store_cache.specs.Cache.{AreRowsOf}
 use Rattle.room_store_cache.specs.Dossiers.{AreDossiersOf}
+use Rattle.room_store_cache.specs.Recent.{AreRecent}
 use Rattle.room_store_cache.specs.declared.cache.Cache.{Cache}
 use Rattle.room_store_cache.specs.declared.fleets.FleetRows.{FleetRows}
-use Rattle.room_store_reads.specs.Reading.{is_near}
 use Rattle.room_store_reads.specs.declared.working.Work.{Work}
 
--- what is known of the fleet, of what waits and of incidents is so in the room
+-- the fleet is known, and what else is known is so in the room
 pub record AreKnown (known : Cache) (room : Room) : Type 0 where
   pub rows : AreRowsOf known.fleet.rows room
   pub boards : AreBoardsOf known.boards.kept.items room
   pub dossiers : AreDossiersOf known.dossiers.kept.items room
+  pub recents : AreRecent known.recents room
 
--- the division's incidents that a call may be linked to, and none for another request
-abbrev pub AreNear : ℕ → Ask → ℕ → Room → List Incident → Type 0
-AreNear d a at room near =
-    near ≡ filter (λ i. i.division == d && is_near a at i) room.incidents
+-- some part has it
+abbrev pub any : {K : Type 0} → (K → Bool) → List K → Bool
+any p [] = false
+any p (k ∷ ks) = p k || any p ks
+
+-- the turn of the key, if there is one
+abbrev pub is_turn : Option (Callsign × ℕ) → Turn → Bool
+is_turn None t = false
+is_turn (Some k) t = is_eq (numbered_cmp k (turn_key t))
 
 -- what a request reads of the fleet's rows, at whatever moment
 pub record IsHeld (d : ℕ) (a : Ask) (room : Room) (x : FleetRows) : Type 0 where

@@ -9,7 +9,8 @@ ghost use Rattle.room_types_keyed.specs.Keyed.{keep, row_at};
 ghost use Rattle.room_model.specs.Slices.{AreCrewRows};
 ghost use Rattle.room_model.specs.WellFormed.{IsWellFormed};
 ghost use Rattle.room_types.specs.Keys.{numbered_cmp, report_key};
-ghost use Rattle.room_store_cache.specs.Cache.{AreTurnsOf, HasFleetOf};
+ghost use Rattle.room_store_cache.specs.Cache.{HasFleetOf};
+ghost use Rattle.room_store_cache.specs.Turns.{AreTurnsOf};
 ghost use Rattle.room_store_reads.specs.CrewParts.{HasVehicle, last_open_turn};
 
 use room_store_cache::fleets::Fleet;
@@ -37,7 +38,7 @@ pub fn load_crew<S: Alter>(
     ensures reads { ReadsOnly S.Store conn.old conn.new result }
 {
     let turn = load_turn(conn, fleet, vehicle)?;
-    let loan = fleet.rows().loans.get(&vehicle.callsign).copied();
+    let loan = fleet.get().loans.get(&vehicle.callsign).copied();
     Ok(CrewRows {
         vehicle: *vehicle,
         turn,
@@ -75,10 +76,10 @@ fn load_turn<S: Alter>(
     requires open { HasCleanDisk (state S.Store conn.old)
         → IsTrue (state S.Store conn.old).is_open }
     ensures row { Finds S.Store conn.old conn.new result (λ room x. IsWellFormed room
-        → AreTurnsOf fleet.old.turns room → HasVehicle vehicle.now room
+        → AreTurnsOf fleet.old.turns.kept room → HasVehicle vehicle.now room
         → last_open_turn vehicle.now room ≡ x) }
     ensures known { Finds S.Store conn.old conn.new result (λ room _.
-        AreTurnsOf fleet.old.turns room → AreTurnsOf fleet.new.turns room) }
+        AreTurnsOf fleet.old.turns.kept room → AreTurnsOf fleet.new.turns.kept room) }
     ensures rows { fleet.new.rows ≡ fleet.old.rows }
     ensures reads { ReadsOnly S.Store conn.old conn.new result }
 {

@@ -10,6 +10,7 @@ ghost use Rattle.room_store_reads.specs.Extents.{reaches};
 
 use crate::unions::listed;
 use room_place::plans::DivisionNumber;
+use room_store_cache::rows::own_rows;
 use room_tables::loading::row_at;
 use room_tables::tables::Table;
 use room_tables_schema::faults::Fault;
@@ -42,21 +43,6 @@ pub fn part_of<R: Row>(
         Extent::Nothing => Ok(Rows::new(alloc)),
         Extent::One(key) => listed(alloc, owned_row(rows.get(key).copied(), division)),
         Extent::Everything => own_rows(alloc, rows, division),
-    }
-}
-
-/// The rows that a division owns. The one fault is `Memory`.
-pub fn own_rows<R: Row>(
-    alloc: Global,
-    rows: &Rows<R>,
-    division: DivisionNumber,
-) -> Result<Rows<R>, Fault>
-    ensures rows { IfOk result (λ x. x ≡ filter (R.owned division) rows.now) }
-    ensures memory { IfErr result (λ e. e ≡ Memory) }
-{
-    match rows.owned_by(alloc, division) {
-        Ok(own) => Ok(own),
-        Err(_) => Err(Fault::Memory),
     }
 }
 

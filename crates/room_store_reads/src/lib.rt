@@ -3,8 +3,8 @@
 
 pub mod crews;
 mod extents;
-pub mod learning;
-mod naming;
+mod incidents;
 mod parts;
+mod reads;
 mod unions;
 pub mod working;

@@ -1,5 +1,5 @@
-//! Parts of a division's rows that are known, or that an index or a key finds, and the load of all
-//! that are in some.
+//! Parts of a division's calls, turns and reports that are known or that an index finds, and the
+//! load of all that are in some.
 ghost use Rattle.std.specs.Prelude.{◌≡◌, ◌==◌, ◌&&◌, ℕ, Bool, filter, not, IsTrue};
 ghost use Rattle.sqlite.specs.Held.{state};
 ghost use Rattle.sqlite.specs.State.{HasCleanDisk};
@@ -8,16 +8,13 @@ ghost use Rattle.room_types_keyed.specs.Keyed.{IsKeyed};
 ghost use Rattle.room_tables.specs.Finding.{Finds};
 ghost use Rattle.room_tables_schema.specs.Connections.{HasRoomSchema};
 ghost use Rattle.room_tables_sql.specs.Outcomes.{ReadsOnly};
-ghost use Rattle.room_store_reads.specs.Parts.{AreKnown};
-ghost use Rattle.room_store_reads.specs.Reading.{any, is_part};
+ghost use Rattle.room_store_reads.specs.Parts.{AreKnown, any};
 
-use crate::extents::{load_one, own_rows};
-use crate::naming::IncidentPart;
-use crate::unions::{add_all, listed};
+use crate::unions::add_all;
 use room_place::plans::DivisionNumber;
 use room_store_cache::cache::Cache;
+use room_store_cache::rows::own_rows;
 use room_tables::calls::calls_of;
-use room_tables::incidents::{active_incidents, incidents_opened};
 use room_tables::reports::uncleared_reports;
 use room_tables::tables::Table;
 use room_tables::turns::turns_of;
@@ -25,7 +22,7 @@ use room_tables_schema::faults::Fault;
 use room_types::codes::Outcome;
 use room_types::numbers::Number;
 use room_types::rows::Rows;
-use room_types::tables::{Call, Incident, Report, Turn};
+use room_types::tables::{Call, Report, Turn};
 use sqlite::{Alter, Connection};
 use std::alloc::Global;
 
@@ -131,33 +128,5 @@ impl Parted for Report {
         part: &Outcome,
     ) -> Result<Rows<Report>, Fault> {
         uncleared_reports(alloc, conn, *part, division)
-    }
-}
-
-// Incidents by their state, by when they were opened, or by their number.
-impl Parted for Incident {
-    type Part = IncidentPart;
-
-    ghost is_in = { λ d p i. i.division == d && is_part p i };
-
-    fn load_part<S: Alter>(
-        alloc: Global,
-        conn: &mut Connection<S>,
-        known: &Cache,
-        division: DivisionNumber,
-        part: &IncidentPart,
-    ) -> Result<Rows<Incident>, Fault> {
-        match part {
-            IncidentPart::Active => match known.boards.get(division) {
-                Some(board) => own_rows(alloc, &board.incidents, division),
-                None => active_incidents(alloc, conn, division),
-            },
-            IncidentPart::Between(from, to) => incidents_opened(alloc, conn, *from, *to, division),
-            IncidentPart::Numbered(number) => match known.dossiers.get(division, *number) {
-                Some(dossier) => listed(alloc, dossier.incident),
-                None => load_one::<Incident, S>(alloc, conn, division, &(division, *number)),
-            },
-            IncidentPart::Nothing => Ok(Rows::new(alloc)),
-        }
     }
 }

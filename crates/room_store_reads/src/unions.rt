@@ -2,7 +2,7 @@
 ghost use Rattle.std.specs.Prelude.{◌≡◌, ◌||◌, Bool, List, filter, OnOk, IfErr, IfOk};
 ghost use Rattle.room_tables_schema.specs.declared.faults.Fault.TheVariants.{Memory};
 ghost use Rattle.room_types_keyed.specs.Keyed.{IsKeyed};
-ghost use Rattle.room_store_reads.specs.Reading.{listed};
+ghost use Rattle.room_store_reads.specs.Extents.{listed};
 
 use room_store_cache::rows::put;
 use room_tables_schema::faults::Fault;

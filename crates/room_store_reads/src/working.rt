@@ -1,65 +1,69 @@
 //! The rows of a division that a request reads: of the fleet those known, others from the tables.
-ghost use Rattle.std.specs.Prelude.{◌≡◌, ◌&&◌, ◌==◌, ◌||◌, ℕ, filter, is_some, IsTrue, IfErr, IfOk, OnOk};
+ghost use Rattle.std.specs.Prelude.{◌≡◌, ◌&&◌, ◌==◌, ℕ, filter, IsTrue, IfErr, IfOk};
 ghost use Rattle.sqlite.specs.Held.{state};
 ghost use Rattle.sqlite.specs.State.{HasCleanDisk};
 ghost use Rattle.room_tables.specs.Finding.{Finds};
 ghost use Rattle.room_tables_sql.specs.Outcomes.{ReadsOnly};
-ghost use Rattle.room_types.specs.Codes.{is_active};
-ghost use Rattle.room_types_keyed.specs.Keyed.{keep};
+ghost use Rattle.room_types.specs.declared.asks.Ask.{Ask as AskModel};
 ghost use Rattle.room_types.specs.declared.tables.Turn.{Turn};
-ghost use Rattle.room_model.specs.Queries.{held, incident_of};
+ghost use Rattle.room_model.specs.Queries.{held};
 ghost use Rattle.room_model.specs.Room.{IsInOrder, Room};
 ghost use Rattle.room_model.specs.Slices.{room_of};
-ghost use Rattle.room_model.specs.Working.{is_last_turn, reads_active, reads_incident, reads_number, reads_report, working};
+ghost use Rattle.room_model.specs.Working.{is_last_turn, reads_number, working};
 ghost use Rattle.room_tables_schema.specs.declared.faults.Fault.TheVariants.{Memory};
 ghost use Rattle.room_tables_schema.specs.Connections.{HasRoomSchema};
+ghost use Rattle.room_store_cache.specs.Boards.{AreBoardsOf};
 ghost use Rattle.room_store_cache.specs.Cache.{AreRowsOf};
-ghost use Rattle.room_store_reads.specs.Parts.{AreKnown, AreNear, IsHeld, IsWork};
-ghost use Rattle.room_store_reads.specs.Reading.{contains, is_number, is_turn};
+ghost use Rattle.room_store_cache.specs.Dossiers.{AreDossiersOf};
+ghost use Rattle.room_store_cache.specs.Numbers.{contains};
+ghost use Rattle.room_store_cache.specs.Recent.{AreRecent};
+ghost use Rattle.room_store_reads.specs.Parts.{AreKnown, IsHeld, IsWork, is_turn};
+ghost use Rattle.room_store_reads.specs.Reading.{Selects, is_report};
 
-use crate::extents::{load_one, own_rows, owned_row, part_of};
-use crate::naming::{
-    assignments_read, calls_read, divisions_read, incidents_read, loans_read, named_incidents,
-    named_report, offers_read, points_read, reads_active, reads_exceptions, stood_down,
-    vehicles_read,
-};
+use crate::extents::{load_one, owned_row, part_of};
+use crate::incidents::{load_incidents, numbers_read};
 use crate::parts::load_parts;
-use crate::unions::add_all;
+use crate::reads::{Incidents, Reads, Reports, reads_of};
 use room_place::plans::DivisionNumber;
 use room_store_cache::cache::Cache;
 use room_store_cache::fleets::FleetRows;
+use room_store_cache::rows::own_rows;
 use room_tables_schema::faults::Fault;
 use room_types::asks::Ask;
 use room_types::callsign::Callsign;
 use room_types::codes::Outcome;
-use room_types::numbers::Number;
+use room_types::numbers::{Moment, Number};
 use room_types::rows::Rows;
 use room_types::slices::DivisionRows;
 use room_types::tables::{Call, Incident, Report, Turn, Vehicle};
 use sqlite::{Alter, Connection};
 use std::alloc::Global;
 
-/// The rows of a division that a request reads: what its desk asks, or a call that is placed in it.
-/// What is known is handed over, and the incidents that a call may be linked to.
+/// The rows of a division that a request at a moment reads: what its desk asks, or a call that is
+/// placed in it. What is known is handed over, and the next request knows what this one read of
+/// incidents.
 pub fn load_working<S: Alter>(
     alloc: Global,
     conn: &mut Connection<S>,
     division: DivisionNumber,
     ask: &Ask,
-    known: &Cache,
-    near: &Rows<Incident>,
+    at: Moment,
+    cache: &mut Cache,
 ) -> Result<DivisionRows, Fault>
     requires room { HasRoomSchema S.Store conn.old }
     requires open { HasCleanDisk (state S.Store conn.old)
         → IsTrue (state S.Store conn.old).is_open }
-    ensures rows { Finds S.Store conn.old conn.new result (λ room x. IsInOrder room → (at : ℕ)
-        → AreKnown known.now room → AreNear division ask.now at room near.now
-        → room_of room.plan x ≡ working division ask.now at room) }
+    ensures rows { Finds S.Store conn.old conn.new result (λ room x. IsInOrder room
+        → AreKnown cache.old room → room_of room.plan x ≡ working division ask.now at room) }
+    ensures known { Finds S.Store conn.old conn.new result (λ room _. IsInOrder room
+        → AreKnown cache.old room → AreKnown cache.new room) }
+    ensures fleet { cache.new.fleet ≡ cache.old.fleet }
     ensures reads { ReadsOnly S.Store conn.old conn.new result }
 {
-    let held = held_part(alloc, division, ask, known.fleet.rows())?;
-    let work = load_work(alloc, conn, division, ask, known, near)?;
-    Ok(DivisionRows {
+    let reads = reads_of(division, ask);
+    let held = held_part(alloc, division, &reads, cache.fleet.get())?;
+    let work = load_work(alloc, conn, division, &reads, at, cache)?;
+    let rows = DivisionRows {
         divisions: held.divisions,
         incidents: work.incidents,
         calls: work.calls,
@@ -70,7 +74,39 @@ pub fn load_working<S: Alter>(
         loans: held.loans,
         offers: held.offers,
         reports: work.reports,
-    })
+    };
+    fill(alloc, cache, division, &reads, &rows);
+    Ok(rows)
+}
+
+// Keeps what a queue shows, or the one incident that was named, where it isn't known.
+fn fill(
+    alloc: Global,
+    cache: &mut Cache,
+    division: DivisionNumber,
+    reads: &Reads,
+    rows: &DivisionRows,
+)
+    ensures boards { (room : Room) (ask : AskModel) (at : ℕ) → Selects division ask reads.now
+        → room_of room.plan rows.now ≡ working division ask at room
+        → AreBoardsOf cache.old.boards.kept.items room
+        → AreBoardsOf cache.new.boards.kept.items room }
+    ensures dossiers { (room : Room) (ask : AskModel) (at : ℕ) → IsInOrder room
+        → Selects division ask reads.now
+        → room_of room.plan rows.now ≡ working division ask at room
+        → AreDossiersOf cache.old.dossiers.kept.items room
+        → AreDossiersOf cache.new.dossiers.kept.items room }
+    ensures fleet { cache.new.fleet ≡ cache.old.fleet }
+    ensures recents { cache.new.recents ≡ cache.old.recents }
+{
+    if let Reports::Uncleared = reads.reports {
+        cache.boards.fill(alloc, division, rows);
+        cache.dossiers.fill_shown(alloc, division, rows);
+        return;
+    }
+    if let Incidents::One(number) = reads.incidents {
+        cache.dossiers.fill(alloc, division, number, rows);
+    }
 }
 
 // What a request reads of the fleet's rows: the division's own, vehicles that it holds and its
@@ -78,58 +114,22 @@ pub fn load_working<S: Alter>(
 fn held_part(
     alloc: Global,
     division: DivisionNumber,
-    ask: &Ask,
+    reads: &Reads,
     fleet: &FleetRows,
 ) -> Result<FleetRows, Fault>
-    ensures rows { IfOk result (λ x. (room : Room) → IsInOrder room → AreRowsOf fleet.now room
-        → IsHeld division ask.now room x) }
+    ensures rows { IfOk result (λ x. (room : Room) (ask : AskModel) → IsInOrder room
+        → AreRowsOf fleet.now room → Selects division ask reads.now → IsHeld division ask room x) }
     ensures memory { IfErr result (λ e. e ≡ Memory) }
 {
     Ok(FleetRows {
-        divisions: part_of(alloc, &fleet.divisions, division, &divisions_read(ask))?,
-        vehicles: part_of(alloc, &fleet.vehicles, division, &vehicles_read(ask))?,
-        assignments: part_of(alloc, &fleet.assignments, division, &assignments_read(ask))?,
-        points: part_of(alloc, &fleet.points, division, &points_read(ask, division))?,
-        loans: part_of(alloc, &fleet.loans, division, &loans_read(ask))?,
-        offers: part_of(alloc, &fleet.offers, division, &offers_read(ask))?,
+        divisions: part_of(alloc, &fleet.divisions, division, &reads.divisions)?,
+        vehicles: part_of(alloc, &fleet.vehicles, division, &reads.vehicles)?,
+        assignments: part_of(alloc, &fleet.assignments, division, &reads.assignments)?,
+        points: part_of(alloc, &fleet.points, division, &reads.points)?,
+        loans: part_of(alloc, &fleet.loans, division, &reads.loans)?,
+        offers: part_of(alloc, &fleet.offers, division, &reads.offers)?,
     })
 }
-
-// The reports that wait to be cleared, or the one that the request names.
-fn load_reports<S: Alter>(
-    alloc: Global,
-    conn: &mut Connection<S>,
-    known: &Cache,
-    division: DivisionNumber,
-    ask: &Ask,
-) -> Result<Rows<Report>, Fault>
-    requires room { HasRoomSchema S.Store conn.old }
-    requires open { HasCleanDisk (state S.Store conn.old)
-        → IsTrue (state S.Store conn.old).is_open }
-    ensures rows { Finds S.Store conn.old conn.new result (λ room x. IsInOrder room
-        → AreKnown known.now room
-        → x ≡ filter (λ y. y.division == division && reads_report ask.now y) room.reports) }
-    ensures reads { ReadsOnly S.Store conn.old conn.new result }
-{
-    if reads_exceptions(ask) {
-        return match known.boards.get(division) {
-            Some(board) => own_rows(alloc, &board.exceptions, division),
-            None => load_parts::<Report, S>(alloc, conn, known, division, &EXCEPTIONS),
-        };
-    }
-    match named_report(ask) {
-        Some(named) => load_one::<Report, S>(alloc, conn, division, &named),
-        None => Ok(Rows::new(alloc)),
-    }
-}
-
-// The outcomes of the reports that wait to be cleared.
-const EXCEPTIONS: [Outcome; 4] = [
-    Outcome::Skipped,
-    Outcome::Wrong,
-    Outcome::Late,
-    Outcome::Stale,
-];
 
 // The incidents that a request reads, with their calls and turns, and reports.
 #[derive(Drop)]
@@ -144,24 +144,27 @@ fn load_work<S: Alter>(
     alloc: Global,
     conn: &mut Connection<S>,
     division: DivisionNumber,
-    ask: &Ask,
-    known: &Cache,
-    near: &Rows<Incident>,
+    reads: &Reads,
+    at: Moment,
+    cache: &mut Cache,
 ) -> Result<Work, Fault>
     requires room { HasRoomSchema S.Store conn.old }
     requires open { HasCleanDisk (state S.Store conn.old)
         → IsTrue (state S.Store conn.old).is_open }
-    ensures rows { Finds S.Store conn.old conn.new result (λ room x. IsInOrder room → (at : ℕ)
-        → AreKnown known.now room
-        → AreNear division ask.now at room near.now → IsWork division ask.now at room x) }
+    ensures rows { Finds S.Store conn.old conn.new result (λ room x. (ask : AskModel)
+        → IsInOrder room → AreKnown cache.old room → Selects division ask reads.now
+        → IsWork division ask at room x) }
+    ensures recents { Finds S.Store conn.old conn.new result (λ room _.
+        AreRecent cache.old.recents room → AreRecent cache.new.recents room) }
+    ensures others { cache.new ≡ record cache.old { recents = cache.new.recents } }
     ensures reads { ReadsOnly S.Store conn.old conn.new result }
 {
-    let incidents = load_incidents(alloc, conn, division, ask, known, near)?;
-    let numbers = numbers_read(alloc, ask, &incidents)?;
-    let of_calls = calls_read(ask, numbers.as_slice());
-    let calls = load_parts::<Call, S>(alloc, conn, known, division, of_calls)?;
-    let turns = load_turns(alloc, conn, division, ask, known, numbers.as_slice())?;
-    let reports = load_reports(alloc, conn, known, division, ask)?;
+    let incidents = load_incidents(alloc, conn, division, &reads.incidents, at, cache)?;
+    let numbers = numbers_read(alloc, &reads.incidents, &incidents)?;
+    let of_calls = numbers_if(reads.calls, numbers.as_slice());
+    let calls = load_parts::<Call, S>(alloc, conn, cache, division, of_calls)?;
+    let turns = load_turns(alloc, conn, division, reads, cache, numbers.as_slice())?;
+    let reports = load_reports(alloc, conn, division, &reads.reports, cache)?;
     Ok(Work {
         incidents,
         calls,
@@ -170,101 +173,67 @@ fn load_work<S: Alter>(
     })
 }
 
-fn load_incidents<S: Alter>(
+// All of some numbers, or none.
+fn numbers_if(is_read: bool, numbers: &[Number]) -> &[Number]
+    ensures { (n : ℕ) → contains n result.now ≡ is_read && contains n numbers.now }
+{
+    if is_read { numbers } else { &[] }
+}
+
+// The reports that wait to be cleared, or the one that is named.
+fn load_reports<S: Alter>(
     alloc: Global,
     conn: &mut Connection<S>,
     division: DivisionNumber,
-    ask: &Ask,
+    reports: &Reports,
     known: &Cache,
-    near: &Rows<Incident>,
-) -> Result<Rows<Incident>, Fault>
+) -> Result<Rows<Report>, Fault>
     requires room { HasRoomSchema S.Store conn.old }
     requires open { HasCleanDisk (state S.Store conn.old)
         → IsTrue (state S.Store conn.old).is_open }
-    ensures rows { Finds S.Store conn.old conn.new result (λ room x. IsInOrder room → (at : ℕ)
-        → AreKnown known.now room → AreNear division ask.now at room near.now
-        → x ≡ (working division ask.now at room).incidents) }
+    ensures rows { Finds S.Store conn.old conn.new result (λ room x. IsInOrder room
+        → AreKnown known.now room
+        → x ≡ filter (λ y. y.division == division && is_report reports.now y) room.reports) }
     ensures reads { ReadsOnly S.Store conn.old conn.new result }
 {
-    let mut incidents = load_parts::<Incident, S>(
-        alloc,
-        conn,
-        known,
-        division,
-        &incidents_read(ask),
-    )?;
-    add_all(&mut incidents, near)?;
-    Ok(incidents)
-}
-
-// The numbers of the incidents whose turns a request reads.
-fn numbers_read(alloc: Global, ask: &Ask, incidents: &Rows<Incident>) -> Result<Vec<Number>, Fault>
-    ensures ok { IfOk result (λ numbers. (division at : ℕ) (room : Room) → IsInOrder room
-        → incidents.now ≡ filter (λ i.
-        i.division == division && reads_incident ask.now at i) room.incidents → (n : ℕ)
-        → contains n numbers.items ≡ reads_number division ask.now room n) }
-    ensures memory { IfErr result (λ e. e ≡ Memory) }
-{
-    let (first, second) = named_incidents(ask);
-    let mut numbers = numbers_shown(alloc, ask, incidents)?;
-    push_named(&mut numbers, first)?;
-    push_named(&mut numbers, second)?;
-    Ok(numbers)
-}
-
-// Those of the active incidents, where it reads them.
-fn numbers_shown(alloc: Global, ask: &Ask, incidents: &Rows<Incident>) -> Result<Vec<Number>, Fault>
-    ensures ok { IfOk result (λ numbers. (division at : ℕ) (room : Room) → IsInOrder room
-        → incidents.now ≡ filter (λ i.
-        i.division == division && reads_incident ask.now at i) room.incidents → (n : ℕ)
-        → contains n numbers.items ≡ (reads_active ask.now
-        && is_some (keep (λ i. is_active i.state) (incident_of division n room)))) }
-    ensures memory { IfErr result (λ e. e ≡ Memory) }
-{
-    let mut numbers = Vec::new(alloc);
-    if !reads_active(ask) {
-        return Ok(numbers);
-    }
-    for incident in incidents.as_slice() {
-        numbers.push(incident.number)?;
-    }
-    Ok(numbers)
-}
-
-fn push_named(numbers: &mut Vec<Number>, number: Option<Number>) -> Result<(), Fault>
-    ensures ok { OnOk result ((n : ℕ)
-        → contains n numbers.new.items ≡ contains n numbers.old.items || is_number number n) }
-    ensures memory { IfErr result (λ e. e ≡ Memory) }
-{
-    match number {
-        Some(number) => {
-            numbers.push(number)?;
-            Ok(())
-        }
-        None => Ok(()),
+    match reports {
+        Reports::Nothing => Ok(Rows::new(alloc)),
+        Reports::Uncleared => match known.boards.get(division) {
+            Some(board) => own_rows(alloc, &board.exceptions, division),
+            None => load_parts::<Report, S>(alloc, conn, known, division, &EXCEPTIONS),
+        },
+        Reports::One(named) => load_one::<Report, S>(alloc, conn, division, named),
     }
 }
+
+// The outcomes of the reports that wait to be cleared.
+const EXCEPTIONS: [Outcome; 4] = [
+    Outcome::Skipped,
+    Outcome::Wrong,
+    Outcome::Late,
+    Outcome::Stale,
+];
 
 // The turns of some incidents, or that of the named vehicle's last order.
 fn load_turns<S: Alter>(
     alloc: Global,
     conn: &mut Connection<S>,
     division: DivisionNumber,
-    ask: &Ask,
+    reads: &Reads,
     known: &Cache,
     numbers: &[Number],
 ) -> Result<Rows<Turn>, Fault>
     requires room { HasRoomSchema S.Store conn.old }
     requires open { HasCleanDisk (state S.Store conn.old)
         → IsTrue (state S.Store conn.old).is_open }
-    ensures rows { Finds S.Store conn.old conn.new result (λ room x. IsInOrder room
-        → AreKnown known.now room
-        → ((n : ℕ) → contains n numbers.now ≡ reads_number division ask.now room n)
-        → x ≡ (working division ask.now 0 room).turns) }
+    ensures rows { Finds S.Store conn.old conn.new result (λ room x. (ask : AskModel)
+        → IsInOrder room → AreKnown known.now room → Selects division ask reads.now
+        → ((n : ℕ) → contains n numbers.now ≡ reads_number division ask room n)
+        → x ≡ (working division ask 0 room).turns) }
     ensures reads { ReadsOnly S.Store conn.old conn.new result }
 {
-    match stood_down(ask) {
-        Some(callsign) => last_turn(alloc, conn, division, known.fleet.rows(), &callsign),
+    match reads.last_turn {
+        Some(callsign) => last_turn(alloc, conn, division, known.fleet.get(), &callsign),
         None => load_parts::<Turn, S>(alloc, conn, known, division, numbers),
     }
 }

@@ -3,7 +3,7 @@ use Rattle.room_model.proofs.OwnDesk.{desk_equal, desk_own}
 use Rattle.room_model.proofs.WorkingLaw.{desk_working}
 use Rattle.room_model.specs.Slices.{room_of}
 use Rattle.room_model.specs.Step.{desk_asks}
-use Rattle.room_core.specs.Deciding.{Decides}
+use Rattle.room_model.specs.Decisions.{Decides}
 use Rattle.room_core.proofs.desks.decide_desk.Goals as goal
 
 pub returns-clause-decides : goal.returns-clause-decides

@@ -4,27 +4,37 @@ use Rattle.sqlite.specs.Held.{state}
 use Rattle.sqlite.specs.State.{HasCleanDisk}
 use Rattle.room_tables_sql.proofs.ReadLaws.{fails, looked, then_any}
 use Rattle.room_tables.proofs.RoomReads.{kept}
+use Rattle.room_store.proofs.Wants.{failed, unsaid}
+use Rattle.room_store.specs.Deciding.{unless_want}
 use Rattle.room_store.proofs.deciding.decide.Goals as goal
 
 pub decide_known-requires-clause-open : goal.decide_known-requires-clause-open
-decide_known-requires-clause-open g c clean = (c.in_ok-know.ensures.reads.ok clean).0.is_open
+decide_known-requires-clause-open g c clean = (c.in-Ok.ensures.reads.ok clean).0.is_open
 
-pub returns-clause-decided : goal.returns-clause-decided
-returns-clause-decided g c clean =
-    let first : HasCleanDisk (state g.S.Store c.know.new.conn) = omega (arith, c.decide_known.ensures.reads.survives.clean) in
-    IfOk-weaker c.decide_known.result _ _ (λ x told house room h.
-    let fleet = c.in_ok-know.ensures.known first house room h.stands h.cache.fleet in
-    told house room (kept _ _ (c.in_ok-know.ensures.reads.ok first) house room h.stands) h.formed h.plan h.addressed fleet (record { fleet = λ _. fleet; boards = h.cache.boards; dossiers = h.cache.dossiers; recents = h.cache.recents })) (c.decide_known.ensures.decided clean)
+pub returns-in-Ok-clause-decided : goal.returns-in-Ok-clause-decided
+returns-in-Ok-clause-decided g c clean =
+    let first : HasCleanDisk (state g.S.Store c.fill.new.conn) = omega (arith, c.decide_known.ensures.reads.survives.clean) in
+    IfOk-weaker (unless_want c.decide_known.result) _ _ (λ x told house room h.
+    let fleet = c.in-Ok.ensures.known first house room h.stands h.cache.fleet in
+    told house room (kept _ _ (c.in-Ok.ensures.reads.ok first) house room h.stands) h.formed h.plan h.addressed fleet
+    (record { fleet = λ _. fleet; boards = h.cache.boards; dossiers = h.cache.dossiers; recents = h.cache.recents })) (c.decide_known.ensures.decided clean)
 
-pub returns-clause-cache : goal.returns-clause-cache
-returns-clause-cache g c clean =
-    let first : HasCleanDisk (state g.S.Store c.know.new.conn) = omega (arith, c.decide_known.ensures.reads.survives.clean) in
-    IfOk-weaker c.decide_known.result _ _ (λ x now house room h.
-    let fleet = c.in_ok-know.ensures.known first house room h.stands h.cache.fleet in
-    now house room (kept _ _ (c.in_ok-know.ensures.reads.ok first) house room h.stands) h.formed h.plan h.addressed fleet (record { fleet = λ _. fleet; boards = h.cache.boards; dossiers = h.cache.dossiers; recents = h.cache.recents })) (c.decide_known.ensures.cache clean)
+pub returns-in-Ok-clause-cache : goal.returns-in-Ok-clause-cache
+returns-in-Ok-clause-cache g c clean =
+    let first : HasCleanDisk (state g.S.Store c.fill.new.conn) = omega (arith, c.decide_known.ensures.reads.survives.clean) in
+    IfOk-weaker (unless_want c.decide_known.result) _ _ (λ x now house room h.
+    let fleet = c.in-Ok.ensures.known first house room h.stands h.cache.fleet in
+    now house room (kept _ _ (c.in-Ok.ensures.reads.ok first) house room h.stands) h.formed h.plan h.addressed fleet
+    (record { fleet = λ _. fleet; boards = h.cache.boards; dossiers = h.cache.dossiers; recents = h.cache.recents })) (c.decide_known.ensures.cache clean)
 
-pub returns-in_err-know-clause-reads : goal.returns-in_err-know-clause-reads
-returns-in_err-know-clause-reads g c = fails c.from_residual.ensures.0 c.in_err-know.ensures.reads
+pub returns-in-Ok-clause-reads : goal.returns-in-Ok-clause-reads
+returns-in-Ok-clause-reads g c = then_any (looked c.in-Ok.ensures.reads) (unless_want c.decide_known.result) c.decide_known.ensures.reads
 
-pub returns-clause-reads : goal.returns-clause-reads
-returns-clause-reads g c = then_any (looked c.in_ok-know.ensures.reads) c.decide_known.result c.decide_known.ensures.reads
+pub returns-in-Err-clause-decided : goal.returns-in-Err-clause-decided
+returns-in-Err-clause-decided g c clean = unsaid c.in-Err.fault c.refusal_of.ensures _
+
+pub returns-in-Err-clause-cache : goal.returns-in-Err-clause-cache
+returns-in-Err-clause-cache g c clean = unsaid c.in-Err.fault c.refusal_of.ensures _
+
+pub returns-in-Err-clause-reads : goal.returns-in-Err-clause-reads
+returns-in-Err-clause-reads g c = fails (failed c.in-Err.fault c.refusal_of.ensures) c.in-Err.ensures.reads

@@ -1,34 +1,32 @@
-use Rattle.std.proofs.Common.{refl, sym, ◌∙◌}
+use Rattle.std.proofs.Common.{refl}
 use Rattle.std.proofs.lemmas.Result.{IfOk-weaker}
 use Rattle.room_tables_sql.proofs.ReadLaws.{begins, wants}
-use Rattle.room_store.proofs.CallReads.{desk_near}
+use Rattle.room_store.proofs.Wants.{all_known, still_known}
+use Rattle.room_store.specs.Deciding.{unless_want}
 use Rattle.room_store.proofs.deciding.decide_known.Goals as goal
 
 pub returns-in-Desk-clause-decided : goal.returns-in-Desk-clause-decided
-returns-in-Desk-clause-decided g c clean = IfOk-weaker c.for_division.result _ _ (λ x told house room h formed planned addressed fleet is.
-    told house room h formed planned (rw c.in-Desk.is refl) (record { rows = fleet.rows; boards = is.boards; dossiers = is.dossiers })
-    (c.new-near.ensures ∙ sym (desk_near c.in-Desk.division c.args.event.now c.in-Desk.is room addressed c.in-Desk.division))) (c.for_division.ensures.decided clean)
+returns-in-Desk-clause-decided g c clean = IfOk-weaker (unless_want c.for_division.result) _ _ (λ x told house room h formed planned addressed fleet is.
+    told house room h formed planned (rw c.in-Desk.is refl) (all_known fleet is)) (c.for_division.ensures.decided clean)
 
 pub returns-in-Desk-clause-cache : goal.returns-in-Desk-clause-cache
-returns-in-Desk-clause-cache g c clean = IfOk-weaker c.for_division.result _ _ (λ x learnt house room h formed planned addressed fleet is.
-    let now = learnt house room h formed (record { rows = fleet.rows; boards = is.boards; dossiers = is.dossiers })
-    (c.new-near.ensures ∙ sym (desk_near c.in-Desk.division c.args.event.now c.in-Desk.is room addressed c.in-Desk.division)) in
-    record { fleet = λ _. rw c.for_division.ensures.fleet fleet; boards = now.boards; dossiers = now.dossiers; recents = rw c.for_division.ensures.recents is.recents }) (c.for_division.ensures.known clean)
+returns-in-Desk-clause-cache g c clean = IfOk-weaker (unless_want c.for_division.result) _ _ (λ x known house room h formed planned addressed fleet is.
+    still_known fleet (known house room h formed (all_known fleet is)) c.for_division.ensures.fleet) (c.for_division.ensures.known clean)
 
 pub returns-in-Crew-clause-decided : goal.returns-in-Crew-clause-decided
-returns-in-Crew-clause-decided g c clean = IfOk-weaker c.for_crew.result _ _ (λ x told house room h formed planned addressed fleet is.
+returns-in-Crew-clause-decided g c clean = IfOk-weaker (unless_want c.for_crew.result) _ _ (λ x told house room h formed planned addressed fleet is.
     rw c.in-Crew.is (told house room h formed fleet)) (c.for_crew.ensures.decided clean)
 
 pub returns-in-Crew-clause-cache : goal.returns-in-Crew-clause-cache
-returns-in-Crew-clause-cache g c clean = IfOk-weaker c.for_crew.result _ _ (λ x known house room h formed planned addressed fleet is.
+returns-in-Crew-clause-cache g c clean = IfOk-weaker (unless_want c.for_crew.result) _ _ (λ x known house room h formed planned addressed fleet is.
     record { fleet = λ _. known house room h fleet; boards = is.boards; dossiers = is.dossiers; recents = is.recents }) (c.for_crew.ensures.known clean)
 
 pub returns-in-Call-clause-decided : goal.returns-in-Call-clause-decided
-returns-in-Call-clause-decided g c clean = IfOk-weaker c.for_call.result _ _ (λ x told house room h formed planned addressed fleet is.
+returns-in-Call-clause-decided g c clean = IfOk-weaker (unless_want c.for_call.result) _ _ (λ x told house room h formed planned addressed fleet is.
     told house room h formed planned c.in-Position.is c.in-Call.is fleet is) (c.for_call.ensures.decided clean)
 
 pub returns-in-Call-clause-cache : goal.returns-in-Call-clause-cache
-returns-in-Call-clause-cache g c clean = IfOk-weaker c.for_call.result _ _ (λ x now house room h formed planned addressed fleet is.
+returns-in-Call-clause-cache g c clean = IfOk-weaker (unless_want c.for_call.result) _ _ (λ x now house room h formed planned addressed fleet is.
     now house room h formed c.in-Call.is fleet is) (c.for_call.ensures.cache clean)
 
 pub returns-in-Desk-clause-reads : goal.returns-in-Desk-clause-reads

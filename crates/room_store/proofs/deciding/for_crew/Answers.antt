@@ -6,20 +6,21 @@ use Rattle.room_model.specs.Queries.{assignment_at, vehicle_at}
 use Rattle.room_tables_sql.proofs.ReadLaws.{begins, told, wants}
 use Rattle.room_store_cache.specs.declared.fleets.FleetRows.{FleetRows}
 use Rattle.room_store_reads.proofs.CrewReads.{found_here}
+use Rattle.room_store.specs.Deciding.{unless_want}
 use Rattle.room_store.proofs.deciding.for_crew.Goals as goal
 
 pub returns-in-Order-clause-decided : goal.returns-in-Order-clause-decided
 unfolding assignment_at vehicle_at
 returns-in-Order-clause-decided g c clean house room h formed fleet =
     let k = c.args.callsign.now in
-    let there : row_at callsign_cmp vehicle_key room.vehicles k ≡ Some c.in-Some.vehicle = ap (λ xs. row_at callsign_cmp vehicle_key xs k) (sym (ap (λ (r : FleetRows). r.vehicles) c.rows.ensures ∙ fleet.rows.vehicles)) ∙ sym (c.copied.ensures ∙ c.get.ensures) ∙ c.in-Some.is in
-    let assigned : row_at callsign_cmp assignment_key room.assignments k ≡ c.copied-assignment.result = ap (λ xs. row_at callsign_cmp assignment_key xs k) (sym (ap (λ (r : FleetRows). r.assignments) c.rows-in-Order.ensures ∙ fleet.rows.assignments)) ∙ sym (c.copied-assignment.ensures ∙ c.get-in-Order.ensures) in
+    let there : row_at callsign_cmp vehicle_key room.vehicles k ≡ Some c.in-Some.vehicle = ap (λ xs. row_at callsign_cmp vehicle_key xs k) (sym (ap (λ (r : FleetRows). r.vehicles) c.get.ensures ∙ fleet.rows.vehicles)) ∙ sym (c.copied.ensures ∙ c.get-2.ensures) ∙ c.in-Some.is in
+    let assigned : row_at callsign_cmp assignment_key room.assignments k ≡ c.copied-assignment.result = ap (λ xs. row_at callsign_cmp assignment_key xs k) (sym (ap (λ (r : FleetRows). r.assignments) c.get-in-Order.ensures ∙ fleet.rows.assignments)) ∙ sym (c.copied-assignment.ensures ∙ c.get-in-Order-2.ensures) in
     sym (rw (c.in-Order.is, there, assigned) (sym c.decide_order.ensures))
 
 pub returns-in-Report-clause-decided : goal.returns-in-Report-clause-decided
-returns-in-Report-clause-decided g c clean = IfOk-weaker c.for_report.result _ _ (λ x told house room h formed fleet.
+returns-in-Report-clause-decided g c clean = IfOk-weaker (unless_want c.for_report.result) _ _ (λ x told house room h formed fleet.
     let k = c.args.callsign.now in
-    let there : row_at callsign_cmp vehicle_key room.vehicles k ≡ Some c.in-Some.vehicle = ap (λ xs. row_at callsign_cmp vehicle_key xs k) (sym (ap (λ (r : FleetRows). r.vehicles) c.rows.ensures ∙ fleet.rows.vehicles)) ∙ sym (c.copied.ensures ∙ c.get.ensures) ∙ c.in-Some.is in
+    let there : row_at callsign_cmp vehicle_key room.vehicles k ≡ Some c.in-Some.vehicle = ap (λ xs. row_at callsign_cmp vehicle_key xs k) (sym (ap (λ (r : FleetRows). r.vehicles) c.get.ensures ∙ fleet.rows.vehicles)) ∙ sym (c.copied.ensures ∙ c.get-2.ensures) ∙ c.in-Some.is in
     let here = found_here k c.in-Some.vehicle room there in
     rw c.in-Report.is (rw here.0 at (told house room h formed fleet here.1))) (c.for_report.ensures.decided clean)
 

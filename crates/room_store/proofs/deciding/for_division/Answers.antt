@@ -1,29 +1,32 @@
 use Rattle.std.proofs.Common.{inl, refl}
-use Rattle.room_model.specs.Step.{decided}
 use Rattle.std.proofs.lemmas.Result.{IfOk-weaker}
+use Rattle.room_model.specs.Step.{decided}
 use Rattle.room_tables_sql.proofs.ReadLaws.{fails, looked, told_any, wants}
+use Rattle.room_store.proofs.Wants.{failed, machines, says, unsaid}
+use Rattle.room_store.specs.Deciding.{unless_want}
 use Rattle.room_store.proofs.deciding.for_division.Goals as goal
 
 pub returns-in-Some-clause-decided : goal.returns-in-Some-clause-decided
-returns-in-Some-clause-decided g c clean = IfOk-weaker c.machines.result _ _ (λ x told house room h formed planned there known near.
-    let rows = c.in_ok-rows.ensures.rows clean house room h formed.order c.args.event.now.at known near in
+returns-in-Some-clause-decided g c clean = IfOk-weaker (unless_want c.decide_on-decision.result) _ _ (λ x told house room h formed planned there known.
+    let rows = c.in-Ok.ensures.rows clean house room h formed.order known in
     let decides = rw (c.in-Some.ensures.rows.0, c.in-Some.ensures.rows.1) at c.decide_on-decision.ensures room formed planned in
-    told (decided c.args.event.now room) (decides (inl rows) there)) c.machines.ensures.decided
+    told (decided c.args.event.now room) (decides (inl rows) there)) (machines c.decide_on-decision.result)
 
 pub returns-in-Some-clause-known : goal.returns-in-Some-clause-known
-returns-in-Some-clause-known g c clean = IfOk-weaker c.machines.result _ _ (λ x told house room h formed known near.
-    let rows = c.in_ok-rows.ensures.rows clean house room h formed.order c.args.event.now.at known near in
-    record {
-      rows = rw c.learn.ensures.fleet known.rows;
-      boards = c.learn.ensures.boards room c.args.event.now.at rows known.boards;
-      dossiers = c.learn.ensures.dossiers room c.args.event.now.at formed.order rows known.dossiers;
-    }) c.machines.ensures.decided
-
-pub returns-in_err-rows-clause-reads : goal.returns-in_err-rows-clause-reads
-returns-in_err-rows-clause-reads g c = fails c.from_residual.ensures.0 c.in_err-rows.ensures.reads
+returns-in-Some-clause-known g c clean =
+    says c.decide_on-decision.result _ (λ house room h formed known. c.in-Ok.ensures.known clean house room h formed.order known)
 
 pub returns-in-Some-clause-reads : goal.returns-in-Some-clause-reads
-returns-in-Some-clause-reads g c = told_any c.machines.result (looked c.in_ok-rows.ensures.reads)
+returns-in-Some-clause-reads g c = told_any (unless_want c.decide_on-decision.result) (looked c.in-Ok.ensures.reads)
 
 pub returns-in-None-clause-reads : goal.returns-in-None-clause-reads
-returns-in-None-clause-reads g c = wants refl (looked c.in_ok-rows.ensures.reads)
+returns-in-None-clause-reads g c = wants refl (looked c.in-Ok.ensures.reads)
+
+pub returns-in-Err-clause-decided : goal.returns-in-Err-clause-decided
+returns-in-Err-clause-decided g c clean = unsaid c.in-Err.fault c.refusal_of.ensures _
+
+pub returns-in-Err-clause-known : goal.returns-in-Err-clause-known
+returns-in-Err-clause-known g c clean = unsaid c.in-Err.fault c.refusal_of.ensures _
+
+pub returns-in-Err-clause-reads : goal.returns-in-Err-clause-reads
+returns-in-Err-clause-reads g c = fails (failed c.in-Err.fault c.refusal_of.ensures) c.in-Err.ensures.reads

@@ -26,7 +26,7 @@ returns-clause-cache g c clean house room h =
     let early : HasCleanDisk (state g.S.Store c.prepare.new.conn) = omega (arith, c.write_towards.ensures.survives.clean) in
     let known = c.in-Ok.ensures.cache early house room h in
     let same = c.as_slice-2.ensures ∙ c.in-Ok.ensures.changes early house room h in
-    subst (λ changes. IsCacheOf c.follow.new.self (apply room changes)) same (c.follow.ensures room h.formed.order known)
+    subst (λ changes. IsCacheOf c.apply.new.self (apply room changes)) same (c.apply.ensures room h.formed.order known)
 
 pub returns-clause-survives : goal.returns-clause-survives
 returns-clause-survives g c =

@@ -9,7 +9,7 @@ returns-clause-rows g c clean house room h formed known there = (
   record {
     vehicle = there;
     turn = c.in_ok-turn.ensures.row clean house room h formed known.turns there;
-    loan = sym (rw (c.rows.ensures, c.in_ok-turn.ensures.rows, known.rows.loans) at (c.copied-loan.ensures ∙ c.get.ensures));
+    loan = sym (rw (c.get.ensures, c.in_ok-turn.ensures.rows, known.rows.loans) at (c.copied-loan.ensures ∙ c.get-2.ensures));
   },
 )
 

@@ -1,7 +1,7 @@
 use Rattle.std.proofs.Common.{ap, ◌∙◌}
 use Rattle.std.proofs.lemmas.Result.{IfOk-weaker}
 use Rattle.room_tables_sql.proofs.ReadLaws.{fails, looked, told_any}
-use Rattle.room_store_reads.specs.Reading.{listed as list_of}
+use Rattle.room_store_reads.specs.Extents.{listed as list_of}
 use Rattle.room_store_reads.proofs.KeyedUnions.{found_alone}
 use Rattle.room_store_reads.proofs.extents.load_one.Goals as goal
 

@@ -1,8 +1,8 @@
 use Rattle.std.proofs.Common.{ap, refl, sym, ◌∙◌}
 use Rattle.std.proofs.lemmas.Result.{IfOk-weaker}
-use Rattle.room_store_reads.specs.Reading.{listed as list_of}
+use Rattle.room_store_reads.specs.Extents.{listed as list_of}
 use Rattle.room_store_reads.proofs.KeyedUnions.{found_alone}
-use Rattle.room_store_reads.proofs.RoomReads.{and_all, filter_as, filter_never}
+use Rattle.room_store_cache.proofs.Filters.{and_all, filter_as, filter_never}
 use Rattle.room_store_reads.proofs.extents.part_of.Goals as goal
 
 pub returns-in-Nothing-clause-rows : goal.returns-in-Nothing-clause-rows

@@ -2,9 +2,10 @@ use Rattle.std.proofs.Common.{[], ap, arith, length, sym, take, take_all, â—Œ+â—
 use Rattle.std.proofs.lemmas.List.{take_more}
 use Rattle.sqlite.specs.Held.{state}
 use Rattle.room_tables_sql.proofs.ReadLaws.{and, begins, but, clean_before, told, wants}
-use Rattle.room_store_reads.specs.Reading.{any}
+use Rattle.room_store_reads.specs.Parts.{any}
 use Rattle.room_tables.proofs.RoomReads.{kept}
-use Rattle.room_store_reads.proofs.RoomReads.{any_last, filter_as, filter_none}
+use Rattle.room_store_cache.proofs.Filters.{filter_as, filter_none}
+use Rattle.room_store_reads.proofs.Selected.{any_last}
 use Rattle.room_store_reads.proofs.parts.load_parts.Goals as goal
 
 pub loop-part-init : goal.loop-part-init

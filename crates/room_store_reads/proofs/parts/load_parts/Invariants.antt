@@ -6,8 +6,7 @@ use Rattle.room_model.specs.Room.{Room}
 use Rattle.room_tables.specs.Stands.{House, Stands}
 use Rattle.room_tables_sql.proofs.ReadLaws.{Looked}
 use Rattle.room_types_keyed.specs.Keyed.{IsKeyed}
-use Rattle.room_store_reads.specs.Parts.{AreKnown}
-use Rattle.room_store_reads.specs.Reading.{any}
+use Rattle.room_store_reads.specs.Parts.{AreKnown, any}
 use Rattle.room_store_reads.proofs.parts.load_parts.Given as goal
 
 abbrev pub invariant-loop-part : goal.invariant-loop-part

@@ -4,7 +4,7 @@ use Rattle.room_types.specs.Keys.{owns_turn}
 use Rattle.room_model.specs.Queries.{held}
 use Rattle.room_model.specs.Working.{is_last_turn}
 use Rattle.room_tables_sql.proofs.ReadLaws.{begins, told}
-use Rattle.room_store_reads.proofs.RoomReads.{filter_never, filter_own}
+use Rattle.room_store_cache.proofs.Filters.{filter_never, filter_own}
 use Rattle.room_store_reads.proofs.working.last_turn.Goals as goal
 
 pub returns-in-Some-clause-rows : goal.returns-in-Some-clause-rows

@@ -3,22 +3,21 @@ use Rattle.std.proofs.lemmas.Result.{IfOk-weaker}
 use Rattle.std.specs.Prelude.{◌==◌}
 use Rattle.room_types.specs.declared.asks.Ask.TheVariants.{StandDown}
 use Rattle.room_model.specs.Working.{names_turn, reads_number, working}
-use Rattle.room_store_reads.proofs.ReadNumbers.{own_contains}
-use Rattle.room_store_reads.proofs.RoomReads.{filter_as, or_none}
+use Rattle.room_store_reads.proofs.Selected.{own_contains}
+use Rattle.room_store_cache.proofs.Filters.{filter_as, or_none}
 use Rattle.room_store_reads.proofs.working.load_turns.Goals as goal
 
 pub returns-in-Some-clause-rows : goal.returns-in-Some-clause-rows
 returns-in-Some-clause-rows g c clean =
     let d = c.args.division in
-    let asked : c.args.ask.now ≡ StandDown c.in-Some.callsign = rw c.in-Some.is at c.stood_down.ensures.ask in
-    IfOk-weaker c.last_turn.result _ _ (λ x found house room h in_order are numbers.
-    found house room h in_order (rw c.rows.ensures are.rows) ∙ sym (ap (λ a. (working d a 0 room).turns) asked)) (c.last_turn.ensures.rows clean)
+    IfOk-weaker c.last_turn.result _ _ (λ x found house room h ask in_order are selects numbers.
+    let asked : ask ≡ StandDown c.in-Some.callsign = rw c.in-Some.is at selects.stood_down in
+    found house room h in_order (rw c.get.ensures are.rows) ∙ sym (ap (λ a. (working d a 0 room).turns) asked)) (c.last_turn.ensures.rows clean)
 
 pub returns-in-None-clause-rows : goal.returns-in-None-clause-rows
 returns-in-None-clause-rows g c clean =
     let d = c.args.division in
-    let a = c.args.ask.now in
-    IfOk-weaker c.load_parts.result _ _ (λ x found house room h in_order are numbers.
+    IfOk-weaker c.load_parts.result _ _ (λ x found house room h a in_order are selects numbers.
     found house room h are in_order.turns ∙ filter_as _ _ room.turns (λ t.
-    let unnamed : names_turn d a room t ≡ false = c.stood_down.ensures.turn d room t ∙ rw c.in-None.is refl in
+    let unnamed : names_turn d a room t ≡ false = selects.turn room t ∙ rw c.in-None.is refl in
     own_contains (t.division == d) t.incident c.args.numbers.now ∙ ap (λ b. (t.division == d) && b) (numbers t.incident ∙ sym (or_none (reads_number d a room t.incident)) ∙ ap (λ b. reads_number d a room t.incident || b) (sym unnamed)))) (c.load_parts.ensures.rows clean)

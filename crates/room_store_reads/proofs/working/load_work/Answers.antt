@@ -1,12 +1,13 @@
-use Rattle.std.proofs.Common.{ap, ℕ, ◌&&◌, ◌∙◌, ◌≡◌}
+use Rattle.std.proofs.Common.{ap, subst, sym, ℕ, ◌&&◌, ◌∙◌, ◌≡◌}
 use Rattle.std.specs.Prelude.{◌==◌}
 use Rattle.sqlite.specs.Held.{state}
-use Rattle.room_model.specs.Working.{reads_calls, reads_number}
+use Rattle.room_model.specs.Working.{reads_number}
 use Rattle.room_tables_sql.proofs.ReadLaws.{and, but, clean_before, fails, looked, told, wants}
 use Rattle.room_tables.proofs.RoomReads.{kept}
-use Rattle.room_store_reads.specs.Reading.{contains}
-use Rattle.room_store_reads.proofs.ReadNumbers.{own_contains}
-use Rattle.room_store_reads.proofs.RoomReads.{filter_as}
+use Rattle.room_store_cache.specs.Numbers.{contains}
+use Rattle.room_store_reads.proofs.Selected.{incident_is, number_is, own_contains, report_is}
+use Rattle.room_store_cache.proofs.Filters.{filter_as}
+use Rattle.room_store_reads.specs.Parts.{AreKnown}
 use Rattle.room_store_reads.proofs.working.load_work.Goals as goal
 
 pub load_parts-requires-clause-open : goal.load_parts-requires-clause-open
@@ -19,9 +20,8 @@ pub load_reports-requires-clause-open : goal.load_reports-requires-clause-open
 load_reports-requires-clause-open g c clean = (c.in_ok-turns.ensures.reads.ok clean).0.is_open
 
 pub returns-clause-rows : goal.returns-clause-rows
-returns-clause-rows g c clean house room h in_order at are near =
+returns-clause-rows g c clean house room h a in_order are selects =
     let d = c.args.division in
-    let a = c.args.ask.now in
     let start = state g.S.Store c.args.conn.now in
     let one = looked c.in_ok-incidents.ensures.reads in
     let two = and one c.in_ok-calls.ensures.reads in
@@ -29,18 +29,34 @@ returns-clause-rows g c clean house room h in_order at are near =
     let third = clean_before three c.in_ok-reports.ensures.reads clean in
     let second = clean_before two c.in_ok-turns.ensures.reads third in
     let first = clean_before one c.in_ok-calls.ensures.reads second in
-    let incidents = c.in_ok-incidents.ensures.rows first house room h in_order at are near in
-    let numbers = c.in_ok-numbers.ensures.ok d at room in_order incidents in
-    let seen : (n : ℕ) → contains n c.as_slice.result.now ≡ reads_number d a room n = rw c.as_slice.ensures.value numbers in
-    let calls = c.in_ok-calls.ensures.rows second house room (kept start (state g.S.Store c.load_incidents.new.conn) (one.ok first) house room h) are in_order.calls in
-    let turns = c.in_ok-turns.ensures.rows third house room (kept start (state g.S.Store c.load_parts.new.conn) (two.ok second) house room h) in_order are in
+    let incidents = c.in_ok-incidents.ensures.rows first house room h in_order are in
+    let numbers = c.in_ok-numbers.ensures.ok d c.args.at room in_order incidents in
+    let all : (n : ℕ) → contains n c.in_ok-numbers.numbers.items ≡ reads_number d a room n = λ n. numbers n ∙ number_is selects room n in
+    let seen : (n : ℕ) → contains n c.as_slice.result.now ≡ reads_number d a room n = rw c.as_slice.ensures.value all in
+    let known : AreKnown c.load_incidents.new.cache room = subst (λ x. AreKnown x room) (sym c.in_ok-incidents.ensures.others) (record {
+      rows = are.rows;
+      boards = are.boards;
+      dossiers = are.dossiers;
+      recents = c.in_ok-incidents.ensures.recents first house room h are.recents;
+    }) in
+    let calls = c.in_ok-calls.ensures.rows second house room (kept start (state g.S.Store c.load_incidents.new.conn) (one.ok first) house room h) known in_order.calls in
+    let turns = c.in_ok-turns.ensures.rows third house room (kept start (state g.S.Store c.load_parts.new.conn) (two.ok second) house room h) a in_order known selects in
     record {
-      incidents = incidents;
-      calls = calls ∙ filter_as _ _ room.calls (λ x. own_contains (x.division == d) x.incident c.calls_read-of_calls.result.now
-          ∙ ap (λ b. (x.division == d) && b) (c.calls_read-of_calls.ensures x.incident ∙ ap (λ b. reads_calls a && b) (seen x.incident)));
-      turns = turns (rw c.as_slice-2.ensures.value numbers);
-      reports = c.in_ok-reports.ensures.rows clean house room (kept start (state g.S.Store c.load_turns.new.conn) (three.ok third) house room h) in_order are;
+      incidents = incidents ∙ filter_as _ _ room.incidents (λ i. ap (λ b. (i.division == d) && b) (incident_is selects c.args.at i));
+      calls = calls ∙ filter_as _ _ room.calls (λ x. own_contains (x.division == d) x.incident c.numbers_if-of_calls.result.now
+          ∙ ap (λ b. (x.division == d) && b) (c.numbers_if-of_calls.ensures x.incident ∙ (λ j. sym selects.calls j && seen x.incident j)));
+      turns = turns (rw c.as_slice-2.ensures.value all);
+      reports = c.in_ok-reports.ensures.rows clean house room (kept start (state g.S.Store c.load_turns.new.conn) (three.ok third) house room h) in_order known ∙ filter_as _ _ room.reports (λ y. ap (λ b. (y.division == d) && b) (report_is selects y));
     }
+
+pub returns-clause-recents : goal.returns-clause-recents
+returns-clause-recents g c clean house room h =
+    let one = looked c.in_ok-incidents.ensures.reads in
+    let two = and one c.in_ok-calls.ensures.reads in
+    let three = and two c.in_ok-turns.ensures.reads in
+    let third = clean_before three c.in_ok-reports.ensures.reads clean in
+    let second = clean_before two c.in_ok-turns.ensures.reads third in
+    c.in_ok-incidents.ensures.recents (clean_before one c.in_ok-calls.ensures.reads second) house room h
 
 pub returns-in_err-incidents-clause-reads : goal.returns-in_err-incidents-clause-reads
 returns-in_err-incidents-clause-reads g c = fails c.from_residual.ensures.0 c.in_err-incidents.ensures.reads

@@ -19,14 +19,14 @@ returns-in-Ok-create_in-clause-room g c clean =
       formed = new_room_formed plan;
       fits = new_terminals_fit plan c.args.terminals.now c.in-Ok.ensures.begun.terminals;
       plan = sym c.in-Ok.ensures.plan.0;
-      known = knows_none terminals _ c.new.ensures.items;
+      known = knows_none terminals _ c.new.ensures;
       cache = knows_nothing c.new-in-Ok-create_in.result (new_room plan) c.new-in-Ok-create_in.ensures;
       tables = λ is_open. subst (λ (zone : List ℕ). Stands trees (record { zone = zone; terminals = terminals }) (new_room plan)) (sym c.in-Ok.ensures.plan.1) begun.stands;
     }
 
 pub returns-in-Ok-create_in-clause-kept : goal.returns-in-Ok-create_in-clause-kept
 returns-in-Ok-create_in-clause-kept g c clean =
-    settled_kept g.S.Store (record { conn = c.create_in.new.conn; plan = c.in-Ok.own; known = c.new.result; cache = c.new-in-Ok-create_in.result; is_sound = true }) (g.met.S.Store.settled c.create_in.new.conn.store) (c.in-Ok-create_in.ensures.ok clean).settled
+    settled_kept g.S.Store (record { conn = c.create_in.new.conn; plan = c.in-Ok.own; terminals = c.new.result; cache = c.new-in-Ok-create_in.result; is_sound = true }) (g.met.S.Store.settled c.create_in.new.conn.store) (c.in-Ok-create_in.ensures.ok clean).settled
 
 pub returns-in-Err-clause-err : goal.returns-in-Err-clause-err
 returns-in-Err-clause-err g c clean = left_same _
@@ -39,7 +39,7 @@ create_in-requires-clause-committed g c = outside c.is_autocommit.result _ c.req
 
 pub returns-in-Ok-create_in-clause-ready : goal.returns-in-Ok-create_in-clause-ready
 returns-in-Ok-create_in-clause-ready g c =
-    ready_sound g.S.Store (record { conn = c.create_in.new.conn; plan = c.in-Ok.own; known = c.new.result; cache = c.new-in-Ok-create_in.result; is_sound = true }) c.create_in.ensures.ended refl (λ clean. record { schema = (c.in-Ok-create_in.ensures.ok clean).schema; settled = (c.in-Ok-create_in.ensures.ok clean).settled })
+    ready_sound g.S.Store (record { conn = c.create_in.new.conn; plan = c.in-Ok.own; terminals = c.new.result; cache = c.new-in-Ok-create_in.result; is_sound = true }) c.create_in.ensures.ended refl (λ clean. record { schema = (c.in-Ok-create_in.ensures.ok clean).schema; settled = (c.in-Ok-create_in.ensures.ok clean).settled })
 
 pub returns-in-Ok-create_in-clause-settled : goal.returns-in-Ok-create_in-clause-settled
 returns-in-Ok-create_in-clause-settled g c clean = (c.in-Ok-create_in.ensures.ok clean).settled

@@ -3,11 +3,10 @@ use Rattle.room_types.specs.Keys.{numbered_cmp, turn_key}
 use Rattle.room_types.specs.Orders.{exact_numbered, numbered_total}
 use Rattle.room_types_keyed.specs.Keyed.{row_at}
 use Rattle.room_model.proofs.Tests.{row_key}
-use Rattle.room_store_cache.proofs.FleetLaws.{known_turn}
 use Rattle.room_store_cache.proofs.fleets.Fleet.turn_at.Goals as goal
 
 pub returns-in-Some-clause-turn : goal.returns-in-Some-clause-turn
-returns-in-Some-clause-turn g c clean house room h are = known_turn c.args.self.now.turns room c.args.key.now c.in-Some.turn.now are c.in-Some.ensures
+returns-in-Some-clause-turn g c clean house room h are = sym (c.in-Some.ensures room are)
 
 pub returns-in_default-2-clause-turn : goal.returns-in_default-2-clause-turn
 returns-in_default-2-clause-turn g c clean house room h are = rw c.in_default-2.is at (c.in_ok-turn.ensures.row clean house room h)
@@ -21,4 +20,4 @@ returns-clause-known g c clean house room h are =
     let t = c.in-Some-2.turn in
     let found : row_at numbered_cmp turn_key room.turns k ≡ Some t = sym (rw c.in-Some-2.is at (c.in_ok-turn.ensures.row clean house room h)) in
     let own = row_key numbered_cmp turn_key numbered_total exact_numbered room.turns k t found in
-    c.meet.ensures.read room are (subst (λ j. row_at numbered_cmp turn_key room.turns j ≡ Some t) own found)
+    c.fill.ensures room are (subst (λ j. row_at numbered_cmp turn_key room.turns j ≡ Some t) own found)

@@ -3,7 +3,7 @@ use Rattle.std.proofs.lemmas.Result.{IfOk-weaker}
 use Rattle.std.specs.Prelude.{◌==◌}
 use Rattle.room_types.specs.Keys.{owns_turn}
 use Rattle.room_tables_sql.proofs.ReadLaws.{begins, told_any}
-use Rattle.room_store_reads.proofs.RoomReads.{filter_again}
+use Rattle.room_store_cache.proofs.Filters.{filter_again}
 use Rattle.room_store_reads.proofs.parts.TurnParted.load_part.Goals as goal
 
 pub returns-in-Some-clause-rows : goal.returns-in-Some-clause-rows
