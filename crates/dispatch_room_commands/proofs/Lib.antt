@@ -1,1 +1,2 @@
+pub mod ListeningLemmas
 pub mod WorkLemmas

@@ -18,7 +18,9 @@ use Rattle.dispatch_room_words.specs.declared.tasks.Service.{Service}
 use Rattle.dispatch_room_words.specs.declared.tasks.Task.{Task}
 use Rattle.dispatch_room_words.specs.declared.tasks.Task.TheVariants.{Board, Check, Import, Init, Migrate, Replay, Serve, Times}
 use Rattle.dispatch_room_commands.specs.Ends.{IsPrinted, IsWordsStatus}
-use Rattle.dispatch_room_commands.specs.Works.{Creates, CreatesNone, Enrols, EnrolsNone, Examines, ExaminesNone, Moves, MovesNone, OpensNone, Replays, Reports, Serves}
+use Rattle.dispatch_room_commands.specs.Works.{Creates, CreatesNone, Enrols, EnrolsNone, Examines, ExaminesNone, Moves, MovesNone, OpensNone, Replays, Reports, ServesAddress}
+use Rattle.dispatch_room_commands.specs.declared.listeners.TcpAddress.{TcpAddress}
+use Rattle.dispatch_room_commands.specs.declared.serving.Served.{Served}
 
 -- by what the output held before, what it holds after, and how much is done
 module _ (before after : Option (List ℕ)) (done : Done) where
@@ -51,8 +53,9 @@ module _ (before after : Option (List ℕ)) (done : Done) where
 
   -- a room was served to as many calls as was asked for, with a journal where one was
   abbrev pub IsServe : Service → Type 0
-  IsServe service =
-      IsDoneInFile (Serves (is_some service.journal) service.connections) before after done
+  IsServe service = (listener : TcpAddress) × (served : Served TcpAddress)
+      × IsDoneInFile (ServesAddress (is_some service.journal) service.connections listener) before
+      after served × (done ≡ served.done)
 
   -- a list was replayed
   abbrev pub IsReplay : How → Type 0
@@ -110,8 +113,9 @@ module _ (before after : Option (List ℕ)) (fault : Failure) where
   abbrev pub FailsServe : Service → Type 0
   FailsServe service =
       ((after ≡ before) × ((fault ≡ failure.Memory) ⊎ (fault ≡ failure.Journal)))
-      ⊎ IsUndoneInFile (Serves (is_some service.journal) service.connections) OpensNone before after
-      fault
+      ⊎ ((listener : TcpAddress)
+      × IsUndoneInFile (ServesAddress (is_some service.journal) service.connections listener)
+      OpensNone before after fault)
 
   -- a list was not replayed whole, and this became of the room's file
   abbrev pub FailsReplay : How → Type 0

@@ -32,6 +32,8 @@ use Rattle.dispatch_room_replaying.specs.declared.replaying.Replayed.{Replayed}
 use Rattle.dispatch_room_words.specs.declared.tasks.Journal.{Journal}
 use Rattle.dispatch_room_words.specs.declared.tasks.Replay.{Replay as How}
 use Rattle.dispatch_room_commands.specs.Ends.{failure_of}
+use Rattle.dispatch_room_commands.specs.declared.listeners.TcpAddress.{TcpAddress}
+use Rattle.dispatch_room_commands.specs.declared.serving.Served.{Served}
 use Rattle.dispatch_room_serving.specs.Calls.{Opening}
 use Rattle.dispatch_room_serving.specs.Rooms.{ServesRoom}
 use Rattle.dispatch_room_work.specs.Checked as checked
@@ -86,34 +88,48 @@ abbrev pub Reports : ℕ → List ℕ → Saying (Vec ℕ Global)
 Reports division day = λ S g old new before after done.
     (HasCleanDisk (state g new) → HasReported g old new division day done) × (after ≡ before)
 
--- The room was served to so many calls, and a journal kept of it or none. What is known of the
--- calls, of the moments and of the journal's file is told by who gives them.
-pub record IsServed {S : Type 0} (g : Ghosts S) (old new : Held S) (has_journal : Bool) (most : ℕ)
-    (done : Result Done Failure) : Type 0 where
-  pub heard : Option (List (Option Opening))
-  pub hears : Option (List (Option Opening))
-  pub told : Option (List (Option (List ℕ)))
-  pub tells : Option (List (Option (List ℕ)))
-  pub given : Option (List ℕ)
-  pub gives : Option (List ℕ)
-  pub kept : Option (List ℕ)
-  pub keeps : Option (List ℕ)
-  pub fails : Bool
-  pub is : ServesRoom g has_journal room_text message_text answer_text old
-      (λ store. record {
-        heard = heard;
-        told = told;
-        stage = record { given = given; kept = kept; has_failed = false; store = store };
-      })
-      (λ store. record {
-        heard = hears;
-        told = tells;
-        stage = record { given = gives; kept = keeps; has_failed = fails; store = store };
-      })
-      most (done, new)
+-- how serving ended
+abbrev pub ended : {L : Type 0} → Result (Served L) Failure → Result Done Failure
+ended (Ok served) = Ok served.done
+ended (Err fault) = Err fault
 
-abbrev pub Serves : Bool → ℕ → Saying Done
-Serves has_journal most = λ S g old new before after done. IsServed g old new has_journal most done
+-- The room was served to so many calls, and a journal kept of it or none. What is known of the
+-- calls is what they are to what listened for them, before and after (`heard`, `told`), where that
+-- is given back. What is known of the moments and of the journal's file is told by who gives them.
+pub record IsServed {S L : Type 0} (heard : L → Option (List (Option Opening)))
+    (told : L → Option (List (Option (List ℕ)))) (g : Ghosts S) (old new : Held S)
+    (has_journal : Bool) (most : ℕ) (listener : L) (served : Result (Served L) Failure) : Type 0
+  where
+    pub hears : Option (List (Option Opening))
+    pub tells : Option (List (Option (List ℕ)))
+    pub known : IfOk served (λ served. (hears ≡ heard served.listener)
+        × (tells ≡ told served.listener))
+    pub given : Option (List ℕ)
+    pub gives : Option (List ℕ)
+    pub kept : Option (List ℕ)
+    pub keeps : Option (List ℕ)
+    pub fails : Bool
+    pub is : ServesRoom g has_journal room_text message_text answer_text old
+        (λ store. record {
+          heard = heard listener;
+          told = told listener;
+          stage = record { given = given; kept = kept; has_failed = false; store = store };
+        })
+        (λ store. record {
+          heard = hears;
+          told = tells;
+          stage = record { given = gives; kept = keeps; has_failed = fails; store = store };
+        })
+        most (ended served, new)
+
+abbrev pub Serves : {L : Type 0} → (L → Option (List (Option Opening)))
+    → (L → Option (List (Option (List ℕ)))) → Bool → ℕ → L → Saying (Served L)
+Serves heard told has_journal most listener = λ S g old new before after served.
+    IsServed heard told g old new has_journal most listener served
+
+-- the same, where it is listened at an address of TCP: of that nothing is known
+abbrev pub ServesAddress : Bool → ℕ → TcpAddress → Saying (Served TcpAddress)
+ServesAddress = Serves (λ _. None) (λ _. None)
 
 -- whether each message lasts before the room acts on it: where a journal is asked for that is so
 abbrev pub is_synced_by : Option Journal → Bool

@@ -3,11 +3,13 @@
 #![tactic(auto)]
 
 mod boarding;
+mod callers;
 mod checking;
 pub mod commands;
 mod creating;
 mod files;
 mod importing;
+mod listeners;
 mod migrating;
 mod replaying;
 mod serving;

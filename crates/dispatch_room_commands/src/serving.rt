@@ -1,13 +1,15 @@
 //! `serve`: a room is served over TCP, one connection after another.
-ghost use Rattle.std.specs.Prelude.{◌≡◌, ◌⊎◌, ℕ, List, Bool, Option, None, false, is_some, IfErr, IfOk, IfSome, IsSome, OnOk};
+ghost use Rattle.std.specs.Prelude.{◌≡◌, ◌⊎◌, ℕ, List, Bool, Option, false, is_some, IfErr, IfOk, IfSome};
 ghost use Rattle.dispatch_room_endings.specs.declared.endings.Failure.TheVariants as failure;
 ghost use Rattle.dispatch_room_journal.specs.Records.{answer_text, message_text, room_text};
 ghost use Rattle.dispatch_room_opening.specs.Opened.{IsUnopened};
 ghost use Rattle.dispatch_room_serving.specs.Journals.{failed_by};
 ghost use Rattle.dispatch_room_serving.specs.Rooms.{ServesRoom};
 ghost use Rattle.dispatch_room_commands.specs.Tasks.{FailsServe, IsServe};
-ghost use Rattle.dispatch_room_commands.specs.Works.{OpensNone, Serves, is_synced_by};
+ghost use Rattle.dispatch_room_commands.specs.Works.{OpensNone, Serves, ended, is_synced_by};
 
+use crate::callers::Heard;
+use crate::listeners::{Listener, TcpAddress};
 use dispatch_room_disk::room_files::{RoomFile, Work, in_file};
 use dispatch_room_endings::endings::{Done, Failure};
 use dispatch_room_opening::rooms::Worked;
@@ -17,19 +19,13 @@ use dispatch_room_serving::journals::Journal;
 use dispatch_room_serving::logs::Log;
 use dispatch_room_serving::serving::serve_in;
 use dispatch_room_serving::watches::Watch;
-use dispatch_room_sockets::parting::{Peer, part};
-use dispatch_room_sockets::readers::SocketReader;
-use dispatch_room_sockets::sides::sides;
 use dispatch_room_sockets::waits::Waits;
-use dispatch_room_sockets::writers::SocketWriter;
 use dispatch_room_words::tasks::{self, Service};
 use room_http_time::clocks::{Clock, MachineClock};
 use sqlite::{Alter, Connection};
 use std::alloc::Global;
 use std::fs::File;
-use std::io::{Error, ErrorKind, Write};
-use std::net::{SocketAddr, TcpListener, TcpStream};
-use std::thread;
+use std::io::Write;
 use std::time::Duration;
 
 /// Serves the room of a file to so many connections, with a log and a journal of it where they are
@@ -49,13 +45,18 @@ pub fn serve_file<O: Write, E: Write>(
         FailsServe (O.contents out.old) (O.contents out.new) fault service.entry) }
 {
     let journal = journal_file(rt, alloc, &service.journal, err)?;
+    let listener = TcpAddress::new(rt, service.address, waits_of(&service));
     let serving = Serving {
         rt,
-        service,
-        journal,
+        service: &service,
+        journal: &journal,
+        listener,
         err,
     };
-    in_file(rt, alloc, RoomFile::Kept(file), serving, out)
+    match in_file(rt, alloc, RoomFile::Kept(file), serving, out) {
+        Ok(served) => Ok(served.done),
+        Err(fault) => Err(fault),
+    }
 }
 
 // The file of a journal, where one is wanted.
@@ -74,19 +75,28 @@ fn journal_file<E: Write>(
     }
 }
 
-// The room is served to those who call at an address.
+/// A room that was served, and what listened for those who called.
 #[derive(Drop)]
-struct Serving<'a, E> {
+pub struct Served<L> {
+    done: Done,
+    listener: L,
+}
+
+// The room is served to those who call where something listens.
+#[derive(Drop)]
+struct Serving<'a, L, E> {
     rt: &'a HostRuntime,
-    service: Service<'a>,
-    journal: Option<File>,
+    service: &'a Service<'a>,
+    journal: &'a Option<File>,
+    listener: L,
     err: &'a mut E,
 }
 
-impl<'a, E: Write> Work for Serving<'a, E> {
-    type Done = Done;
+impl<'a, L: Listener, E: Write> Work for Serving<'a, L, E> {
+    type Done = Served<L>;
 
-    ghost says = { λ work. Serves (is_some work.journal) work.service.connections };
+    ghost says = { λ work. Serves L.heard L.told (is_some work.journal.now)
+        work.service.now.connections work.listener };
 
     ghost refuses = { λ _. OpensNone };
 
@@ -95,31 +105,58 @@ impl<'a, E: Write> Work for Serving<'a, E> {
         alloc: Global,
         conn: Connection<S>,
         out: &mut O,
-    ) -> Worked<Done, S> {
+    ) -> Worked<Served<L>, S> {
         let Serving {
             rt,
             service,
             journal,
+            listener,
             err,
         } = self;
-        let mut callers = TcpCallers {
-            rt,
-            address: service.address,
-            waits: waits_of(&service),
-            out,
-            listener: None,
-        };
-        let mut clock = MachineClock::new(rt);
-        serve_room(
-            rt,
-            alloc,
-            conn,
-            &service,
-            &journal,
-            &mut callers,
-            &mut clock,
-            err,
-        )
+        serve_listened(rt, alloc, conn, service, journal, listener, out, err)
+    }
+}
+
+// Serves the room of a database to those who call where something listens, which is given back.
+fn serve_listened<S: Alter + Drop, L: Listener, O: Write, E: Write>(
+    rt: &HostRuntime,
+    alloc: Global,
+    conn: Connection<S>,
+    service: &Service<'_>,
+    journal: &Option<File>,
+    listener: L,
+    out: &mut O,
+    err: &mut E,
+) -> Worked<Served<L>, S>
+    requires outside { conn.in_transaction ≡ false }
+    ensures served { IfOk result (λ worked. Serves L.heard L.told (is_some journal.now)
+        service.now.connections listener S S.Store conn worked.1 (O.contents out.old)
+        (O.contents out.new) worked.0) }
+    ensures fault { IfErr result (IsUnopened S.Store conn) }
+{
+    let mut callers = Heard::new(listener, out);
+    let mut clock = MachineClock::new(rt);
+    let (done, conn) = serve_room(
+        rt,
+        alloc,
+        conn,
+        service,
+        journal,
+        &mut callers,
+        &mut clock,
+        err,
+    )?;
+    Ok((given_back(done, callers.into_listener()), conn))
+}
+
+// How serving ended, with what listened for it.
+fn given_back<L: Drop>(done: Result<Done, Failure>, listener: L) -> Result<Served<L>, Failure>
+    ensures done { ended result ≡ done }
+    ensures listener { IfOk result (λ served. served.listener ≡ listener) }
+{
+    match done {
+        Ok(done) => Ok(Served { done, listener }),
+        Err(fault) => Err(fault),
     }
 }
 
@@ -137,7 +174,8 @@ fn serve_room<S: Alter + Drop, P: Callers, C: Clock, E: Write>(
 ) -> Worked<Done, S>
     requires { conn.in_transaction ≡ false }
     ensures served { IfOk result (λ worked. (kept : Option (List ℕ)) × (keeps : Option (List ℕ))
-        × (fails : Bool) × ServesRoom S.Store (is_some journal.now) room_text message_text answer_text conn
+        × (fails : Bool)
+        × ServesRoom S.Store (is_some journal.now) room_text message_text answer_text conn
         (λ store. record {
           heard = P.heard callers.old;
           told = P.told callers.old;
@@ -183,80 +221,6 @@ fn journal_of<'a>(
     match file {
         Some(file) => Some(Journal::new(JournalFile::new(file), is_synced)),
         None => None,
-    }
-}
-
-// How many milliseconds nobody is heard after a connection that the system could not give, as where
-// too many files are open: it would say the same again at once.
-const PAUSE: u64 = 100;
-
-// Who calls at an address.
-#[derive(Drop)]
-struct TcpCallers<'a, O> {
-    rt: &'a HostRuntime,
-    address: SocketAddr,
-    waits: Waits,
-    out: &'a mut O,
-    listener: Option<TcpListener>,
-}
-
-type Reader<'a> = SocketReader<'a, TcpStream, HostRuntime>;
-
-type Writer<'a> = SocketWriter<'a, TcpStream, HostRuntime>;
-
-impl<'a, O: Write> TcpCallers<'a, O> {
-    // Listens at the address, and says so.
-    fn listen(&mut self) -> Result<(), Failure>
-        ensures listens { OnOk result (IsSome self.new.listener) }
-        ensures fault { IfErr result (λ fault. fault ≡ failure.Network) }
-    {
-        let Ok(listener) = TcpListener::bind(self.rt, self.address) else {
-            return Err(Failure::Network);
-        };
-        if writeln!(self.out, "serving").is_err() || self.out.flush().is_err() {
-            return Err(Failure::Network);
-        }
-        self.listener = Some(listener);
-        Ok(())
-    }
-}
-
-impl<'a, O: Write> Callers for TcpCallers<'a, O> {
-    type Reader = Reader<'a>;
-
-    type Writer = Writer<'a>;
-
-    ghost heard = { λ _. None };
-
-    ghost told = { λ _. None };
-
-    // Beside what all callers ensure: there is one who listens for them.
-    fn begin(&mut self) -> Result<(), Failure>
-        ensures listens { OnOk result (IsSome self.new.listener) }
-        ensures fault { IfErr result (λ fault. fault ≡ failure.Network) }
-    {
-        self.listen()
-    }
-
-    fn next(&mut self) -> Option<(Reader<'a>, Writer<'a>)> {
-        match self.listener.as_ref()?.accept() {
-            Ok((stream, _)) => sides(stream, self.rt, self.waits),
-            Err(error) => {
-                pause_after(self.rt, &error);
-                None
-            }
-        }
-    }
-
-    fn done(&mut self, reader: Reader<'a>, writer: Writer<'a>) {
-        part(&mut Peer::new(reader, writer));
-    }
-}
-
-// Waits after a connection that was not to be had, but where it was the peer's doing.
-fn pause_after(rt: &HostRuntime, error: &Error) {
-    if error.kind() != ErrorKind::ConnectionAborted {
-        thread::sleep(rt, Duration::from_millis(PAUSE));
     }
 }
 

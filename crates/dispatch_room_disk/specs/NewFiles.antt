@@ -27,8 +27,8 @@ IsBegun disk old new =
     IsBlankRoom (image_of disk old)
     → (left : Image) → outcomes disk new.log new.db left → IsEmptyRoom left
 
--- A database that was there stays as it was, and a stop leaves of it what it would have left before.
--- Where there was none, a stop leaves that, or still none, or an empty one.
+-- A database that was there stays as it was, and a stop leaves of it what it would have left
+-- before. Where there was none, a stop leaves that, or still none, or an empty one.
 pub record IsSpared {D : Type 0} (disk : Ghosts D) (old new : Files D) : Type 0 where
   pub same : ¬ IsBlankRoom (image_of disk old) → image_of disk new ≡ image_of disk old
   pub still : ¬ IsBlankRoom (image_of disk old)

@@ -63,7 +63,8 @@ line_injective (Room d) (Room f) x y is =
     λ i. Room (record { version = same.0 i; digits = same.1 i })
 line_injective (Message at size) (Message moment count) x y is =
     let numbers = append_cancel_left (codes "message ") (decimal at ++ 32 ∷ decimal size) (decimal moment ++ 32 ∷ decimal count) is in
-    let parts = cut_unique 32 (decimal at) (decimal size) (decimal moment) (decimal count) (digits_lack 32 at (omega arith) (omega (arith, x))) (digits_lack 32 moment (omega arith) (omega (arith, y))) numbers in
+    let parts = cut_unique 32 (decimal at) (decimal size) (decimal moment) (decimal count) (digits_lack 32 at (omega arith) (omega (arith, x)))
+    (digits_lack 32 moment (omega arith) (omega (arith, y))) numbers in
     let same_at : at ≡ moment = decimal_injective at moment (omega (arith, x)) (omega (arith, y)) parts.0 in
     let same_size : size ≡ count = decimal_injective size count (omega (arith, x)) (omega (arith, y)) parts.1 in
     λ i. Message (same_at i) (same_size i)

@@ -8,18 +8,20 @@ use Rattle.dispatch_room_journal.specs.Entries.{Entry, IsEntry, IsForeign, IsPar
 abbrev pub most_bytes : ℕ
 most_bytes = 18446744073709551615
 
--- the text is entries of so many bytes, and then nothing, or an entry that is cut short
-pub record EndsWhole (text : List ℕ) (bytes : ℕ) : Type 0 where
-  pub entries : List Entry
-  pub rest : List ℕ
-  pub are_entries : All IsEntry entries
-  pub is : text ≡ texts_of entries ++ rest
-  pub count : bytes ≡ min (length (texts_of entries)) most_bytes
-  pub end : (rest ≡ []) ⊎ IsPart rest
-
 -- the text is entries, and this follows them
 abbrev pub Follows : List ℕ → List Entry → List ℕ → Type 0
 Follows text entries rest = All IsEntry entries × (text ≡ texts_of entries ++ rest)
+
+-- what is whole of a text: its entries, and after them there is nothing, or an entry that is cut
+-- short
+abbrev pub IsCutTo : List ℕ → List ℕ → Type 0
+IsCutTo text whole = (entries : List Entry) × (rest : List ℕ) × Follows text entries rest
+    × (whole ≡ texts_of entries) × ((rest ≡ []) ⊎ IsPart rest)
+
+-- so many bytes of the text are whole
+abbrev pub EndsWhole : List ℕ → ℕ → Type 0
+EndsWhole text bytes =
+    (whole : List ℕ) × IsCutTo text whole × (bytes ≡ min (length whole) most_bytes)
 
 -- Why a text does not end so: what follows its first entries begins with none; or a read failed, or
 -- no more entries are looked at. An entry that is cut short is no fault.

@@ -13,12 +13,12 @@ use Rattle.dispatch_room_replaying.specs.Steps.{IsMark}
 use Rattle.dispatch_room_replaying.specs.Turns.{HasNoStatus, BeginsWith, EndsAt, IsBy, IsAfter}
 
 -- what a line says of its entry
-pub layout_of_room : (kept : List ℕ) (layout : Layout) (e : Entry) (digest : Head)
-    → IsLayout kept layout e → layout.line ≡ Room digest → IsLayout kept layout (room digest)
-layout_of_room kept layout (room d) digest x is =
-    let same : d ≡ digest = cc (x.line, is) in subst (λ (t : Head). IsLayout kept layout (room t)) same x
-layout_of_room kept layout (message at sent) digest x is = absurd (cc (x.line, is))
-layout_of_room kept layout (answer status) digest x is = absurd (cc (x.line, is))
+pub layout_of_room : (kept : List ℕ) (layout : Layout) (e : Entry) (head : Head)
+    → IsLayout kept layout e → layout.line ≡ Room head → IsLayout kept layout (room head)
+layout_of_room kept layout (room d) head x is =
+    let same : d ≡ head = cc (x.line, is) in subst (λ (t : Head). IsLayout kept layout (room t)) same x
+layout_of_room kept layout (message at sent) head x is = absurd (cc (x.line, is))
+layout_of_room kept layout (answer status) head x is = absurd (cc (x.line, is))
 
 pub layout_of_message : (kept : List ℕ) (layout : Layout) (e : Entry) (at size : ℕ)
     → IsLayout kept layout e → layout.line ≡ Message at size
@@ -30,9 +30,9 @@ layout_of_message kept layout (answer status) at size x is = absurd (cc (x.line,
 
 pub layout_of_mark : (kept : List ℕ) (layout : Layout) (e f : Entry) → IsLayout kept layout e
     → IsMark f → layout.line ≡ line_of f → IsLayout kept layout f
-layout_of_mark kept layout e (room digest) x mark is = layout_of_room kept layout e digest x is
+layout_of_mark kept layout e (room head) x mark is = layout_of_room kept layout e head x is
 layout_of_mark kept layout e (message at sent) x mark is = absurd mark
-layout_of_mark kept layout (room digest) (answer s) x mark is = absurd (cc (x.line, is))
+layout_of_mark kept layout (room head) (answer s) x mark is = absurd (cc (x.line, is))
 layout_of_mark kept layout (message at sent) (answer s) x mark is = absurd (cc (x.line, is))
 layout_of_mark kept layout (answer status) (answer s) x mark is =
     let same : status ≡ s = cc (x.line, is) in subst (λ (t : ℕ). IsLayout kept layout (answer t)) same x
@@ -82,20 +82,20 @@ no_status_end (Some x) end text is = let same : x ≡ text = cc in (text, refl, 
 -- a head that stands next is the one at the front
 pub head_front : (P : Head → Type 0) (left : Option (List ℕ)) (kept : List ℕ) (layout : Layout)
     (e : Entry) → IsLayout kept layout e
-    → ((digest : Head) → layout.line ≡ line_of (room digest) → P digest)
+    → ((head : Head) → layout.line ≡ line_of (room head) → P head)
     → BeginsWith (prepend_known kept left) []
-    (λ rest. (digest : Head) (more : List ℕ) → Begins rest (room digest) more → P digest)
+    (λ rest. (head : Head) (more : List ℕ) → Begins rest (room head) more → P head)
 head_front P left kept layout e x is_head text is =
     let y = begins_front left kept layout e x text is in
     let first : Begins text e y.0 = (x.begins.0, y.1 ∙ ap (λ t. t ++ y.0) (append-nil (text_of e))) in
-    (text, refl, λ digest more begins. is_head digest (x.line ∙ ap line_of (one_entry_law text e (room digest) y.0 more first begins).0))
+    (text, refl, λ head more begins. is_head head (x.line ∙ ap line_of (one_entry_law text e (room head) y.0 more first begins).0))
 
 pub head_end : (P : Head → Type 0) (left : Option (List ℕ)) → IsAtEnd left → BeginsWith left []
-    (λ rest. (digest : Head) (more : List ℕ) → Begins rest (room digest) more → P digest)
+    (λ rest. (head : Head) (more : List ℕ) → Begins rest (room head) more → P head)
 head_end P None end text is = absurd (cc)
 head_end P (Some x) end text is =
     let same : x ≡ text = cc in
-    (text, refl, λ digest more begins. absurd ((no_end_law text (room digest) more begins).0 (sym same ∙ end)))
+    (text, refl, λ head more begins. absurd ((no_end_law text (room head) more begins).0 (sym same ∙ end)))
 
 -- what is said of what follows
 pub begins_more : (left : Option (List ℕ)) (entries : List Entry) (F G : List ℕ → Type 0)

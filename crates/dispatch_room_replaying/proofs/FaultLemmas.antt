@@ -70,7 +70,7 @@ begins_one e text rest x is = (x, is ∙ ap (λ t. t ++ rest) (append-nil (text_
 
 -- what a message is played for
 played_more : (E F : Option Open → Head → Type 0) (rest : List ℕ)
-    → ((open_ : Option Open) (digest : Head) → E open_ digest → F open_ digest)
+    → ((open_ : Option Open) (head : Head) → E open_ head → F open_ head)
     → IsPlayedFor E rest → IsPlayedFor F rest
 played_more E F rest e (inl status) = inl status
 played_more E F rest e (inr head) = inr (head.0, head.1, head.2, e None head.0 head.3)
@@ -78,7 +78,7 @@ played_more E F rest e (inr head) = inr (head.0, head.1, head.2, e None head.0 h
 -- what explains a fault, explains it where more is known
 bad_more : (waits : Bool) (none full other whole : Type 0) (E F : Option Open → Head → Type 0)
     (last : List Turn) (rest : List ℕ) → (none → other) → (full → whole)
-    → ((open_ : Option Open) (digest : Head) → E open_ digest → F open_ digest)
+    → ((open_ : Option Open) (head : Head) → E open_ head → F open_ head)
     → IsBad waits none full E last rest → IsBad waits other whole F last rest
 bad_more waits none full other whole E F last rest n f e (broken few x) = broken few x
 bad_more waits none full other whole E F last rest n f e (unasked status more few x) = unasked status more few x
@@ -90,7 +90,7 @@ bad_more waits none full other whole E F last rest n f e (too_many x) = too_many
 
 explains_more : (waits : Bool) (none full other whole : Type 0) (E F : Option Open → Head → Type 0)
     (last : List Turn) (fault : ReplayFault) (rest : List ℕ) → (none → other) → (full → whole)
-    → ((open_ : Option Open) (digest : Head) → E open_ digest → F open_ digest) → Explains waits none full E last fault rest
+    → ((open_ : Option Open) (head : Head) → E open_ head → F open_ head) → Explains waits none full E last fault rest
     → Explains waits other whole F last fault rest
 explains_more waits none full other whole E F last Bad rest n f e x = bad_more waits none full other whole E F last rest n f e x
 explains_more waits none full other whole E F last Differs rest n f e x = x
@@ -102,7 +102,7 @@ explains_more waits none full other whole E F last (Want r) rest n f e x = tt
 pub begins_explain : (left : Option (List ℕ)) (entries : List Entry) (waits : Bool)
     (none full other whole : Type 0) (E F : Option Open → Head → Type 0) (last : List Turn)
     (fault : ReplayFault)
-    → (none → other) → (full → whole) → ((open_ : Option Open) (digest : Head) → E open_ digest → F open_ digest)
+    → (none → other) → (full → whole) → ((open_ : Option Open) (head : Head) → E open_ head → F open_ head)
     → BeginsWith left entries (Explains waits none full E last fault)
     → BeginsWith left entries (Explains waits other whole F last fault)
 begins_explain left entries waits none full other whole E F last fault n f e begins text is =

@@ -105,18 +105,19 @@ pub each_follows : (step : Step) (zone : Zone) (digest_of : DigitsOf) (trusted :
     (sent slice : List ℕ)
     (p : Play) (fault : ReplayFault) → p.told ≡ slice → Consumes before mid (texts_of (message at sent ∷ []))
     → ((p : Play) → p.told ≡ slice → BeginsWith mid []
-    (Explains false ⊥ ⊥ (λ open_ digest. ⊥) (tried p ∷ []) fault))
+    (Explains false ⊥ ⊥ (λ open_ head. ⊥) (tried p ∷ []) fault))
     → BeginsWith before (message at sent ∷ [])
     (Shows false step zone digest_of trusted stood stands fault (tried p ∷ []))
 each_follows step zone digest_of trusted stood stands before mid at sent slice p fault same took follows =
     consumes_begins before mid (message at sent ∷ []) [] (Shows false step zone digest_of trusted stood stands fault (tried p ∷ [])) took
-    (begins_explain mid [] false ⊥ ⊥ (true ≡ false) ⊥ (λ open_ digest. ⊥) (LeadsElsewhere step zone digest_of trusted stood stands (tried p ∷ [])) (tried p ∷ []) fault
-    (λ never. absurd never) (λ never. never) (λ open_ digest never. absurd never) (follows p same))
+    (begins_explain mid [] false ⊥ ⊥ (true ≡ false) ⊥ (λ open_ head. ⊥) (LeadsElsewhere step zone digest_of trusted stood stands (tried p ∷ [])) (tried p ∷ []) fault
+    (λ never. absurd never) (λ never. never) (λ open_ head never. absurd never) (follows p same))
 
 -- a message is next: it was played, and its answer was written
 module _ (step : Step) (zone : Zone) (digest_of : DigitsOf) (early late : Type 0)
     (earlier : late → early) (stood middle stands : List Terminal → Room → Type 0)
-    (before mid after held holds : Option (List ℕ)) (kept : List ℕ) (looked read_failed write_failed : Bool) (at : ℕ) (layout : Layout) (next : Next) (is : next ≡ Message at layout) (old new : Progress)
+    (before mid after held holds : Option (List ℕ)) (kept : List ℕ) (looked read_failed write_failed : Bool) (at : ℕ) (layout : Layout) (next : Next) (is : next ≡ Message at layout)
+    (old new : Progress)
     (noted : new ≡ record old { records = min (old.records + 1) (2 ^ 64 - 1); is_open = false }) where
   pub each_turn : NextIs digest_of early stood middle before mid looked None old.is_begun kept
       (Ok next)

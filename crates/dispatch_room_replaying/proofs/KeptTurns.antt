@@ -26,7 +26,7 @@ use Rattle.dispatch_room_journal.proofs.EntryLemmas.{no_end_law, one_entry_law}
 use Rattle.dispatch_room_replaying.specs.Laws.{answers_to_messages}
 use Rattle.dispatch_room_replaying.specs.Replays.{Answers, Does, DigitsOf, IsHeadOf, IsReplay}
 use Rattle.dispatch_room_replaying.proofs.TurnLemmas.{begun-append}
-use Rattle.dispatch_room_replaying.specs.Turns.{Play, Turn, head, answered, caught_up, left_out, answers_of, ends_open, entries_in, entries_of, plays_in, plays_of, IsBegun, IsPlay, IsReplayed, IsTurn}
+use Rattle.dispatch_room_replaying.specs.Turns.{Play, Turn, compared, answered, caught_up, left_out, answers_of, ends_open, entries_in, entries_of, plays_in, plays_of, IsBegun, IsPlay, IsReplayed, IsTurn}
 
 -- ---- the status of an answer
 abbrev IsStatus : ℕ → Type 0
@@ -362,18 +362,18 @@ module _ (step : Step) (zone : Zone) (digits : DigitsOf) (terminals : List Termi
   module _ (h : Head) (entry : IsEntry (head_entry h)) where
     head_next : (list : List ℕ) (turns : List Turn) (now : Room) → IsTold list turns now
         → IsHeadOf digits h terminals now
-        → IsTold (list ++ room_text h) (turns ++ head h ∷ []) now
+        → IsTold (list ++ room_text h) (turns ++ compared h ∷ []) now
     head_next list turns now told is =
-        told_push step zone digits terminals held now now list (list ++ room_text h) turns (head h) told tt tt (all_one (head_entry h) entry) (refl, is)
+        told_push step zone digits terminals held now now list (list ++ room_text h) turns (compared h) told tt tt (all_one (head_entry h) entry) (refl, is)
         (ap (λ t. list ++ t) (append-nil (room_text h)))
 
     settle_head : (list : List ℕ) (now : Room) → IsHeadOf digits h terminals now → Settled list now
         → Settled (list ++ room_text h) now
     settle_head list now is s = record {
-      turns = s.turns ++ head h ∷ [];
+      turns = s.turns ++ compared h ∷ [];
       told = head_next list s.turns now s.told is;
-      begun = begun-append s.turns (head h ∷ []) s.begun;
-      given = subst Given (sym (no_answer s.turns (head h) refl)) s.given;
+      begun = begun-append s.turns (compared h ∷ []) s.begun;
+      given = subst Given (sym (no_answer s.turns (compared h) refl)) s.given;
     }
 
     -- a message, and then the head
@@ -388,7 +388,7 @@ module _ (step : Step) (zone : Zone) (digits : DigitsOf) (terminals : List Termi
         → IsHeadOf digits h terminals after → after ≡ now)
         → Come list now → Settled (list ++ room_text h) now
     come_head list now is twin (inl fresh) = record {
-      turns = head h ∷ [];
+      turns = compared h ∷ [];
       told = rw (fresh.list_is, fresh.now_is) (head_next [] [] held (told_none step zone digits terminals held) (subst (λ (r : Room). IsHeadOf digits h terminals r) fresh.now_is is));
       begun = (h, [], refl);
       given = fresh.given;

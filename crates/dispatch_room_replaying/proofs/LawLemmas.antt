@@ -17,24 +17,24 @@ use Rattle.room_http.proofs.RunLemmas.{talk_run}
 use Rattle.room_http.proofs.PromiseLaws.{promises_kept}
 use Rattle.room_service.specs.declared.digests.Head.{Head}
 use Rattle.dispatch_room_journal.specs.Entries.{Entry, room, answer}
-use Rattle.dispatch_room_replaying.specs.Turns.{Play, Turn, head, answered, caught_up, tried, left_out, timed, entries_in, entries_of, is_left_out, is_unanswered, arrivals_of, bytes_of, IsPlay, IsTurn, IsReplayed, IsPlayed}
+use Rattle.dispatch_room_replaying.specs.Turns.{Play, Turn, compared, answered, caught_up, tried, left_out, timed, entries_in, entries_of, is_left_out, is_unanswered, arrivals_of, bytes_of, IsPlay, IsTurn, IsReplayed, IsPlayed}
 use Rattle.dispatch_room_replaying.specs.Replays.{DigitsOf, Answers, Does, IsReplay, IsHeadOf}
 use Rattle.dispatch_room_replaying.specs.Laws.{IsOneReplay, IsOneAnswering, IsKept}
 use Rattle.dispatch_room_replaying.proofs.TurnLemmas.{talk_of}
 
 -- its message is played without a look at what follows it
 abbrev is_tried : Turn → Bool
-is_tried (head digest) = false
+is_tried (compared head) = false
 is_tried (answered p s) = false
-is_tried (caught_up p digest) = false
+is_tried (caught_up p head) = false
 is_tried (tried p) = true
 is_tried (left_out at sent) = false
 
 -- what follows its message decides what is done with it, and is no status
 abbrev waits : Turn → Bool
-waits (head digest) = false
+waits (compared head) = false
 waits (answered p s) = false
-waits (caught_up p digest) = true
+waits (caught_up p head) = true
 waits (tried p) = false
 waits (left_out at sent) = true
 
@@ -59,27 +59,27 @@ module _ (step : Step) (zone : Zone) (digest_of : DigitsOf) (terminals : List Te
   -- no turn begins with a status
   pub no_status_first : (t : Turn) (entries : List Entry) (status : ℕ) (more : List Entry)
       → entries_in t ++ entries ≡ answer status ∷ more → ⊥
-  no_status_first (head digest) entries status more is = cc
+  no_status_first (compared head) entries status more is = cc
   no_status_first (answered p s) entries status more is = cc
-  no_status_first (caught_up p digest) entries status more is = cc
+  no_status_first (caught_up p head) entries status more is = cc
   no_status_first (tried p) entries status more is = cc
   no_status_first (left_out at sent) entries status more is = cc
 
   -- where a turn begins with a head, the room has its digest
-  pub first_head : (held next : Room) (t : Turn) (entries : List Entry) (digest : Head)
-      (more : List Entry) → entries_in t ++ entries ≡ room digest ∷ more
-      → Does step zone digest_of terminals held t next → IsHeadOf digest_of digest terminals held
-  first_head held next (head d) entries digest more is x = let same : d ≡ digest = cc in subst (λ (h : Head). IsHeadOf digest_of h terminals held) same x.1
-  first_head held next (answered p s) entries digest more is x = absurd (cc)
-  first_head held next (caught_up p d) entries digest more is x = absurd (cc)
-  first_head held next (tried p) entries digest more is x = absurd (cc)
-  first_head held next (left_out at sent) entries digest more is x = absurd (cc)
+  pub first_head : (held next : Room) (t : Turn) (entries : List Entry) (head : Head)
+      (more : List Entry) → entries_in t ++ entries ≡ room head ∷ more
+      → Does step zone digest_of terminals held t next → IsHeadOf digest_of head terminals held
+  first_head held next (compared d) entries head more is x = let same : d ≡ head = cc in subst (λ (h : Head). IsHeadOf digest_of h terminals held) same x.1
+  first_head held next (answered p s) entries head more is x = absurd (cc)
+  first_head held next (caught_up p d) entries head more is x = absurd (cc)
+  first_head held next (tried p) entries head more is x = absurd (cc)
+  first_head held next (left_out at sent) entries head more is x = absurd (cc)
 
   -- no turn is without an entry
   pub some_entry : (t : Turn) (entries : List Entry) → [] ≡ entries_in t ++ entries → ⊥
-  some_entry (head digest) entries is = cc
+  some_entry (compared head) entries is = cc
   some_entry (answered p s) entries is = cc
-  some_entry (caught_up p digest) entries is = cc
+  some_entry (caught_up p head) entries is = cc
   some_entry (tried p) entries is = cc
   some_entry (left_out at sent) entries is = cc
 
@@ -89,8 +89,8 @@ module _ (step : Step) (zone : Zone) (digest_of : DigitsOf) (terminals : List Te
 
   -- where a head is the first of the entries, it is the room's
   abbrev pub AreMet : Room → List Entry → Type 0
-  AreMet held entries = (digest : Head) (more : List Entry) → entries ≡ room digest ∷ more
-      → IsHeadOf digest_of digest terminals held
+  AreMet held entries = (head : Head) (more : List Entry) → entries ≡ room head ∷ more
+      → IsHeadOf digest_of head terminals held
 
   -- what follows a turn, after which the room is this
   abbrev pub Follows : Turn → Room → List Entry → Type 0
@@ -103,8 +103,8 @@ module _ (step : Step) (zone : Zone) (digest_of : DigitsOf) (terminals : List Te
 
   pub met_turns : (held after : Room) (ts : List Turn)
       → IsReplay step zone digest_of terminals held ts after → AreMet held (entries_of ts)
-  met_turns held after [] x digest more is = absurd (cc)
-  met_turns held after (t ∷ ts) x digest more is = first_head held x.0 t (entries_of ts) digest more is x.1
+  met_turns held after [] x head more is = absurd (cc)
+  met_turns held after (t ∷ ts) x head more is = first_head held x.0 t (entries_of ts) head more is x.1
 
   -- what equal entries decide of turns in equal rooms: the turns, the rooms after them, and the
   -- entries that are left
@@ -116,12 +116,12 @@ module _ (step : Step) (zone : Zone) (digest_of : DigitsOf) (terminals : List Te
         → entries_in t ++ es ≡ entries_in u ++ fs → Follows t next es → Follows u then fs
         → Does step zone digest_of terminals held t next
         → Does step zone digest_of terminals held u then → Decides t u es fs next then
-    one_turn (head g) (head h) a b alike is x y d e = let same : g ≡ h = cc in (ap head same, d.0 ∙ sym e.0, ap (drop 1) is)
-    one_turn (head g) (answered q r) a b alike is x y d e = absurd (cc)
-    one_turn (head g) (caught_up q h) a b alike is x y d e = absurd (cc)
-    one_turn (head g) (tried q) a b alike is x y d e = absurd (cc)
-    one_turn (head g) (left_out n k) a b alike is x y d e = absurd (cc)
-    one_turn (answered p s) (head h) a b alike is x y d e = absurd (cc)
+    one_turn (compared g) (compared h) a b alike is x y d e = let same : g ≡ h = cc in (ap compared same, d.0 ∙ sym e.0, ap (drop 1) is)
+    one_turn (compared g) (answered q r) a b alike is x y d e = absurd (cc)
+    one_turn (compared g) (caught_up q h) a b alike is x y d e = absurd (cc)
+    one_turn (compared g) (tried q) a b alike is x y d e = absurd (cc)
+    one_turn (compared g) (left_out n k) a b alike is x y d e = absurd (cc)
+    one_turn (answered p s) (compared h) a b alike is x y d e = absurd (cc)
     one_turn (answered p s) (answered q r) a b alike is x y d e =
         let status : s ≡ r = cc in
         let played = same_play held next then p q a.0 b.0 (cc) (cc) d e in
@@ -129,22 +129,22 @@ module _ (step : Step) (zone : Zone) (digest_of : DigitsOf) (terminals : List Te
     one_turn (answered p s) (caught_up q h) a b alike is x y d e = absurd (cc)
     one_turn (answered p s) (tried q) a b alike is x y d e = absurd (y.0 refl s es (sym (ap (drop 1) is)))
     one_turn (answered p s) (left_out n k) a b alike is x y d e = absurd (y.0 refl s es (sym (ap (drop 1) is)))
-    one_turn (caught_up p g) (head h) a b alike is x y d e = absurd (cc)
+    one_turn (caught_up p g) (compared h) a b alike is x y d e = absurd (cc)
     one_turn (caught_up p g) (answered q r) a b alike is x y d e = absurd (cc)
     one_turn (caught_up p g) (caught_up q h) a b alike is x y d e =
-        let digest : g ≡ h = cc in
+        let same_head : g ≡ h = cc in
         let played = same_play held next then p q a b (cc) (cc) d.1 e.1 in
-        (λ i. caught_up (played.0 i) (digest i), played.1, ap (drop 2) is)
+        (λ i. caught_up (played.0 i) (same_head i), played.1, ap (drop 2) is)
     one_turn (caught_up p g) (tried q) a b alike is x y d e = absurd (alike.1 (refl, refl))
     one_turn (caught_up p g) (left_out n k) a b alike is x y d e =
         absurd (d.0 (ap (λ o. digest_of g.version terminals o) (sym e) ∙ y.1 refl g es (sym (ap (drop 1) is))))
-    one_turn (tried p) (head h) a b alike is x y d e = absurd (cc)
+    one_turn (tried p) (compared h) a b alike is x y d e = absurd (cc)
     one_turn (tried p) (answered q r) a b alike is x y d e = absurd (x.0 refl r fs (ap (drop 1) is))
     one_turn (tried p) (caught_up q h) a b alike is x y d e = absurd (alike.0 (refl, refl))
     one_turn (tried p) (tried q) a b alike is x y d e =
         let played = same_play held next then p q a b (cc) (cc) d e in (λ i. tried (played.0 i), played.1, ap (drop 1) is)
     one_turn (tried p) (left_out n k) a b alike is x y d e = absurd (alike.0 (refl, refl))
-    one_turn (left_out m l) (head h) a b alike is x y d e = absurd (cc)
+    one_turn (left_out m l) (compared h) a b alike is x y d e = absurd (cc)
     one_turn (left_out m l) (answered q r) a b alike is x y d e = absurd (x.0 refl r fs (ap (drop 1) is))
     one_turn (left_out m l) (caught_up q h) a b alike is x y d e =
         absurd (e.0 (ap (λ o. digest_of h.version terminals o) (sym d) ∙ x.1 refl h fs (ap (drop 1) is)))
@@ -176,9 +176,9 @@ pub replayed_alike : (t u : Turn) → IsReplayed t → IsReplayed u → AreAlike
 replayed_alike t u a b = (λ both. no_tried t a both.0, λ both. no_tried u b both.1)
   where
     no_tried : (t : Turn) → IsReplayed t → ¬ (is_tried t ≡ true)
-    no_tried (head digest) is same = false≢true same
+    no_tried (compared head) is same = false≢true same
     no_tried (answered p s) is same = false≢true same
-    no_tried (caught_up p digest) is same = false≢true same
+    no_tried (caught_up p head) is same = false≢true same
     no_tried (tried p) is same = is
     no_tried (left_out at sent) is same = false≢true same
 
@@ -186,9 +186,9 @@ played_alike : (t u : Turn) → IsPlayed t → IsPlayed u → AreAlike t u
 played_alike t u a b = (λ both. no_wait u b both.1, λ both. no_wait t a both.0)
   where
     no_wait : (t : Turn) → IsPlayed t → ¬ (waits t ≡ true)
-    no_wait (head digest) is same = false≢true same
+    no_wait (compared head) is same = false≢true same
     no_wait (answered p s) is same = false≢true same
-    no_wait (caught_up p digest) is same = is
+    no_wait (caught_up p head) is same = is
     no_wait (tried p) is same = false≢true same
     no_wait (left_out at sent) is same = is
 

@@ -19,7 +19,7 @@ use Rattle.dispatch_room_journal.specs.Entries.{Entry, room, message, answer, Is
 use Rattle.dispatch_room_journal.specs.Records.{answer_text, message_text}
 use Rattle.dispatch_room_journal.proofs.EntryLemmas.{no_end_law, one_entry_law}
 use Rattle.dispatch_room_journal.proofs.TextLemmas.{head as first_byte}
-use Rattle.dispatch_room_replaying.specs.Turns.{Play, Turn, head, answered, caught_up, tried, left_out, answers_of, entries_of, IsTurn, IsReplayed}
+use Rattle.dispatch_room_replaying.specs.Turns.{Play, Turn, compared, answered, caught_up, tried, left_out, answers_of, entries_of, IsTurn, IsReplayed}
 use Rattle.dispatch_room_replaying.specs.Replays.{Answers, DigitsOf, IsReplay}
 use Rattle.dispatch_room_replaying.specs.Laws.{IsTheRoom, answers_to_messages}
 use Rattle.dispatch_room_replaying.proofs.LawLemmas.{same_play}
@@ -37,8 +37,8 @@ same_message : (at n : ℕ) (sent bytes : List ℕ) → message at sent ≡ mess
     → (at ≡ n) × (sent ≡ bytes)
 same_message at n sent bytes same = (cc, cc)
 
-no_head : (at : ℕ) (digest : Head) (bytes : List ℕ) → room digest ≡ message at bytes → ⊥
-no_head at digest bytes same = cc
+no_head : (at : ℕ) (head : Head) (bytes : List ℕ) → room head ≡ message at bytes → ⊥
+no_head at head bytes same = cc
 
 -- a head begins with the same byte, whatever its version is
 head_byte : (version : Version) (digits rest : List ℕ)
@@ -47,9 +47,9 @@ head_byte First digits rest = refl
 head_byte Second digits rest = refl
 
 -- neither a head nor a message begins as a status does
-head_no_status : (digest : Head) (rest told more : List ℕ)
-    → text_of (room digest) ++ rest ≡ answer_text told ++ more → ⊥
-head_no_status digest rest told more same = absurd (omega (arith, head_byte digest.version digest.digits rest, ap first_byte same))
+head_no_status : (head : Head) (rest told more : List ℕ)
+    → text_of (room head) ++ rest ≡ answer_text told ++ more → ⊥
+head_no_status head rest told more same = absurd (omega (arith, head_byte head.version head.digits rest, ap first_byte same))
 
 message_no_status : (at : ℕ) (sent rest told more : List ℕ)
     → text_of (message at sent) ++ rest ≡ answer_text told ++ more → ⊥
@@ -61,18 +61,18 @@ nothing_no_status told more same = absurd (omega (arith, ap first_byte same))
 -- no turn's text is empty, and no turn begins with a status
 some_turn : (t : Turn) (ts : List Turn) → All IsEntry (entries_of (t ∷ ts))
     → ¬ (texts_of (entries_of (t ∷ ts)) ≡ [])
-some_turn (head digest) ts is = some_text (room digest) (texts_of (entries_of ts)) (All-head IsEntry (room digest) (entries_of ts) is)
+some_turn (compared head) ts is = some_text (room head) (texts_of (entries_of ts)) (All-head IsEntry (room head) (entries_of ts) is)
 some_turn (answered p status) ts is = some_text (message p.at p.sent) (texts_of (answer status ∷ entries_of ts)) (All-head IsEntry (message p.at p.sent) (answer status ∷ entries_of ts) is)
-some_turn (caught_up p digest) ts is = some_text (message p.at p.sent) (texts_of (room digest ∷ entries_of ts)) (All-head IsEntry (message p.at p.sent) (room digest ∷ entries_of ts) is)
+some_turn (caught_up p head) ts is = some_text (message p.at p.sent) (texts_of (room head ∷ entries_of ts)) (All-head IsEntry (message p.at p.sent) (room head ∷ entries_of ts) is)
 some_turn (tried p) ts is = some_text (message p.at p.sent) (texts_of (entries_of ts)) (All-head IsEntry (message p.at p.sent) (entries_of ts) is)
 some_turn (left_out at sent) ts is = some_text (message at sent) (texts_of (entries_of ts)) (All-head IsEntry (message at sent) (entries_of ts) is)
 
 no_status_next : (ts : List Turn) (told more : List ℕ)
     → texts_of (entries_of ts) ≡ answer_text told ++ more → ⊥
 no_status_next [] told more same = nothing_no_status told more same
-no_status_next (head digest ∷ ts) told more same = head_no_status digest (texts_of (entries_of ts)) told more same
+no_status_next (compared head ∷ ts) told more same = head_no_status head (texts_of (entries_of ts)) told more same
 no_status_next (answered p status ∷ ts) told more same = message_no_status p.at p.sent (texts_of (answer status ∷ entries_of ts)) told more same
-no_status_next (caught_up p digest ∷ ts) told more same = message_no_status p.at p.sent (texts_of (room digest ∷ entries_of ts)) told more same
+no_status_next (caught_up p head ∷ ts) told more same = message_no_status p.at p.sent (texts_of (room head ∷ entries_of ts)) told more same
 no_status_next (tried p ∷ ts) told more same = message_no_status p.at p.sent (texts_of (entries_of ts)) told more same
 no_status_next (left_out at sent ∷ ts) told more same = message_no_status at sent (texts_of (entries_of ts)) told more same
 
@@ -110,9 +110,9 @@ module _ (step : Step) (zone : Zone) (digest_of : DigitsOf) (terminals : List Te
     next_message : (held other : Room) (ts : List Turn)
         → Replayed ((arrived m, at) ∷ outs) (told ∷ answers) held record_text ts other
     next_message held other [] turns kinds entries same x after y = absurd (some_text (message at bytes) (answer_text told ++ more) entry (sym (moved same)))
-    next_message held other (head digest ∷ ts) turns kinds entries same x after y =
-        let first = same_first (room digest) (message at bytes) (texts_of (entries_of ts)) (answer_text told ++ more) (All-head IsEntry (room digest) (entries_of ts) entries) entry (moved same) in
-        absurd (no_head at digest bytes first.0)
+    next_message held other (compared head ∷ ts) turns kinds entries same x after y =
+        let first = same_first (room head) (message at bytes) (texts_of (entries_of ts)) (answer_text told ++ more) (All-head IsEntry (room head) (entries_of ts) entries) entry (moved same) in
+        absurd (no_head at head bytes first.0)
     next_message held other (answered p status ∷ ts) turns kinds entries same x after y =
         let first = first_message p.at p.sent (answer status ∷ entries_of ts) entries same in
         let turn = All-head IsTurn (answered p status) ts turns in
@@ -124,8 +124,8 @@ module _ (step : Step) (zone : Zone) (digest_of : DigitsOf) (terminals : List Te
         let replies = subst (λ (r : Room). AreReplies step zone terminals r outs answers after) (sym played.1) y.2 in
         let done = rest x.0 other ts (All-tail IsTurn (answered p status) ts turns) (All-tail IsReplayed (answered p status) ts kinds) later left x.2 after replies in
         (done.0, λ i. (played.0 i).told ∷ done.1 i)
-    next_message held other (caught_up p digest ∷ ts) turns kinds entries same x after y =
-        absurd (head_no_status digest (texts_of (entries_of ts)) told more (first_message p.at p.sent (room digest ∷ entries_of ts) entries same).1)
+    next_message held other (caught_up p head ∷ ts) turns kinds entries same x after y =
+        absurd (head_no_status head (texts_of (entries_of ts)) told more (first_message p.at p.sent (room head ∷ entries_of ts) entries same).1)
     next_message held other (tried p ∷ ts) turns kinds entries same x after y = absurd (All-head IsReplayed (tried p) ts kinds)
     next_message held other (left_out n sent ∷ ts) turns kinds entries same x after y =
         absurd (no_status_next ts told more (first_message n sent (entries_of ts) entries same).1)

@@ -38,10 +38,10 @@ WasPlayed step zone trusted stood stands at sent told =
     → (after : Room) × IsReplyTo step zone terminals room (timed p) after p.told
     × stands terminals after)
 
--- the digest of the room is this one, or it is not
+-- the digest of the room is that of this head, or it is not
 abbrev pub Tells : DigitsOf → Type 0 → (List Terminal → Room → Type 0) → Head → Bool → Type 0
-Tells digest_of trusted stood digest is =
-    trusted → (terminals : List Terminal) (room : Room) → stood terminals room → (IsTrue is ↔ (IsHeadOf digest_of digest terminals room))
+Tells digest_of trusted stood head is =
+    trusted → (terminals : List Terminal) (room : Room) → stood terminals room → (IsTrue is ↔ (IsHeadOf digest_of head terminals room))
 
 module _ (step : Step) (zone : Zone) (digest_of : DigitsOf) (trusted : Type 0)
     (stood stands : List Terminal → Room → Type 0) (at : ℕ) (sent : List ℕ) where
@@ -69,14 +69,14 @@ module _ (step : Step) (zone : Zone) (digest_of : DigitsOf) (trusted : Type 0)
   differs_stops told status x other =
       inr (x.0, x.1, x.2, x.4, leads_tried told x, (refl, status, refl, λ same. other (ap status_in (sym x.3) ∙ same)))
 
-  -- the room did not come to a digest
-  pub missed : (digest : Head) (m : Miss) (fault : ReplayFault)
+  -- the room did not come to the digest of a head
+  pub missed : (head : Head) (m : Miss) (fault : ReplayFault)
       → fault ≡ miss_fault m → IsMiss m → Stays trusted stood stands
-      → (m ≡ miss.Another → Misses step zone digest_of trusted stood stands at sent digest)
-      → PlaysTowards step zone digest_of trusted stood stands {A = Unit {0}} at sent digest (Err fault)
-  missed digest miss.Another fault is why stays misses = (stays, inr (is, misses refl))
-  missed digest (miss.Want r) fault is (inl never) stays misses = absurd (cc)
-  missed digest (miss.Want r) fault is (inr want) stays misses =
+      → (m ≡ miss.Another → Misses step zone digest_of trusted stood stands at sent head)
+      → PlaysTowards step zone digest_of trusted stood stands {A = Unit {0}} at sent head (Err fault)
+  missed head miss.Another fault is why stays misses = (stays, inr (is, misses refl))
+  missed head (miss.Want r) fault is (inl never) stays misses = absurd (cc)
+  missed head (miss.Want r) fault is (inr want) stays misses =
       let same : r ≡ want.0 = cc in (stays, inl (inr (want.0, is ∙ ap Want same, want.2)))
 
   -- a message is not played that is to be played for a line
@@ -108,50 +108,50 @@ module _ (step : Step) (zone : Zone) (digest_of : DigitsOf) (trusted : Type 0)
 module _ (step : Step) (zone : Zone) (digest_of : DigitsOf) (early late : Type 0)
     (earlier : late → early) (stood mid stands : List Terminal → Room → Type 0) (at : ℕ)
     (sent : List ℕ) where
-  pub caught_turn : (digest : Head) (is : Bool) → Stays early stood mid
-      → Tells digest_of early stood digest is → is ≡ false
-      → ComesTo step zone digest_of late mid stands at sent digest
-      → TurnOf step zone digest_of late stood stands at sent (room digest ∷ []) false
-  caught_turn digest is stays tells said x = record {
-    turn = caught_up (x.0) digest;
+  pub caught_turn : (head : Head) (is : Bool) → Stays early stood mid
+      → Tells digest_of early stood head is → is ≡ false
+      → ComesTo step zone digest_of late mid stands at sent head
+      → TurnOf step zone digest_of late stood stands at sent (room head ∷ []) false
+  caught_turn head is stays tells said x = record {
+    turn = caught_up (x.0) head;
     is = x.3;
     replayed = tt;
-    entries = λ i. message (x.1 i) (x.2 i) ∷ room digest ∷ [];
+    entries = λ i. message (x.1 i) (x.2 i) ∷ room head ∷ [];
     counts = refl;
     leaves = refl;
     leads = λ trust terminals held stood_for.
         let y = x.4 trust terminals held (stays (earlier trust) terminals held stood_for) in
-        let differs : ¬ (IsHeadOf digest_of digest terminals held) = λ same. not_both is said ((tells (earlier trust) terminals held stood_for).1 same) in
+        let differs : ¬ (IsHeadOf digest_of head terminals held) = λ same. not_both is said ((tells (earlier trust) terminals held stood_for).1 same) in
         (y.0, (y.0, (differs, y.1, y.2), refl), y.3);
   }
 
   -- the message was not done, and what the room has then is as it was
-  pub stops_open : (digest : Head) (is : Bool) (fault : ReplayFault)
-      → Stays early stood mid → Tells digest_of early stood digest is → is ≡ false
-      → PlaysTowards step zone digest_of late mid stands {A = Unit {0}} at sent digest (Err fault)
-      → StopsAt step zone digest_of late stood stands at sent (line_of (room digest)) fault
-  stops_open digest is fault stays tells said (still, inl refuses) =
+  pub stops_open : (head : Head) (is : Bool) (fault : ReplayFault)
+      → Stays early stood mid → Tells digest_of early stood head is → is ≡ false
+      → PlaysTowards step zone digest_of late mid stands {A = Unit {0}} at sent head (Err fault)
+      → StopsAt step zone digest_of late stood stands at sent (line_of (room head)) fault
+  stops_open head is fault stays tells said (still, inl refuses) =
       inl (
         λ trust terminals held stood_for. still trust terminals held (stays (earlier trust) terminals held stood_for),
-        inl (refuses_at step zone digest_of late stood stands at sent (line_of (room digest)) fault (inr (
-          digest,
+        inl (refuses_at step zone digest_of late stood stands at sent (line_of (room head)) fault (inr (
+          head,
           refl,
           λ trust terminals held stood_for.
               let now = stays (earlier trust) terminals held stood_for in
-              let differs : ¬ (IsHeadOf digest_of digest terminals held) = λ same. not_both is said ((tells (earlier trust) terminals held stood_for).1 same) in
+              let differs : ¬ (IsHeadOf digest_of head terminals held) = λ same. not_both is said ((tells (earlier trust) terminals held stood_for).1 same) in
               (held, refl, differs, tt, still trust terminals held now),
         )) refuses),
       )
-  stops_open digest is fault stays tells said (still, inr astray) =
+  stops_open head is fault stays tells said (still, inr astray) =
       inl (
         λ trust terminals held stood_for. still trust terminals held (stays (earlier trust) terminals held stood_for),
         inr (
           astray.0,
-          digest,
+          head,
           refl,
           λ trust terminals held stood_for.
               let now = stays (earlier trust) terminals held stood_for in
-              let differs : ¬ (IsHeadOf digest_of digest terminals held) = λ same. not_both is said ((tells (earlier trust) terminals held stood_for).1 same) in
+              let differs : ¬ (IsHeadOf digest_of head terminals held) = λ same. not_both is said ((tells (earlier trust) terminals held stood_for).1 same) in
               (held, refl, differs, astray.1 trust terminals held now differs, still trust terminals held now),
         ),
       )
@@ -352,5 +352,6 @@ module _ {R : Type 0} (left : R → Option (List ℕ)) (has_failed has_ended : R
       → MessageIs step zone digest_of trusted stood stands (prepend_known kept (left old))
       (prepend_known ahead (left new)) (has_failed new) at (Err fault)
   settled_fault fault x =
-      settled_stops true step zone digest_of trusted stood stands (prepend_known kept (left old)) at copy front.begins.0 (has_failed new) false (prepend_known mid (left old)) took next fault refl read.first
+      settled_stops true step zone digest_of trusted stood stands (prepend_known kept (left old)) at copy front.begins.0 (has_failed new) false (prepend_known mid (left old)) took next
+      fault refl read.first
       read.says.1 refl x

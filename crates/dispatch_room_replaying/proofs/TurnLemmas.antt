@@ -24,7 +24,7 @@ use Rattle.dispatch_room_replaying.specs.declared.faults.Stopped.{Stopped}
 use Rattle.dispatch_room_replaying.specs.declared.messages.Turned.{Turned}
 use Rattle.dispatch_room_replaying.specs.declared.messages.Turned.TheVariants.{Played, LeftOut, Last}
 use Rattle.dispatch_room_replaying.specs.declared.progress.Progress.{Progress}
-use Rattle.dispatch_room_replaying.specs.Turns.{Open, Play, Turn, head, answered, caught_up, tried, left_out, entries_in, entries_of, arrivals_of, bytes_of, has_message, is_left_out, is_unanswered}
+use Rattle.dispatch_room_replaying.specs.Turns.{Open, Play, Turn, compared, answered, caught_up, tried, left_out, entries_in, entries_of, arrivals_of, bytes_of, has_message, is_left_out, is_unanswered}
 use Rattle.dispatch_room_replaying.specs.Turns.{ends_open, ends_unanswered, IsPlay, IsTurn, IsReplayed, IsBy, AreBy, IsBegun, StartsBy, HasNoStatus, BeginsWith, EndsAt, AreTurns}
 use Rattle.dispatch_room_replaying.specs.Faults.{too_many, Explains, IsDueTo}
 use Rattle.dispatch_room_replaying.specs.Replays.{DigitsOf, IsReplay, Leads, LeadsElsewhere, LeadsTalking, MeetsHead, StopsAfter, WouldMiss}
@@ -53,9 +53,9 @@ ends_open-append (u ∷ v ∷ us) ts one = ends_open-append (v ∷ us) ts one
 
 -- a turn of a replay that has a message, and no entry after it, leaves it out
 replayed_answered : (t : Turn) → IsReplayed t → is_left_out t ≡ false → is_unanswered t ≡ true → ⊥
-replayed_answered (head digest) replayed left is = cc
+replayed_answered (compared head) replayed left is = cc
 replayed_answered (answered p status) replayed left is = cc
-replayed_answered (caught_up p digest) replayed left is = cc
+replayed_answered (caught_up p head) replayed left is = cc
 replayed_answered (tried p) replayed left is = replayed
 replayed_answered (left_out at sent) replayed left is = cc
 
@@ -74,10 +74,10 @@ none_begun : (b : Bool) (us : List Turn) → StartsBy b us → (us ++ [] ≡ [])
 none_begun true us x = inr (begun-append us [] x)
 none_begun false us x = inl (append-nil us ∙ x)
 
-head_begins : (b : Bool) (us : List Turn) (digest : RoomHead) → StartsBy b us
-    → IsBegun (us ++ head digest ∷ [])
-head_begins true us digest x = begun-append us (head digest ∷ []) x
-head_begins false us digest x = (digest, [], ap (λ l. l ++ head digest ∷ []) x)
+head_begins : (b : Bool) (us : List Turn) (head : RoomHead) → StartsBy b us
+    → IsBegun (us ++ compared head ∷ [])
+head_begins true us head x = begun-append us (compared head ∷ []) x
+head_begins false us head x = (head, [], ap (λ l. l ++ compared head ∷ []) x)
 
 -- how far a replay has come
 pub no_progress : (p : Progress) → Progresses p p []
@@ -91,17 +91,17 @@ new_progress p is = record {
   begun = subst (λ b. StartsBy b []) (sym (ap (λ q. q.is_begun) is)) refl;
 }
 
-head_progress : (digest : RoomHead) (old new : Progress)
-    → new ≡ record old { is_open = false; is_begun = true } → Progresses old new (head digest ∷ [])
-head_progress digest old new is us x = record {
+head_progress : (head : RoomHead) (old new : Progress)
+    → new ≡ record old { is_open = false; is_begun = true } → Progresses old new (compared head ∷ [])
+head_progress head old new is us x = record {
   records = ap (λ p. p.records) is ∙ x.records ∙ ap (λ n. min n (2 ^ 64 - 1)) (sym (counted us));
-  opens = ap (λ p. p.is_open) is ∙ sym (ends_open-snoc us (head digest));
-  begun = subst (λ b. StartsBy b (us ++ head digest ∷ [])) (sym (ap (λ p. p.is_begun) is)) (head_begins old.is_begun us digest x.begun);
+  opens = ap (λ p. p.is_open) is ∙ sym (ends_open-snoc us (compared head));
+  begun = subst (λ b. StartsBy b (us ++ compared head ∷ [])) (sym (ap (λ p. p.is_begun) is)) (head_begins old.is_begun us head x.begun);
 }
   where
-    counted : (us : List Turn) → count_by has_message (us ++ head digest ∷ [])
+    counted : (us : List Turn) → count_by has_message (us ++ compared head ∷ [])
         ≡ count_by has_message us
-    counted us = omega (arith, sum_by-append (λ t. cond (has_message t) 1 0) us (head digest ∷ []))
+    counted us = omega (arith, sum_by-append (λ t. cond (has_message t) 1 0) us (compared head ∷ []))
 
 pub message_progress : (t : Turn) (left : Bool) (old new : Progress) → has_message t ≡ true
     → is_left_out t ≡ left → old.is_begun ≡ true
@@ -150,7 +150,8 @@ consumes_begins (Some x) None entries more follows took begins text is = absurd 
 consumes_begins (Some x) (Some y) entries more follows took begins text is =
     let next = begins y refl in
     let same : x ≡ text = cc in
-    (next.0, sym same ∙ took ∙ ap (λ t. texts_of entries ++ t) next.1 ∙ sym (append_assoc (texts_of entries) (texts_of more) next.0) ∙ ap (λ t. t ++ next.0) (sym (flat_map-append text_of entries more)), next.2)
+    let joined = sym (append_assoc (texts_of entries) (texts_of more) next.0) ∙ ap (λ t. t ++ next.0) (sym (flat_map-append text_of entries more)) in
+    (next.0, sym same ∙ took ∙ ap (λ t. texts_of entries ++ t) next.1 ∙ joined, next.2)
 
 -- what was taken was the rest
 consumes_all : (a b : Option (List ℕ)) (entries : List Entry) (until : Option ℕ)
@@ -163,7 +164,7 @@ consumes_all (Some x) (Some y) entries until took end text is =
 -- a head or a status is by any moment, and a message by its own
 mark_by : (until : Option ℕ) (e : Entry) → IsMark e → IsBy until e
 mark_by None e mark = tt
-mark_by (Some until) (room digest) mark = tt
+mark_by (Some until) (room head) mark = tt
 mark_by (Some until) (message at sent) mark = absurd mark
 mark_by (Some until) (answer status) mark = tt
 
@@ -193,9 +194,9 @@ pub two_by : (until : Option ℕ) (at : ℕ) (sent other : List ℕ) (e : Entry)
 two_by until at sent other e by is mark e_is =
     All-cons (IsIn until) (message at other) (e ∷ []) (is, message_by until at sent other by) (all_one (IsIn until) e (e_is, mark_by until e mark))
 
-head_by : (until : Option ℕ) (digest : RoomHead) → IsEntry (room digest)
-    → AreBy until (room digest ∷ [])
-head_by until digest is = all_one (IsIn until) (room digest) (is, mark_by until (room digest) tt)
+head_by : (until : Option ℕ) (head : RoomHead) → IsEntry (room head)
+    → AreBy until (room head ∷ [])
+head_by until head is = all_one (IsIn until) (room head) (is, mark_by until (room head) tt)
 
 module _ (step : Step) (zone : Zone) (digest_of : DigitsOf) where
   -- what holds before a look at the room
@@ -241,20 +242,21 @@ module _ (step : Step) (zone : Zone) (digest_of : DigitsOf) where
 module _ (step : Step) (zone : Zone) (digest_of : DigitsOf) (trusted : Type 0)
     (stood stands : List Terminal → Room → Type 0) (before after : Option (List ℕ))
     (until : Option ℕ) (Kind : Turn → Type 0)
-    (kind : (digest : RoomHead) → Kind (head digest)) (failed : Bool) (kept : List ℕ) (old new : Progress) (noted : new ≡ record old { is_open = false; is_begun = true }) (next : Next) (is : next ≡ Head) where
+    (kind : (head : RoomHead) → Kind (compared head)) (failed : Bool) (kept : List ℕ) (old new : Progress) (noted : new ≡ record old { is_open = false; is_begun = true }) (next : Next)
+    (is : next ≡ Head) where
   pub head_turn : NextIs digest_of trusted stood stands before after failed until old.is_begun kept
       (Ok next)
-      → (digest : RoomHead) × Passes step zone digest_of trusted stood stands before after until Kind
-      (head digest ∷ []) × Progresses old new (head digest ∷ []) × (failed ≡ false)
+      → (head : RoomHead) × Passes step zone digest_of trusted stood stands before after until Kind
+      (compared head ∷ []) × Progresses old new (compared head ∷ []) × (failed ≡ false)
   head_turn found = go (subst (λ (n : Next). NextIs digest_of trusted stood stands before after failed until old.is_begun kept (Ok n)) is found)
     where
       go : NextIs digest_of trusted stood stands before after failed until old.is_begun kept
           (Ok Head)
-          → (digest : RoomHead) × Passes step zone digest_of trusted stood stands before after until
-          Kind (head digest ∷ []) × Progresses old new (head digest ∷ []) × (failed ≡ false)
+          → (head : RoomHead) × Passes step zone digest_of trusted stood stands before after until
+          Kind (compared head ∷ []) × Progresses old new (compared head ∷ []) × (failed ≡ false)
       go x = (
         x.0,
-        passes_one step zone digest_of trusted stood stands before after until Kind (head x.0) (room x.0 ∷ []) tt (kind x.0) refl (head_by until x.0 x.1) x.2
+        passes_one step zone digest_of trusted stood stands before after until Kind (compared x.0) (room x.0 ∷ []) tt (kind x.0) refl (head_by until x.0 x.1) x.2
             (λ trust terminals held stood_for. let y = x.4 trust terminals held stood_for in (held, (held, (refl, y.0), refl), y.1)) (λ never. absurd (cc)) (λ never. absurd (cc)),
         head_progress x.0 old new noted,
         x.3,
@@ -274,7 +276,8 @@ module _ (waits : Bool) (step : Step) (zone : Zone) (digest_of : DigitsOf) (trus
   next_stops is_begun fault read_failed write_failed stays begins due = record {
     few = inl refl;
     begins = begins_explain before [] waits (is_begun ≡ false) ⊥ (is_begun ≡ false) ⊥ (IsElsewhere digest_of trusted stood stands) (LeadsElsewhere step zone digest_of trusted stood stands []) [] fault
-        (λ none. none) (λ never. never) (λ open_ digest x trust terminals held stood_for. let y = x.1 trust terminals held stood_for in (held, refl, y.0, subst (λ (o : Option Open). WouldMiss step zone digest_of terminals held o digest) (sym x.0) tt, y.1)) begins;
+        (λ none. none) (λ never. never) (λ open_ head x trust terminals held stood_for. let y = x.1 trust terminals held stood_for in
+        (held, refl, y.0, subst (λ (o : Option Open). WouldMiss step zone digest_of terminals held o head) (sym x.0) tt, y.1)) begins;
     leads = λ trust terminals held stood_for. (held, refl, stays trust terminals held stood_for);
     due = due;
   }
@@ -304,7 +307,7 @@ module _ (waits : Bool) (step : Step) (zone : Zone) (digest_of : DigitsOf) (earl
     begins = keeps_begins a b (entries_of last) (Explains waits (is_begun ≡ false) ⊥ (LeadsElsewhere step zone digest_of late stood stands last) last fault) same
         (begins_explain b (entries_of last) waits (true ≡ false) ⊥ (is_begun ≡ false) ⊥ (LeadsElsewhere step zone digest_of late mid stands last)
         (LeadsElsewhere step zone digest_of late stood stands last) last fault
-        (λ never. absurd (cc)) (λ never. never) (λ open_ digest y trust terminals held stood_for. y trust terminals held (stays (earlier trust) terminals held stood_for)) x.begins);
+        (λ never. absurd (cc)) (λ never. never) (λ open_ head y trust terminals held stood_for. y trust terminals held (stays (earlier trust) terminals held stood_for)) x.begins);
     leads = Leads-after step zone digest_of early late stood mid stands last earlier stays x.leads;
     due = x.due;
   }
@@ -324,9 +327,9 @@ goes_on Last = false
 left_replay : (step : Step) (zone : Zone) (digest_of : DigitsOf) (terminals : List Terminal)
     (held : Room) (t : Turn) → is_left_out t ≡ true
     → IsReplay step zone digest_of terminals held (t ∷ []) held
-left_replay step zone digest_of terminals held (head digest) left = absurd (cc)
+left_replay step zone digest_of terminals held (compared head) left = absurd (cc)
 left_replay step zone digest_of terminals held (answered p status) left = absurd (cc)
-left_replay step zone digest_of terminals held (caught_up p digest) left = absurd (cc)
+left_replay step zone digest_of terminals held (caught_up p head) left = absurd (cc)
 left_replay step zone digest_of terminals held (tried p) left = absurd (cc)
 left_replay step zone digest_of terminals held (left_out at sent) left = (held, refl, refl)
 
@@ -352,10 +355,10 @@ module _ (step : Step) (zone : Zone) (digest_of : DigitsOf) (early late : Type 0
     left_meets : (t : Turn) → is_left_out t ≡ true → (rest : List ℕ)
         → HasItsHead digest_of late mid rest
         → MeetsHead step zone digest_of late stood (t ∷ []) rest
-    left_meets t left rest met digest more begins trust terminals held stood_for = (
+    left_meets t left rest met head more begins trust terminals held stood_for = (
       held,
       left_replay step zone digest_of terminals held t left,
-      met digest more begins trust terminals held (front.6 (earlier trust) terminals held stood_for),
+      met head more begins trust terminals held (front.6 (earlier trust) terminals held stood_for),
     )
 
     one_passes : (sent : List ℕ) (taken : List Entry) (left : Bool)
@@ -432,10 +435,10 @@ module _ (step : Step) (zone : Zone) (digest_of : DigitsOf) (terminals : List Te
       → IsReplay step zone digest_of terminals held ts after
       → IsTalk step zone terminals held (arrivals_of ts) after (bytes_of ts)
   talk_of held [] after x = (x, refl)
-  talk_of held (head digest ∷ ts) after x =
+  talk_of held (compared head ∷ ts) after x =
       subst (λ (r : Room). IsTalk step zone terminals r (arrivals_of ts) after (bytes_of ts)) x.1.0 (talk_of x.0 ts after x.2)
   talk_of held (answered p status ∷ ts) after x = (x.0, p.told, bytes_of ts, refl, x.1, talk_of x.0 ts after x.2)
-  talk_of held (caught_up p digest ∷ ts) after x = (x.0, p.told, bytes_of ts, refl, x.1.1, talk_of x.0 ts after x.2)
+  talk_of held (caught_up p head ∷ ts) after x = (x.0, p.told, bytes_of ts, refl, x.1.1, talk_of x.0 ts after x.2)
   talk_of held (tried p ∷ ts) after x = (x.0, p.told, bytes_of ts, refl, x.1, talk_of x.0 ts after x.2)
   talk_of held (left_out at sent ∷ ts) after x =
       subst (λ (r : Room). IsTalk step zone terminals r (arrivals_of ts) after (bytes_of ts)) x.1 (talk_of x.0 ts after x.2)
@@ -451,11 +454,11 @@ module _ (step : Step) (zone : Zone) (digest_of : DigitsOf) (early late : Type 0
       let y = second trust terminals x.0 x.2 in
       (y.0, IsReplay-append step zone digest_of terminals held x.0 y.0 us ts x.1 y.1, y.2)
 
-  Elsewhere-append : (open_ : Option Open) (digest : RoomHead)
+  Elsewhere-append : (open_ : Option Open) (head : RoomHead)
       → Leads step zone digest_of early stood mid us
-      → LeadsElsewhere step zone digest_of late mid stands ts open_ digest
-      → LeadsElsewhere step zone digest_of late stood stands (us ++ ts) open_ digest
-  Elsewhere-append open_ digest first second trust terminals held stood_for =
+      → LeadsElsewhere step zone digest_of late mid stands ts open_ head
+      → LeadsElsewhere step zone digest_of late stood stands (us ++ ts) open_ head
+  Elsewhere-append open_ head first second trust terminals held stood_for =
       let x = first (earlier trust) terminals held stood_for in
       let y = second trust terminals x.0 x.2 in
       (y.0, IsReplay-append step zone digest_of terminals held x.0 y.0 us ts x.1 y.1, y.2, y.3, y.4)
@@ -463,9 +466,9 @@ module _ (step : Step) (zone : Zone) (digest_of : DigitsOf) (early late : Type 0
   meets_append : (rest : List ℕ) → Leads step zone digest_of early stood mid us
       → MeetsHead step zone digest_of late mid ts rest
       → MeetsHead step zone digest_of late stood (us ++ ts) rest
-  meets_append rest first met digest more begins trust terminals held stood_for =
+  meets_append rest first met head more begins trust terminals held stood_for =
       let x = first (earlier trust) terminals held stood_for in
-      let y = met digest more begins trust terminals x.0 x.2 in
+      let y = met head more begins trust terminals x.0 x.2 in
       (y.0, IsReplay-append step zone digest_of terminals held x.0 y.0 us ts x.1 y.1, y.2)
 
   pub Talks-append : Leads step zone digest_of early stood mid us
@@ -546,7 +549,7 @@ module _ (step : Step) (zone : Zone) (digest_of : DigitsOf) (early late : Type 0
             met = λ ends. subst (λ (l : List Entry). BeginsWith a l (MeetsHead step zone digest_of late stood us)) (append-nil (entries_of us))
                 (consumes_begins a b (entries_of us) [] (MeetsHead step zone digest_of late stood us) first.read
                 (begins_more b [] (MeetsHead step zone digest_of early stood us) (MeetsHead step zone digest_of late stood us)
-                (λ rest met digest more begins trust. met digest more begins (earlier trust)) (first.met ends)));
+                (λ rest met head more begins trust. met head more begins (earlier trust)) (first.met ends)));
             leads = Talks-append first.leads leads;
             due = due;
             number = number;
@@ -563,7 +566,7 @@ module _ (step : Step) (zone : Zone) (digest_of : DigitsOf) (early late : Type 0
               (LeadsElsewhere step zone digest_of late stood stands (us ++ ts)) ts fault)
           begins = begins_explain b (entries_of ts) waits (old.is_begun ≡ false) ⊥ (us ≡ []) (length us ≡ 2 ^ 64 - 1) (LeadsElsewhere step zone digest_of late mid stands ts)
               (LeadsElsewhere step zone digest_of late stood stands (us ++ ts)) ts fault
-              (λ none. unbegun old.is_begun us none progress.begun) (λ never. absurd never) (λ open_ digest y. Elsewhere-append open_ digest first.leads y) x.begins
+              (λ none. unbegun old.is_begun us none progress.begun) (λ never. absurd never) (λ open_ head y. Elsewhere-append open_ head first.leads y) x.begins
 
           go : (ts ≡ []) ⊎ ((p : Play) × IsPlay p × AreBy until (message p.at p.sent ∷ [])
               × (old.is_begun ≡ true) × (ts ≡ tried p ∷ []))

@@ -21,7 +21,7 @@ use Rattle.dispatch_room_journal.proofs.EntryLemmas.{no_end_law, one_entry_law}
 use Rattle.dispatch_room_replaying.specs.declared.faults.ReplayFault.{ReplayFault}
 use Rattle.dispatch_room_replaying.specs.declared.faults.ReplayFault.TheVariants.{Bad, Differs, Another, ReadFailed, WriteFailed, Want}
 use Rattle.dispatch_room_replaying.specs.declared.faults.Stopped.{Stopped}
-use Rattle.dispatch_room_replaying.specs.Turns.{Open, Play, Turn, head, answered, caught_up, tried, left_out, entries_in, entries_of, ends_open, ends_unanswered, is_left_out, is_unanswered, has_message}
+use Rattle.dispatch_room_replaying.specs.Turns.{Open, Play, Turn, compared, answered, caught_up, tried, left_out, entries_in, entries_of, ends_open, ends_unanswered, is_left_out, is_unanswered, has_message}
 use Rattle.dispatch_room_replaying.specs.Turns.{IsPlay, IsTurn, IsReplayed, IsAfter, IsBy, AreBy, IsBegun, HasNoStatus, AreTurns, EndsAt}
 use Rattle.dispatch_room_replaying.specs.Faults.{IsBroken, IsNoMessage, IsPlayedFor, IsBad, broken, broken_after, unasked, headless, no_message, too_many, IsHead, Explains, IsDueTo}
 use Rattle.dispatch_room_replaying.specs.Replays.{DigitsOf, Answers, IsReplay, LeadsElsewhere, LeadsTalking, StopsAfter, WouldMiss, IsHeadOf}
@@ -80,17 +80,17 @@ open_unanswered [] is = is
 open_unanswered (u ∷ []) is = left u is
   where
     left : (t : Turn) → is_left_out t ≡ true → is_unanswered t ≡ true
-    left (head digest) is = is
+    left (compared head) is = is
     left (answered p status) is = is
-    left (caught_up p digest) is = is
+    left (caught_up p head) is = is
     left (tried p) is = refl
     left (left_out at sent) is = is
 open_unanswered (u ∷ v ∷ us) is = open_unanswered (v ∷ us) is
 
 replayed_left : (t : Turn) → IsReplayed t → is_unanswered t ≡ true → is_left_out t ≡ true
-replayed_left (head digest) replayed is = is
+replayed_left (compared head) replayed is = is
 replayed_left (answered p status) replayed is = is
-replayed_left (caught_up p digest) replayed is = is
+replayed_left (caught_up p head) replayed is = is
 replayed_left (tried p) replayed is = absurd replayed
 replayed_left (left_out at sent) replayed is = is
 
@@ -116,7 +116,7 @@ module _ (step : Step) (zone : Zone) (digest_of : DigitsOf) (terminals : List Te
   first_follows u (v ∷ us) next mid es replayed x may =
       let moved = append_assoc (entries_in v) (entries_of us) es in (
         λ _ status more is. no_status_first step zone digest_of terminals v (entries_of us ++ es) status more (sym moved ∙ is),
-        λ _ digest more is. first_head step zone digest_of terminals next x.0 v (entries_of us ++ es) digest more (sym moved ∙ is) x.1,
+        λ _ head more is. first_head step zone digest_of terminals next x.0 v (entries_of us ++ es) head more (sym moved ∙ is) x.1,
       )
 
   -- turns of the first entries are the first turns
@@ -163,20 +163,20 @@ module _ (step : Step) (zone : Zone) (digest_of : DigitsOf) (terminals : List Te
   abbrev IsFor : Room → Room → Play → List ℕ → Type 0
   IsFor held next p more =
       ((status : ℕ) × (rest : List ℕ) × Begins more (answer status) rest × (status_in p.told ≡ decimal status))
-      ⊎ ((digest : Head) × (rest : List ℕ) × Begins more (room digest) rest × (IsHeadOf digest_of digest terminals next))
+      ⊎ ((head : Head) × (rest : List ℕ) × Begins more (room head) rest × (IsHeadOf digest_of head terminals next))
 
   abbrev IsDone : Room → ℕ → List ℕ → List ℕ → Type 0
   IsDone held at sent more =
       ((p : Play) × (next : Room) × IsPlay p × (p.at ≡ at) × (p.sent ≡ sent) × Answers step zone digest_of terminals held p next × IsFor held next p more)
-      ⊎ (HasNoStatus more × ((digest : Head) (rest : List ℕ) → Begins more (room digest) rest → IsHeadOf digest_of digest terminals held))
+      ⊎ (HasNoStatus more × ((head : Head) (rest : List ℕ) → Begins more (room head) rest → IsHeadOf digest_of head terminals held))
 
   next_message : (held after : Room) (ts : List Turn) → All IsTurn ts → All IsReplayed ts
       → All IsEntry (entries_of ts) → IsReplay step zone digest_of terminals held ts after
       → (at : ℕ) (sent more : List ℕ) → Begins (texts_of (entries_of ts)) (message at sent) more
       → IsDone held at sent more
   next_message held after [] turns kinds entries x at sent more begins = absurd ((no_end_law [] (message at sent) more begins).0 refl)
-  next_message held after (head digest ∷ ts) turns kinds entries x at sent more begins =
-      let first = first_of (entries_of (head digest ∷ ts)) (message at sent) more entries begins in absurd (cc (first.1))
+  next_message held after (compared head ∷ ts) turns kinds entries x at sent more begins =
+      let first = first_of (entries_of (compared head ∷ ts)) (message at sent) more entries begins in absurd (cc (first.1))
   next_message held after (answered p status ∷ ts) turns kinds entries x at sent more begins =
       let first = first_of (entries_of (answered p status ∷ ts)) (message at sent) more entries begins in
       let same_at : p.at ≡ at = cc (first.1) in
@@ -184,13 +184,13 @@ module _ (step : Step) (zone : Zone) (digest_of : DigitsOf) (terminals : List Te
       let turn = All-head IsTurn (answered p status) ts turns in
       let mark = begins_of first.0 (answer status) (entries_of ts) first.3 (sym (ap (drop 1) first.1)) in
       inl (p, x.0, turn.0, same_at, same_sent, x.1, inl (status, texts_of (entries_of ts), subst (λ (t : List ℕ). Begins t (answer status) (texts_of (entries_of ts))) first.2 mark, turn.1))
-  next_message held after (caught_up p digest ∷ ts) turns kinds entries x at sent more begins =
-      let first = first_of (entries_of (caught_up p digest ∷ ts)) (message at sent) more entries begins in
+  next_message held after (caught_up p head ∷ ts) turns kinds entries x at sent more begins =
+      let first = first_of (entries_of (caught_up p head ∷ ts)) (message at sent) more entries begins in
       let same_at : p.at ≡ at = cc (first.1) in
       let same_sent : p.sent ≡ sent = cc (first.1) in
-      let mark = begins_of first.0 (room digest) (entries_of ts) first.3 (sym (ap (drop 1) first.1)) in
-      let turn = All-head IsTurn (caught_up p digest) ts turns in
-      inl (p, x.0, turn, same_at, same_sent, x.1.1, inr (digest, texts_of (entries_of ts), subst (λ (t : List ℕ). Begins t (room digest) (texts_of (entries_of ts))) first.2 mark, x.1.2))
+      let mark = begins_of first.0 (room head) (entries_of ts) first.3 (sym (ap (drop 1) first.1)) in
+      let turn = All-head IsTurn (caught_up p head) ts turns in
+      inl (p, x.0, turn, same_at, same_sent, x.1.1, inr (head, texts_of (entries_of ts), subst (λ (t : List ℕ). Begins t (room head) (texts_of (entries_of ts))) first.2 mark, x.1.2))
   next_message held after (tried p ∷ ts) turns kinds entries x at sent more begins = absurd (All-head IsReplayed (tried p) ts kinds)
   next_message held after (left_out n bytes ∷ ts) turns kinds entries x at sent more begins =
       let first = first_of (entries_of (left_out n bytes ∷ ts)) (message at sent) more entries begins in
@@ -200,9 +200,9 @@ module _ (step : Step) (zone : Zone) (digest_of : DigitsOf) (terminals : List Te
         λ status rest begun.
             let mark = first_of (entries_of ts) (answer status) rest later (subst (λ (t : List ℕ). Begins t (answer status) rest) (sym left) begun) in
             unanswered_turns step zone digest_of terminals ts status mark.0 mark.1,
-        λ digest rest begun.
-            let mark = first_of (entries_of ts) (room digest) rest later (subst (λ (t : List ℕ). Begins t (room digest) rest) (sym left) begun) in
-            ap (λ (r : Room). digest_of digest.version terminals r) (sym x.1) ∙ met_turns step zone digest_of terminals x.0 after ts x.2 digest mark.0 mark.1,
+        λ head rest begun.
+            let mark = first_of (entries_of ts) (room head) rest later (subst (λ (t : List ℕ). Begins t (room head) rest) (sym left) begun) in
+            ap (λ (r : Room). digest_of head.version terminals r) (sym x.1) ∙ met_turns step zone digest_of terminals x.0 after ts x.2 head mark.0 mark.1,
       )
 
   -- a message does not stand first
@@ -222,8 +222,8 @@ module _ (step : Step) (zone : Zone) (digest_of : DigitsOf) (terminals : List Te
       (y : IsReplay step zone digest_of terminals mid last end)
       (is : texts_of (entries_of vs) ≡ texts_of (entries_of last) ++ rest)
       (Elsewhere : Option Open → Head → Type 0)
-      (elsewhere : (open_ : Option Open) (digest : Head) → last ≡ [] → Elsewhere open_ digest
-      → (¬ (IsHeadOf digest_of digest terminals mid)) × WouldMiss step zone digest_of terminals mid open_ digest) where
+      (elsewhere : (open_ : Option Open) (head : Head) → last ≡ [] → Elsewhere open_ head
+      → (¬ (IsHeadOf digest_of head terminals mid)) × WouldMiss step zone digest_of terminals mid open_ head) where
     same_rest : last ≡ [] → texts_of (entries_of vs) ≡ rest
     same_rest few = is ∙ ap (λ (l : List Turn). texts_of (entries_of l) ++ rest) few
 
@@ -265,8 +265,8 @@ module _ (step : Step) (zone : Zone) (digest_of : DigitsOf) (terminals : List Te
         let same : answer s ≡ answer status = (one_entry_law rest (answer s) (answer status) left more mark begins).0 in
         let statuses : s ≡ status = cc in
         ap (λ (r : Play). status_in r.told) (same_play step zone digest_of terminals mid next then p q p_is q_is (sym at) (sym sent) first second).0 ∙ told ∙ ap decimal statuses
-    same_status p next status more p_is first begins (inl (q, then, q_is, at, sent, second, inr (digest, left, mark, comes))) =
-        absurd (cc ((one_entry_law rest (room digest) (answer status) left more mark begins).0))
+    same_status p next status more p_is first begins (inl (q, then, q_is, at, sent, second, inr (head, left, mark, comes))) =
+        absurd (cc ((one_entry_law rest (room head) (answer status) left more mark begins).0))
     same_status p next status more p_is first begins (inr left) = absurd (left.0 status more begins)
 
     not_different : (p : Play) (status : ℕ) (more : List ℕ) → last ≡ tried p ∷ []
@@ -279,26 +279,27 @@ module _ (step : Step) (zone : Zone) (digest_of : DigitsOf) (terminals : List Te
         other (same_status p replay.0 status more turn replay.1 begins
         (next_message mid after vs turns kinds entries x p.at p.sent rest (begins_one (message p.at p.sent) (texts_of (entries_of vs)) rest entry text)))
 
-    not_astray : (o : Open) (digest : Head) (mid_text more : List ℕ)
-        → ¬ (IsHeadOf digest_of digest terminals mid)
-        → WouldMiss step zone digest_of terminals mid (Some o) digest
-        → Begins mid_text (room digest) more → ¬ (IsDone mid o.0 o.1 mid_text)
-    not_astray o digest mid_text more other miss begins (inl (p, next, p_is, at, sent, ans, inl (s, left, mark, told))) =
-        absurd (cc ((one_entry_law mid_text (answer s) (room digest) left more mark begins).0))
-    not_astray o digest mid_text more other miss begins (inl (p, next, p_is, at, sent, ans, inr (d, left, mark, comes))) =
-        let same : room d ≡ room digest = (one_entry_law mid_text (room d) (room digest) left more mark begins).0 in
-        let digests : d ≡ digest = cc in
-        miss.2.2 (ap (λ (r : Room). digest_of digest.version terminals r) (sym (one_led mid next p o.0 o.1 miss.0 miss.2.0 p_is miss.1 at sent ans miss.2.1)) ∙ subst (λ (h : Head). IsHeadOf digest_of h terminals next) digests comes)
-    not_astray o digest mid_text more other miss begins (inr left) = other (left.1 digest more begins)
+    not_astray : (o : Open) (head : Head) (mid_text more : List ℕ)
+        → ¬ (IsHeadOf digest_of head terminals mid)
+        → WouldMiss step zone digest_of terminals mid (Some o) head
+        → Begins mid_text (room head) more → ¬ (IsDone mid o.0 o.1 mid_text)
+    not_astray o head mid_text more other miss begins (inl (p, next, p_is, at, sent, ans, inl (s, left, mark, told))) =
+        absurd (cc ((one_entry_law mid_text (answer s) (room head) left more mark begins).0))
+    not_astray o head mid_text more other miss begins (inl (p, next, p_is, at, sent, ans, inr (d, left, mark, comes))) =
+        let same : room d ≡ room head = (one_entry_law mid_text (room d) (room head) left more mark begins).0 in
+        let digests : d ≡ head = cc in
+        let led = one_led mid next p o.0 o.1 miss.0 miss.2.0 p_is miss.1 at sent ans miss.2.1 in
+        miss.2.2 (ap (λ (r : Room). digest_of head.version terminals r) (sym led) ∙ subst (λ (h : Head). IsHeadOf digest_of h terminals next) digests comes)
+    not_astray o head mid_text more other miss begins (inr left) = other (left.1 head more begins)
 
-    not_another : (open_ : Option Open) (digest : Head) → last ≡ []
-        → IsHead true rest open_ digest → ¬ (Elsewhere open_ digest)
-    not_another None digest few (more, begins) other =
-        let e = first_of (entries_of vs) (room digest) more entries (begins_left few (room digest) more begins) in
-        (elsewhere None digest few other).0 (met_turns step zone digest_of terminals mid after vs x digest e.0 e.1)
-    not_another (Some o) digest few (wait, mid_text, more, begins, then) other =
-        let away = elsewhere (Some o) digest few other in
-        not_astray o digest mid_text more away.0 away.1 then (message_left few o.0 o.1 mid_text begins)
+    not_another : (open_ : Option Open) (head : Head) → last ≡ []
+        → IsHead true rest open_ head → ¬ (Elsewhere open_ head)
+    not_another None head few (more, begins) other =
+        let e = first_of (entries_of vs) (room head) more entries (begins_left few (room head) more begins) in
+        (elsewhere None head few other).0 (met_turns step zone digest_of terminals mid after vs x head e.0 e.1)
+    not_another (Some o) head few (wait, mid_text, more, begins, then) other =
+        let away = elsewhere (Some o) head few other in
+        not_astray o head mid_text more away.0 away.1 then (message_left few o.0 o.1 mid_text begins)
 
 -- an entry that a text ends before is a message after the moment
 ended_first : (until : Option ℕ) (es : List Entry) (e : Entry) (more : List Entry) → All IsEntry es
@@ -315,9 +316,9 @@ not_late None at sent by late = late
 not_late (Some until) at sent by late = omega (arith, by, late)
 
 first_entry : (t : Turn) → (e : Entry) × (more : List Entry) × (entries_in t ≡ e ∷ more)
-first_entry (head digest) = (room digest, [], refl)
+first_entry (compared head) = (room head, [], refl)
 first_entry (answered p status) = (message p.at p.sent, answer status ∷ [], refl)
-first_entry (caught_up p digest) = (message p.at p.sent, room digest ∷ [], refl)
+first_entry (caught_up p head) = (message p.at p.sent, room head ∷ [], refl)
 first_entry (tried p) = (message p.at p.sent, [], refl)
 first_entry (left_out at sent) = (message at sent, [], refl)
 
@@ -362,7 +363,7 @@ module _ (step : Step) (zone : Zone) (digest_of : DigitsOf) (terminals : List Te
       → AreUnanswered step zone digest_of terminals es × AreMet step zone digest_of terminals mid es
   ended_goes_on mid es all ended = (
     λ status more is. absurd (cc ((ended_first until es (answer status) more all is ended).2)),
-    λ digest more is. absurd (cc ((ended_first until es (room digest) more all is ended).2)),
+    λ head more is. absurd (cc ((ended_first until es (room head) more all is ended).2)),
   )
 
   -- the turns that were done, where it came to the end
@@ -412,22 +413,22 @@ module _ (step : Step) (zone : Zone) (digest_of : DigitsOf) (terminals : List Te
         let same : texts_of es ≡ u.0 = append_cancel_left (texts_of (entries_of us)) (texts_of es) u.0 (sym is ∙ u.1) in
         let also : texts_of es ≡ m.0 = append_cancel_left (texts_of (entries_of us)) (texts_of es) m.0 (sym is ∙ m.1) in (
           λ status more begins. u.2 status (texts_of more) (subst (λ (t : List ℕ). Begins t (answer status) (texts_of more)) same (begins_of es (answer status) more all begins)),
-          λ digest more begins.
-              let led = m.2 digest (texts_of more) (subst (λ (t : List ℕ). Begins t (room digest) (texts_of more)) also (begins_of es (room digest) more all begins)) trust terminals held stood_for in
-              ap (λ (r : Room). digest_of digest.version terminals r) (one_room mid led.0 first led.1) ∙ led.2,
+          λ head more begins.
+              let led = m.2 head (texts_of more) (subst (λ (t : List ℕ). Begins t (room head) (texts_of more)) also (begins_of es (room head) more all begins)) trust terminals held stood_for in
+              ap (λ (r : Room). digest_of head.version terminals r) (one_room mid led.0 first led.1) ∙ led.2,
         )
 
     abbrev Elsewhere : Option Open → Head → Type 0
     Elsewhere = LeadsElsewhere step zone digest_of trusted stood stands (us ++ last)
 
     elsewhere : (mid : Room) → IsReplay step zone digest_of terminals held us mid
-        → (open_ : Option Open) (digest : Head) → last ≡ [] → Elsewhere open_ digest
-        → (¬ (IsHeadOf digest_of digest terminals mid)) × WouldMiss step zone digest_of terminals mid open_ digest
-    elsewhere mid first open_ digest few other =
+        → (open_ : Option Open) (head : Head) → last ≡ [] → Elsewhere open_ head
+        → (¬ (IsHeadOf digest_of head terminals mid)) × WouldMiss step zone digest_of terminals mid open_ head
+    elsewhere mid first open_ head few other =
         let y = other trust terminals held stood_for in
         let replay = subst (λ (l : List Turn). IsReplay step zone digest_of terminals held l y.0) (ap (λ (l : List Turn). us ++ l) few ∙ append-nil us) y.1 in
         let same : y.0 ≡ mid = one_room y.0 mid replay first in
-        (λ is. y.2 (ap (λ (r : Room). digest_of digest.version terminals r) same ∙ is), subst (λ (r : Room). WouldMiss step zone digest_of terminals r open_ digest) same y.3)
+        (λ is. y.2 (ap (λ (r : Room). digest_of head.version terminals r) same ∙ is), subst (λ (r : Room). WouldMiss step zone digest_of terminals r open_ head) same y.3)
 
     module _ (mid end : Room) (vs : List Turn) (rest : List ℕ)
         (first : IsReplay step zone digest_of terminals held us mid)

@@ -37,8 +37,8 @@ IsWanting fault = (r : Refusal) × (fault ≡ Want r) × IsWant r
 abbrev pub IsPlayedFor : (Option Open → Head → Type 0) → List ℕ → Type 0
 IsPlayedFor Elsewhere rest =
     ((status : ℕ) × (more : List ℕ) × Begins rest (answer status) more)
-    ⊎ ((digest : Head) × (more : List ℕ) × Begins rest (room digest) more
-    × Elsewhere None digest)
+    ⊎ ((head : Head) × (more : List ℕ) × Begins rest (room head) more
+    × Elsewhere None head)
 
 -- Why what stands after the turns is bad. It is no journal; or it is a status that no message
 -- stands before; or a message that no head stands before, where nothing came before it (`none`); or
@@ -62,10 +62,10 @@ pub data IsBad (waits : Bool) (none full : Type 0) (Elsewhere : Option Open → 
 
 -- A head stands next; or an open message, which waits for what stands after it, and then a head.
 abbrev pub IsHead : Bool → List ℕ → Option Open → Head → Type 0
-IsHead waits rest None digest = (more : List ℕ) × Begins rest (room digest) more
-IsHead waits rest (Some open_) digest =
+IsHead waits rest None head = (more : List ℕ) × Begins rest (room head) more
+IsHead waits rest (Some open_) head =
     (waits ≡ true) × (mid : List ℕ) × (more : List ℕ)
-    × Begins rest (message open_.0 open_.1) mid × Begins mid (room digest) more
+    × Begins rest (message open_.0 open_.1) mid × Begins mid (room head) more
 
 -- What stands after the turns, by the fault that is told: a status that is not that of the message
 -- that was played last; or a head of another room than the turns lead to, or than they would lead
@@ -79,8 +79,8 @@ module _ (waits : Bool) (none full : Type 0) (Elsewhere : Option Open → Head �
       (p : Play) × (status : ℕ) × (more : List ℕ) × (last ≡ tried p ∷ [])
       × Begins rest (answer status) more × (¬ (status_in p.told ≡ decimal status))
   Explains Another rest =
-      (last ≡ []) × (open_ : Option Open) × (digest : Head) × IsHead waits rest open_ digest
-      × Elsewhere open_ digest
+      (last ≡ []) × (open_ : Option Open) × (head : Head) × IsHead waits rest open_ head
+      × Elsewhere open_ head
   Explains ReadFailed rest = ⊤
   Explains WriteFailed rest = ⊤
   Explains (Want r) rest = ⊤

@@ -40,7 +40,7 @@ FollowIs before after failed told (Ok false) =
     Keeps before after × (failed ≡ false) × BeginsWith after [] HasNoStatus
 FollowIs before after failed told (Err fault) =
     ((p : Play) → p.told ≡ told → BeginsWith before []
-    (Explains false ⊥ ⊥ (λ open_ digest. ⊥) (tried p ∷ []) fault)) × IsDueTo failed false fault
+    (Explains false ⊥ ⊥ (λ open_ head. ⊥) (tried p ∷ []) fault)) × IsDueTo failed false fault
 
 module _ (step : Step) (zone : Zone) (digest_of : DigitsOf) (trusted : Type 0)
     (stood stands : List Terminal → Room → Type 0)

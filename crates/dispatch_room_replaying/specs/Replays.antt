@@ -16,7 +16,7 @@ use Rattle.dispatch_room_replaying.specs.declared.faults.ReplayFault.{ReplayFaul
 use Rattle.dispatch_room_replaying.specs.declared.faults.ReplayFault.TheVariants.{Bad, Differs, Another, ReadFailed, WriteFailed, Want}
 use Rattle.dispatch_room_replaying.specs.declared.faults.Stopped.{Stopped}
 use Rattle.dispatch_room_replaying.specs.declared.replaying.Replayed.{Replayed}
-use Rattle.dispatch_room_replaying.specs.Turns.{Open, Play, Turn, head, answered, caught_up, tried, left_out, timed, entries_of, arrivals_of, bytes_of, has_message, ends_open, ends_unanswered, IsReplayed}
+use Rattle.dispatch_room_replaying.specs.Turns.{Open, Play, Turn, compared, answered, caught_up, tried, left_out, timed, entries_of, arrivals_of, bytes_of, has_message, ends_open, ends_unanswered, IsReplayed}
 use Rattle.dispatch_room_replaying.specs.Turns.{HasNoStatus, BeginsWith, AreTurns, EndsAt}
 use Rattle.dispatch_room_replaying.specs.Faults.{Explains, IsDueTo}
 
@@ -27,10 +27,10 @@ module _ (step : Step) (zone : Zone) (digest_of : DigitsOf) (terminals : List Te
 
   -- the room after a turn: a head's digest is that of the room
   abbrev pub Does : Room → Turn → Room → Type 0
-  Does room (head digest) after = (after ≡ room) × (IsHeadOf digest_of digest terminals room)
+  Does room (compared head) after = (after ≡ room) × (IsHeadOf digest_of head terminals room)
   Does room (answered p status) after = Answers room p after
-  Does room (caught_up p digest) after = (¬ (IsHeadOf digest_of digest terminals room))
-      × Answers room p after × (IsHeadOf digest_of digest terminals after)
+  Does room (caught_up p head) after = (¬ (IsHeadOf digest_of head terminals room))
+      × Answers room p after × (IsHeadOf digest_of head terminals after)
   Does room (tried p) after = Answers room p after
   Does room (left_out at sent) after = after ≡ room
 
@@ -51,27 +51,27 @@ Leads step zone digest_of trusted stood stands ts =
 abbrev pub MeetsHead : Step → Zone → DigitsOf → Type 0 → (List Terminal → Room → Type 0)
     → List Turn → List ℕ → Type 0
 MeetsHead step zone digest_of trusted stood ts rest =
-    (digest : Head) (more : List ℕ) → Begins rest (entry.room digest) more
+    (head : Head) (more : List ℕ) → Begins rest (entry.room head) more
     → trusted → (terminals : List Terminal) (held : Room) → stood terminals held
     → (after : Room) × IsReplay step zone digest_of terminals held ts after
-    × (IsHeadOf digest_of digest terminals after)
+    × (IsHeadOf digest_of head terminals after)
 
--- an open message would lead a room to another digest than this, if there is one
+-- an open message would lead a room to another digest than this head tells, if there is one
 abbrev pub WouldMiss : Step → Zone → DigitsOf → List Terminal → Room → Option Open → Head → Type 0
-WouldMiss step zone digest_of terminals room None digest = ⊤
-WouldMiss step zone digest_of terminals room (Some open_) digest =
+WouldMiss step zone digest_of terminals room None head = ⊤
+WouldMiss step zone digest_of terminals room (Some open_) head =
     (whole : WholeMessage) × HasMessage open_.1 whole []
-    × LeadsToAnother step zone digest_of terminals room (arrived whole, open_.0) digest
+    × LeadsToAnother step zone digest_of terminals room (arrived whole, open_.0) head
 
--- The same, to a room that has another digest than this, and would have another one after an open
--- message, if there is one. That message was not done.
+-- The same, to a room that has another digest than this head tells, and would have another one
+-- after an open message, if there is one. That message was not done.
 abbrev pub LeadsElsewhere : Step → Zone → DigitsOf → Type 0 → (List Terminal → Room → Type 0)
     → (List Terminal → Room → Type 0) → List Turn → Option Open → Head → Type 0
-LeadsElsewhere step zone digest_of trusted stood stands ts open_ digest =
+LeadsElsewhere step zone digest_of trusted stood stands ts open_ head =
     trusted → (terminals : List Terminal) (room : Room) → stood terminals room
     → (after : Room) × IsReplay step zone digest_of terminals room ts after
-    × (¬ (IsHeadOf digest_of digest terminals after))
-    × WouldMiss step zone digest_of terminals after open_ digest × stands terminals after
+    × (¬ (IsHeadOf digest_of head terminals after))
+    × WouldMiss step zone digest_of terminals after open_ head × stands terminals after
 
 -- as `Leads`, and what is played is a talk
 abbrev pub LeadsTalking : Step → Zone → DigitsOf → Type 0 → (List Terminal → Room → Type 0)

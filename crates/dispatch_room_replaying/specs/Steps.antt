@@ -29,15 +29,16 @@ abbrev pub Stays : Type 0 → (List Terminal → Room → Type 0) → (List Term
 Stays trusted stood stands = trusted → (terminals : List Terminal) (room : Room)
     → stood terminals room → stands terminals room
 
--- the room has this digest
+-- the room has the digest of this head
 abbrev pub IsAt : DigitsOf → Type 0 → (List Terminal → Room → Type 0) → Head → Type 0
-IsAt digest_of trusted stood digest = trusted → (terminals : List Terminal) (held : Room)
-    → stood terminals held → IsHeadOf digest_of digest terminals held
+IsAt digest_of trusted stood head = trusted → (terminals : List Terminal) (held : Room)
+    → stood terminals held → IsHeadOf digest_of head terminals held
 
 -- a head that stands next is the room's
 abbrev pub HasItsHead : DigitsOf → Type 0 → (List Terminal → Room → Type 0) → List ℕ → Type 0
 HasItsHead digest_of trusted stood rest =
-    (digest : Head) (more : List ℕ) → Begins rest (room digest) more → IsAt digest_of trusted stood digest
+    (head : Head) (more : List ℕ) → Begins rest (room head) more
+    → IsAt digest_of trusted stood head
 
 -- The bytes are one message, and the room answered it; or nothing was done, and why.
 abbrev pub Plays : {A : Type 0} → Step → Zone → Type 0 → (List Terminal → Room → Type 0)
@@ -52,7 +53,7 @@ Plays step zone trusted stood stands at sent (Err fault) =
 
 -- the entry is a head or a status
 abbrev pub IsMark : Entry → Type 0
-IsMark (room digest) = ⊤
+IsMark (room head) = ⊤
 IsMark (message at sent) = ⊥
 IsMark (answer status) = ⊤
 
@@ -77,15 +78,15 @@ module _ (step : Step) (zone : Zone) (digest_of : DigitsOf) (trusted : Type 0)
   -- this line is a head of another room than the message would lead to
   abbrev pub IsAstray : ℕ → List ℕ → Line → ReplayFault → Type 0
   IsAstray at sent line fault =
-      (fault ≡ Another) × (digest : Head) × (line ≡ line_of (room digest))
-      × LeadsElsewhere step zone digest_of trusted stood stands [] (Some (at, sent)) digest
+      (fault ≡ Another) × (head : Head) × (line ≡ line_of (room head))
+      × LeadsElsewhere step zone digest_of trusted stood stands [] (Some (at, sent)) head
 
   -- a message is played for this line: it is a status, or a head to which the room has not come
   abbrev pub IsPlayedForLine : Line → Type 0
   IsPlayedForLine line =
       ((status : ℕ) × (line ≡ line_of (answer status)))
-      ⊎ ((digest : Head) × (line ≡ line_of (room digest))
-      × LeadsElsewhere step zone digest_of trusted stood stands [] None digest)
+      ⊎ ((head : Head) × (line ≡ line_of (room head))
+      × LeadsElsewhere step zone digest_of trusted stood stands [] None head)
 
   -- why a message before this line is not played: memory or storage is wanting, or its bytes are no
   -- message, and it was to be played
@@ -100,26 +101,26 @@ module _ (step : Step) (zone : Zone) (digest_of : DigitsOf) (trusted : Type 0)
       ⊎ ((p : Play) × (p.at ≡ at) × (p.sent ≡ sent) × IsPlay p
       × Leads step zone digest_of trusted stood stands (tried p ∷ []) × Deviates p line fault)
 
-  -- the message was played, and the room has come to this digest
+  -- the message was played, and the room has come to the digest of this head
   abbrev pub ComesTo : ℕ → List ℕ → Head → Type 0
-  ComesTo at sent digest =
+  ComesTo at sent head =
       (p : Play) × (p.at ≡ at) × (p.sent ≡ sent) × IsPlay p
       × (trusted → (terminals : List Terminal) (room : Room) → stood terminals room
       → (after : Room) × IsReplyTo step zone terminals room (timed p) after p.told
-      × (IsHeadOf digest_of digest terminals after) × stands terminals after)
+      × (IsHeadOf digest_of head terminals after) × stands terminals after)
 
-  -- where the room has another digest than this, so it would have after the message
+  -- where the room has another digest than this head tells, so it would have after the message
   abbrev pub Misses : ℕ → List ℕ → Head → Type 0
-  Misses at sent digest =
+  Misses at sent head =
       trusted → (terminals : List Terminal) (held : Room) → stood terminals held
-      → (¬ (IsHeadOf digest_of digest terminals held))
-      → WouldMiss step zone digest_of terminals held (Some (at, sent)) digest
+      → (¬ (IsHeadOf digest_of head terminals held))
+      → WouldMiss step zone digest_of terminals held (Some (at, sent)) head
 
-  -- the room has come to this digest by the message; or nothing was done, and why
+  -- the room has come to the digest of this head by the message; or nothing was done, and why
   abbrev pub PlaysTowards : {A : Type 0} → ℕ → List ℕ → Head → Result A ReplayFault → Type 0
-  PlaysTowards at sent digest (Ok done) = ComesTo at sent digest
-  PlaysTowards at sent digest (Err fault) = Stays trusted stood stands
-      × (Refuses sent fault ⊎ ((fault ≡ Another) × Misses at sent digest))
+  PlaysTowards at sent head (Ok done) = ComesTo at sent head
+  PlaysTowards at sent head (Err fault) = Stays trusted stood stands
+      × (Refuses sent fault ⊎ ((fault ≡ Another) × Misses at sent head))
 
   -- What becomes of a message before this line: it takes the line's entry with it, or is left out.
   -- It is left out before no status, and before a head only where the room has the head's digest.
@@ -128,7 +129,7 @@ module _ (step : Step) (zone : Zone) (digest_of : DigitsOf) (trusted : Type 0)
       (e : Entry) × IsMark e × (line ≡ line_of e) × TurnOf at sent (e ∷ []) false
   Settles at sent line (Ok false) =
       TurnOf at sent [] true × ((status : ℕ) → ¬ (line ≡ line_of (answer status)))
-      × ((digest : Head) → line ≡ line_of (room digest) → IsAt digest_of trusted stood digest)
+      × ((head : Head) → line ≡ line_of (room head) → IsAt digest_of trusted stood head)
   Settles at sent line (Err fault) = StopsAt at sent line fault
 
   -- Why it stopped, after a head or not, with the text before: nothing more was done, or one
@@ -164,12 +165,12 @@ module _ (step : Step) (zone : Zone) (digest_of : DigitsOf) (trusted : Type 0)
     MessageIs at (Err fault) =
         (last : List Turn) × StopsIn true before (Some at) true fault failed false last
 
--- the room has another digest than this, and no message is open
+-- the room has another digest than this head tells, and no message is open
 abbrev pub IsElsewhere : DigitsOf → Type 0 → (List Terminal → Room → Type 0)
     → (List Terminal → Room → Type 0) → Option Open → Head → Type 0
-IsElsewhere digest_of trusted stood stands open_ digest =
+IsElsewhere digest_of trusted stood stands open_ head =
     (open_ ≡ None) × (trusted → (terminals : List Terminal) (held : Room) → stood terminals held
-    → (¬ (IsHeadOf digest_of digest terminals held)) × stands terminals held)
+    → (¬ (IsHeadOf digest_of head terminals held)) × stands terminals held)
 
 module _ (digest_of : DigitsOf) (trusted : Type 0) (stood stands : List Terminal → Room → Type 0)
     (before after : Option (List ℕ)) (failed : Bool) where
@@ -177,10 +178,10 @@ module _ (digest_of : DigitsOf) (trusted : Type 0) (stood stands : List Terminal
   -- message, which is at the front; or the end. A head came before a message.
   abbrev pub NextIs : Option ℕ → Bool → List ℕ → Result Next ReplayFault → Type 0
   NextIs until begun kept (Ok next.Head) =
-      (digest : Head) × IsEntry (room digest)
-      × Consumes before after (texts_of (room digest ∷ [])) × (failed ≡ false)
+      (head : Head) × IsEntry (room head)
+      × Consumes before after (texts_of (room head ∷ [])) × (failed ≡ false)
       × (trusted → (terminals : List Terminal) (held : Room) → stood terminals held
-      → (IsHeadOf digest_of digest terminals held) × stands terminals held)
+      → (IsHeadOf digest_of head terminals held) × stands terminals held)
   NextIs until begun kept (Ok (next.Message at layout)) =
       (sent : List ℕ) × IsLayout kept layout (message at sent) × IsBy until (message at sent)
       × Keeps before after

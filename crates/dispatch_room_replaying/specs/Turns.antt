@@ -25,7 +25,7 @@ pub record Play : Type 0 where
 -- none, is played before a head to which the room has not come, and comes by it (`caught_up`), or
 -- without a look at what follows it (`tried`), or it is left out.
 pub data Turn : Type 0 where
-  head : Head → Turn
+  compared : Head → Turn
   answered : Play → ℕ → Turn
   caught_up : Play → Head → Turn
   tried : Play → Turn
@@ -33,41 +33,41 @@ pub data Turn : Type 0 where
 
 -- the entries of a turn
 abbrev pub entries_in : Turn → List Entry
-entries_in (head digest) = room digest ∷ []
+entries_in (compared head) = room head ∷ []
 entries_in (answered p status) = message p.at p.sent ∷ answer status ∷ []
-entries_in (caught_up p digest) = message p.at p.sent ∷ room digest ∷ []
+entries_in (caught_up p head) = message p.at p.sent ∷ room head ∷ []
 entries_in (tried p) = message p.at p.sent ∷ []
 entries_in (left_out at sent) = message at sent ∷ []
 
 -- the message of a turn that is played
 abbrev pub plays_in : Turn → List Play
-plays_in (head digest) = []
+plays_in (compared head) = []
 plays_in (answered p status) = p ∷ []
-plays_in (caught_up p digest) = p ∷ []
+plays_in (caught_up p head) = p ∷ []
 plays_in (tried p) = p ∷ []
 plays_in (left_out at sent) = []
 
 -- the turn has a message
 abbrev pub has_message : Turn → Bool
-has_message (head digest) = false
+has_message (compared head) = false
 has_message (answered p status) = true
-has_message (caught_up p digest) = true
+has_message (caught_up p head) = true
 has_message (tried p) = true
 has_message (left_out at sent) = true
 
 -- the turn leaves a message out
 abbrev pub is_left_out : Turn → Bool
-is_left_out (head digest) = false
+is_left_out (compared head) = false
 is_left_out (answered p status) = false
-is_left_out (caught_up p digest) = false
+is_left_out (caught_up p head) = false
 is_left_out (tried p) = false
 is_left_out (left_out at sent) = true
 
 -- the turn has a message, and no entry after it
 abbrev pub is_unanswered : Turn → Bool
-is_unanswered (head digest) = false
+is_unanswered (compared head) = false
 is_unanswered (answered p status) = false
-is_unanswered (caught_up p digest) = false
+is_unanswered (caught_up p head) = false
 is_unanswered (tried p) = true
 is_unanswered (left_out at sent) = true
 
@@ -101,32 +101,32 @@ IsPlay p = HasMessage p.sent p.whole []
 
 -- what is played is a message, and the status that was recorded is that of the answer
 abbrev pub IsTurn : Turn → Type 0
-IsTurn (head digest) = ⊤
+IsTurn (compared head) = ⊤
 IsTurn (answered p status) = IsPlay p × (status_in p.told ≡ decimal status)
-IsTurn (caught_up p digest) = IsPlay p
+IsTurn (caught_up p head) = IsPlay p
 IsTurn (tried p) = IsPlay p
 IsTurn (left_out at sent) = ⊤
 
 -- a turn of a replay: an open message is played only before a head to which the room has not come
 abbrev pub IsReplayed : Turn → Type 0
-IsReplayed (head digest) = ⊤
+IsReplayed (compared head) = ⊤
 IsReplayed (answered p status) = ⊤
-IsReplayed (caught_up p digest) = ⊤
+IsReplayed (caught_up p head) = ⊤
 IsReplayed (tried p) = ⊥
 IsReplayed (left_out at sent) = ⊤
 
 -- a turn in which each message is played as soon as it is whole
 abbrev pub IsPlayed : Turn → Type 0
-IsPlayed (head digest) = ⊤
+IsPlayed (compared head) = ⊤
 IsPlayed (answered p status) = ⊤
-IsPlayed (caught_up p digest) = ⊥
+IsPlayed (caught_up p head) = ⊥
 IsPlayed (tried p) = ⊤
 IsPlayed (left_out at sent) = ⊥
 
 -- a message's moment is not after this one, if there is one
 abbrev pub IsBy : Option ℕ → Entry → Type 0
 IsBy None e = ⊤
-IsBy (Some until) (room digest) = ⊤
+IsBy (Some until) (room head) = ⊤
 IsBy (Some until) (message at sent) = at ≤ until
 IsBy (Some until) (answer status) = ⊤
 
@@ -137,7 +137,7 @@ IsAfter (Some until) at = until < at
 
 -- the first turn is a head
 abbrev pub IsBegun : List Turn → Type 0
-IsBegun ts = (digest : Head) × (more : List Turn) × (ts ≡ head digest ∷ more)
+IsBegun ts = (head : Head) × (more : List Turn) × (ts ≡ compared head ∷ more)
 
 -- a head came, and then it was the first; or nothing came
 abbrev pub StartsBy : Bool → List Turn → Type 0

@@ -15,6 +15,7 @@ use Rattle.room_model.specs.WellFormed.{IsWellFormed}
 use Rattle.room_http_time.specs.declared.zones.Zone.{Zone}
 use Rattle.room_store.specs.Keeping.{IsKept, IsRoom, LeavesOneOf}
 use Rattle.room_store.specs.declared.store.Store.{Store}
+use Rattle.room_store_writes.specs.Houses.{house_of}
 use Rattle.room_tables.specs.Stands.{Stands}
 use Rattle.room_http.specs.Runs.{Exchange, IsRun, room_by}
 use Rattle.room_http.specs.Course.{AreFirstIn}
@@ -193,10 +194,16 @@ module _ {S : Type 0} where
   pub go_on_none : GoOn {S = S} []
   go_on_none = All-nil GoesOn
 
+  -- what holds of each connection of some calls and of that of one more
+  pub each_more : (Holds : Conversation S → Type 0) (calls : List (Option (Conversation S)))
+      (call : Option (Conversation S)) → All Holds (connected calls)
+      → All Holds (connected (call ∷ [])) → All Holds (connected (calls ++ call ∷ []))
+  each_more Holds calls call before last =
+      rw (connected_more calls (call ∷ [])) (All-append Holds (connected calls) (connected (call ∷ [])) before last)
+
   pub go_on_more : (calls : List (Option (Conversation S))) (call : Option (Conversation S))
       → GoOn calls → Ok tt ≡ done_or (option_and_then fault_after call) → GoOn (calls ++ call ∷ [])
-  go_on_more calls call go is =
-      rw (connected_more calls (call ∷ [])) (All-append GoesOn (connected calls) (connected (call ∷ [])) go (go_on_one call is))
+  go_on_more calls call go is = each_more GoesOn calls call go (go_on_one call is)
 
   pub ends_after : (calls : List (Option (Conversation S))) (call : Option (Conversation S))
       (most : ℕ) (fault : Failure) → GoOn calls → length calls < most
@@ -211,7 +218,7 @@ pub leaves_kept : {S : Type 0} (g : Ghosts S) (store : Store S) (terminals : Lis
     (room : Room) → IsRoom g store terminals room → IsKept g store
     → LeavesOneOf g store terminals (room ∷ [])
 leaves_kept g store terminals room is kept db left =
-    inl (subst (λ (trees : Trees). Stands trees (record { zone = store.plan.zone; terminals = terminals }) room) (sym (kept.alone db left)) (is.tables kept.is_open))
+    inl (subst (λ (trees : Trees). Stands trees (house_of store.plan terminals) room) (sym (kept.alone db left)) (is.tables kept.is_open))
 
 -- more is served only with a store that is sound
 sound_of_none : (end : ServeEnd) (is_sound : Bool) → fault_by end is_sound ≡ None
@@ -304,7 +311,7 @@ module _ {S : Type 0} (g : Ghosts S) (zone : Zone) (came_text : ℕ → List ℕ
           counted = rw length-append (ap (λ n. n + 1) before.counted);
           go_on = go_on_more before.calls call before.go_on on;
           attended = attended_more g zone came_text told_text before.calls (call ∷ []) first old new before.attended next;
-          kept = λ clean kept. rw (connected_more before.calls (call ∷ [])) (All-append (λ c. IsKept g c.from) (connected before.calls) (connected (call ∷ [])) (before.kept (next.trusted clean) kept) (one clean kept).0);
+          kept = λ clean kept. each_more (λ c. IsKept g c.from) before.calls call (before.kept (next.trusted clean) kept) (one clean kept).0;
           is_kept = λ clean kept. (one clean kept).1;
         };
   }
@@ -316,4 +323,5 @@ module _ {S : Type 0} (g : Ghosts S) (zone : Zone) (came_text : ℕ → List ℕ
       → AreKept g zone came_text told_text (connected (before.calls ++ call ∷ [])) first (HasCleanDisk (state g new.stage.store.conn))
   kept_ending call first old new count before next clean kept =
       let here = next.trusted clean in
-      rw (connected_more before.calls (call ∷ [])) (All-append (λ c. IsKept g c.from) (connected before.calls) (connected (call ∷ [])) (before.kept here kept) (kept_at g zone came_text told_text call old.stage new.stage next.in_turn (before.is_kept here kept)))
+      let last = kept_at g zone came_text told_text call old.stage new.stage next.in_turn (before.is_kept here kept) in
+      each_more (λ c. IsKept g c.from) before.calls call (before.kept here kept) last

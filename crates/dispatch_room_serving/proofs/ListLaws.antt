@@ -41,9 +41,10 @@ use Rattle.room_http.proofs.TalkLemmas.{IsTalk-one}
 use Rattle.room_store.specs.Keeping.{IsKept, IsRoom, LeavesOneOf}
 use Rattle.room_store.specs.declared.store.Store.{Store}
 use Rattle.room_store_digest.specs.Texts.{digest_of}
+use Rattle.room_store_writes.specs.Houses.{house_of}
 use Rattle.room_tables.specs.Stands.{Stands}
 use Rattle.room_tables_rows.proofs.OneRoom.{one_room}
-use Rattle.dispatch_room_journal.specs.Ends.{Follows}
+use Rattle.dispatch_room_journal.specs.Ends.{Follows, IsCutTo}
 use Rattle.dispatch_room_journal.specs.Entries.{Entry, room as head_entry, IsDigest, IsEntry, IsPart, texts_of}
 use Rattle.dispatch_room_journal.specs.Records.{answer_text, message_text, room_text}
 use Rattle.dispatch_room_journal.proofs.DigestLemmas.{digits_of as are_digits}
@@ -52,11 +53,11 @@ use Rattle.dispatch_room_replaying.specs.Turns.{left_out}
 use Rattle.dispatch_room_replaying.proofs.KeptTurns.{Come, Ready, Settled, come_course, come_front, come_head, come_moved, come_none, come_record, come_same, come_settled, come_short, come_still, come_unwritten, ends_open-push, left_open, no_answer, settle_record, settle_wanting}
 use Rattle.dispatch_room_replaying.proofs.TurnLemmas.{begun-append}
 use Rattle.dispatch_room_serving.specs.Connections.{AreNext, AreServed, Conversation, GoOnBefore, GoesOn, IsNext, IsServed, Service, Stage, connected, fault_by, stage_after}
-use Rattle.dispatch_room_serving.specs.Lists.{AreGiven, AreParts, HasNoTwin, IsCutTo, IsListOf, IsPartOf, ListIsTheRoom, Part, ServedKeepsItsPart}
+use Rattle.dispatch_room_serving.specs.Lists.{AreGiven, AreParts, HasNoTwin, IsListOf, IsPartOf, ListIsTheRoom, Part, ServedKeepsItsPart}
 use Rattle.dispatch_room_serving.specs.Rooms.{IsDigestOf, IsHead}
 use Rattle.dispatch_room_serving.specs.Starts.{AreStarts, IsStart, IsTrusted, OfLast, Start, connections, left_by}
 use Rattle.dispatch_room_serving.proofs.ConnectionLaws.{clean_before, kept_after, leaves_kept}
-use Rattle.dispatch_room_serving.proofs.StartLaws.{all_kept, clean_first, house, joined, leaves_first, one_zone, opens, opens_it, served_start}
+use Rattle.dispatch_room_serving.proofs.StartLaws.{all_kept, clean_first, joined, leaves_first, one_zone, opens, opens_it, served_start}
 
 -- ---- what is known of a tape
 appended : (old new : Option (List ℕ)) (list bytes : List ℕ) → old ≡ Some list
@@ -112,7 +113,7 @@ module _ {S : Type 0} where
 -- ---- answers in another zone that the same text tells
 module _ (text : List ℕ) (a b : Zone) (in_a : IsPosixZone text (zone_of a))
     (in_b : IsPosixZone text (zone_of b)) (terminals : List Terminal) where
-  reply_in : (room : Room) (x : Timed) (after : Room) (bytes : List ℕ)
+  pub reply_in : (room : Room) (x : Timed) (after : Room) (bytes : List ℕ)
       → IsReplyTo machine a terminals room x after bytes
       → IsReplyTo machine b terminals room x after bytes
   reply_in room x after bytes reply = (reply.0, found_in text a b in_a in_b terminals x reply.0 reply.1, reply.2, reply.3)
@@ -229,7 +230,7 @@ module _ {S : Type 0} (g : Ghosts S) where
   one_of : (store : Store S) (terminals : List Terminal) (room other : Room)
       → IsRoom g store terminals room → IsRoom g store terminals other → IsKept g store → room ≡ other
   one_of store terminals room other is also kept =
-      one_room (state g store.conn).now.trees (house store terminals) (house store terminals) room other (is.tables kept.is_open) (also.tables kept.is_open)
+      one_room (state g store.conn).now.trees (house_of store.plan terminals) (house_of store.plan terminals) room other (is.tables kept.is_open) (also.tables kept.is_open)
 
   -- the room after what was answered, or the one after the last arrival
   module _ (zone : Zone) (terminals : List Terminal) (c : Conversation S) (now after : Room)
@@ -241,7 +242,7 @@ module _ {S : Type 0} (g : Ghosts S) where
       (came : IsCome message_text answer_text x coming) (db : Trees)
       (left : (state g c.store.conn).may_leave db) where
     abbrev StandsFor : Room → Type 0
-    StandsFor room = Stands db (house c.store terminals) room
+    StandsFor room = Stands db (house_of c.store.plan terminals) room
 
     abbrev OneOf : Type 0
     OneOf = StandsFor after
@@ -308,7 +309,7 @@ record Ends {S : Type 0} (g : Ghosts S) (terminals : List Terminal) (Comes : Roo
   come : Comes now
   is : IsRoom g store terminals now
   leaves : (db : Trees) → (state g store.conn).may_leave db
-      → (room : Room) × Comes room × Stands db (house store terminals) room
+      → (room : Room) × Comes room × Stands db (house_of store.plan terminals) room
 
 module _ {S : Type 0} (g : Ghosts S) (zone : Zone) (text : List ℕ)
     (in_zone : IsPosixZone text (zone_of zone)) (terminals : List Terminal) (held : Room) where

@@ -12,27 +12,27 @@ use Rattle.room_service.specs.Digests.{DigitsOf, digits_of}
 use Rattle.room_service.specs.Rooms.{machine}
 use Rattle.room_http_time.specs.Days.{zone_of}
 use Rattle.room_http_time.specs.declared.zones.Zone.{Zone}
-use Rattle.room_http.proofs.ExchangeLemmas.{found_in}
 use Rattle.room_store.specs.Keeping.{IsRoom}
 use Rattle.room_store.specs.declared.store.Store.{Store}
 use Rattle.room_store_digest.specs.Texts.{digest_of}
 use Rattle.dispatch_room_replaying.specs.Replays.{Answers, Does, IsReplay, Replays}
-use Rattle.dispatch_room_replaying.specs.Turns.{Play, Turn, answered, caught_up, head, left_out, timed, tried}
+use Rattle.dispatch_room_replaying.specs.Turns.{Play, Turn, answered, caught_up, compared, left_out, timed, tried}
 use Rattle.dispatch_room_replaying.proofs.WholeLaws.{whole_law}
 use Rattle.dispatch_room_serving.specs.Lists.{ListIsReplayed}
+use Rattle.dispatch_room_serving.proofs.ListLaws.{reply_in}
 
 -- ---- a replay in another zone that the same text tells
 module _ (text : List ℕ) (a b : Zone) (in_a : IsPosixZone text (zone_of a))
     (in_b : IsPosixZone text (zone_of b)) (digits : DigitsOf) (terminals : List Terminal) where
   play_in : (room : Room) (p : Play) (after : Room)
       → Answers machine a digits terminals room p after → Answers machine b digits terminals room p after
-  play_in room p after is = (is.0, found_in text a b in_a in_b terminals (timed p) is.0 is.1, is.2, is.3)
+  play_in room p after is = reply_in text a b in_a in_b terminals room (timed p) after p.told is
 
   turn_in : (room : Room) (t : Turn) (after : Room) → Does machine a digits terminals room t after
       → Does machine b digits terminals room t after
-  turn_in room (head digest) after is = is
+  turn_in room (compared head) after is = is
   turn_in room (answered p status) after is = play_in room p after is
-  turn_in room (caught_up p digest) after is = (is.0, play_in room p after is.1, is.2)
+  turn_in room (caught_up p head) after is = (is.0, play_in room p after is.1, is.2)
   turn_in room (tried p) after is = play_in room p after is
   turn_in room (left_out at sent) after is = is
 
@@ -45,8 +45,10 @@ module _ (text : List ℕ) (a b : Zone) (in_a : IsPosixZone text (zone_of a))
 pub list_is_replayed_law : {S T : Type 0} (g : Ghosts S) (h : Ghosts T) → ListIsReplayed g h
 list_is_replayed_law g h terminals here there text starts room list in_here in_there of old new read_failed result same clean is replays =
     let digits : DigitsOf = digits_of digest_of text in
-    let given = whole_law machine digits (λ (s : Store _). HasCleanDisk (state h s.conn)) (λ (s : Store _). IsRoom h s) there terminals room of.after of.turns of.are_turns of.replayed of.entries of.begun
+    let clean_new = HasCleanDisk (state h new.conn) in
+    let of_text = subst (λ (z : List ℕ). Replays machine there (digits_of digest_of z) clean_new (IsRoom h old) (IsRoom h new) (Some list) None read_failed result) same replays in
+    let given = whole_law machine digits (λ (s : Store _). HasCleanDisk (state h s.conn)) (λ (s : Store _). IsRoom h s) there terminals room of.after of.turns of.are_turns of.replayed
+    of.entries of.begun
     (replay_in text here there in_here in_there digits terminals room of.turns of.after of.replay) old new read_failed result
-    (subst (λ (l : List ℕ). Replays machine there digits (HasCleanDisk (state h new.conn)) (IsRoom h old) (IsRoom h new) (Some l) None read_failed result) (sym of.text)
-    (subst (λ (z : List ℕ). Replays machine there (digits_of digest_of z) (HasCleanDisk (state h new.conn)) (IsRoom h old) (IsRoom h new) (Some list) None read_failed result) same replays)) clean is in
+    (subst (λ (l : List ℕ). Replays machine there digits clean_new (IsRoom h old) (IsRoom h new) (Some l) None read_failed result) (sym of.text) of_text) clean is in
     MatchResult-weaker result given (λ done it. (it.0, it.1)) (λ stopped it. it)

@@ -26,7 +26,8 @@ use Rattle.room_http.proofs.PromiseLaws.{promises_kept}
 use Rattle.room_http.proofs.RunLemmas.{answered_join, room_split, run_first, run_of}
 use Rattle.room_store.specs.Keeping.{IsKept, IsRoom, LeavesOneOf}
 use Rattle.room_store.specs.declared.store.Store.{Store}
-use Rattle.room_tables.specs.Stands.{House, Stands}
+use Rattle.room_store_writes.specs.Houses.{house_of}
+use Rattle.room_tables.specs.Stands.{Stands}
 use Rattle.dispatch_room_endings.specs.declared.endings.Done.{Done}
 use Rattle.dispatch_room_endings.specs.declared.endings.Failure.{Failure}
 use Rattle.dispatch_room_opening.specs.Opened.{IsOpened, OpensRoom}
@@ -90,12 +91,18 @@ module _ {S : Type 0} (g : Ghosts S) (zone : Zone) (terminals : List Terminal) w
       let after : room_by (done.0 ∷ []) room ≡ (machine event room).0 = run_first done.0.found [] room ∙ ap (λ found. (replied machine found room).0) done.2 in
       (done.0, done.1, done.3, rw after leaves)
 
+  -- a stop leaves the room after these exchanges, or after what arrives next
+  abbrev LeavesOne : Conversation S → Room → List Exchange → Type 0
+  LeavesOne c room xs = LeavesOneOf g c.store terminals (room_by xs room ∷ [])
+      ⊎ ((x : Timed) × AreFirstIn c.course c.before.left c.before.given c.after.given (arrivals_of xs ++ x ∷ [])
+      × LeavesNext machine zone (LeavesOneOf g c.store) x terminals (room_by xs room))
+
   left_one : (came_text : ℕ → List ℕ → List ℕ) (told_text : List ℕ → List ℕ) (stage : Stage S)
       (c : Conversation S) (xs : List Exchange) (room : Room)
       → IsNext g zone came_text told_text stage c → IsServed g zone terminals c xs room
       → IsKept g c.from → Left (c ∷ []) (xs ∷ []) c.store (room_by xs room)
   left_one came_text told_text stage c xs room next is kept =
-      elim (subst (λ ys. LeavesOneOf g c.store terminals (room_by ys room ∷ []) ⊎ ((x : Timed) × AreFirstIn c.course c.before.left c.before.given c.after.given (arrivals_of ys ++ x ∷ []) × LeavesNext machine zone (LeavesOneOf g c.store) x terminals (room_by ys room))) is.exchanged (is.served.kept kept)) [
+      elim (subst (LeavesOne c room) is.exchanged (is.served.kept kept)) [
         | inl alone ↦ inl alone
         | inr (x, first, leaves) ↦
             let within = timed c.course zone c.before c.after _ _ _ _ _ _ c.end next.talk (arrivals_of xs ++ x ∷ []) first.0 in
@@ -168,10 +175,6 @@ module _ {S : Type 0} (g : Ghosts S) (zone : Zone) (came_text : ℕ → List ℕ
   zone_stays (c ∷ cs) stage last next =
       zone_stays cs (stage_after c) last next.1 ∙ next.0.same_zone ∙ ap (λ (s : Stage S). s.store.plan.zone) next.0.begins
 
--- the house of a store
-abbrev pub house : {S : Type 0} → Store S → List Terminal → House
-house store terminals = record { zone = store.plan.zone; terminals = terminals }
-
 -- what was exchanged at a start after which there is none
 abbrev last_done : List Exchange → Exchanged
 last_done xs = record { told = xs; untold = [] }
@@ -224,9 +227,9 @@ module _ {S : Type 0} (g : Ghosts S) (came_text : ℕ → List ℕ → List ℕ)
 
   pub opens_it : (s next : Start S) (terminals : List Terminal) (room : Room)
       → OpensRoom g next.found next.opened
-      → Stands (state g next.found).now.trees (house (left_by s) terminals) room
+      → Stands (state g next.found).now.trees (house_of (left_by s).plan terminals) room
       → ((left_by s).plan.zone ≡ next.opened.plan.zone) × IsRoom g next.opened terminals room
-  opens_it s next terminals room opens stands = opens.2.same (house (left_by s) terminals) room stands
+  opens_it s next terminals room opens stands = opens.2.same (house_of (left_by s).plan terminals) room stands
 
   goes : (s next : Start S) (terminals : List Terminal) (talks : List (List Exchange)) (after : Room)
       → OpensRoom g next.found next.opened → FindsLeft g s next
@@ -391,7 +394,16 @@ served_start g wants begun_text came_text told_text found old new most worked of
       opened = is.first;
       zone = is.zone;
       calls = served.serves.calls;
-      first = record { heard = (old is.first).heard; told = (old is.first).told; stage = record { given = (old is.first).stage.given; kept = served.kept; has_failed = (old is.first).stage.has_failed; store = served.store } };
+      first = record {
+        heard = (old is.first).heard;
+        told = (old is.first).told;
+        stage = record {
+          given = (old is.first).stage.given;
+          kept = served.kept;
+          has_failed = (old is.first).stage.has_failed;
+          store = served.store;
+        };
+      };
       last = new is.last;
     },
     record {

@@ -19,8 +19,8 @@ use Rattle.room_store_digest.specs.Texts.{digest_of}
 use Rattle.room_tables.specs.Stands.{House, Stands}
 use Rattle.dispatch_room_endings.specs.declared.endings.Done.{Done}
 use Rattle.dispatch_room_endings.specs.declared.endings.Failure.{Failure}
-use Rattle.dispatch_room_journal.specs.Ends.{Follows}
-use Rattle.dispatch_room_journal.specs.Entries.{Entry, IsEntry, IsPart, texts_of}
+use Rattle.dispatch_room_journal.specs.Ends.{IsCutTo}
+use Rattle.dispatch_room_journal.specs.Entries.{IsEntry, texts_of}
 use Rattle.dispatch_room_journal.specs.Records.{answer_text, message_text, room_text}
 use Rattle.dispatch_room_replaying.specs.Laws.{IsExcused, answers_to_messages}
 use Rattle.dispatch_room_replaying.specs.Replays.{IsReplay, Replays}
@@ -35,11 +35,6 @@ use Rattle.dispatch_room_serving.specs.Starts.{AreStarts, IsStart, IsTrusted, Of
 pub record Part : Type 0 where
   pub before : List ℕ
   pub after : List ℕ
-
--- what is whole of a text: its entries, but one at the end that is cut short
-abbrev pub IsCutTo : List ℕ → List ℕ → Type 0
-IsCutTo text whole = (entries : List Entry) × (rest : List ℕ) × Follows text entries rest
-    × (whole ≡ texts_of entries) × ((rest ≡ []) ⊎ IsPart rest)
 
 -- the answers that were given on these connections, one after another, and after those of each at
 -- most one that was not written, or not wholly
@@ -126,9 +121,9 @@ module _ {S : Type 0} (g : Ghosts S) where
       → All (HasNoTwin house.terminals) (first ∷ more) → AreParts (first ∷ more) parts [] list
       → IsListOf house.terminals first.zone (digits_at first) (first ∷ more) room list
 
--- Whoever replays such a list to a room that is equal to the first, in whatever storage, in the same
--- zone: it comes to the room to which the list leads, and is told so. It stops only where a read
--- failed, memory or storage was wanting, or the list has more turns than are counted.
+-- Whoever replays such a list to a room that is equal to the first, in whatever storage, in the
+-- same zone: it comes to the room to which the list leads, and is told so. It stops only where a
+-- read failed, memory or storage was wanting, or the list has more turns than are counted.
 abbrev pub ListIsReplayed : {S T : Type 0} → Ghosts S → Ghosts T → Type 0
 ListIsReplayed {S} {T} g h =
     (terminals : List Terminal) (here there : Zone) (text : List ℕ) (starts : List (Start S))

@@ -27,4 +27,5 @@ asked_by Unread = None
 
 -- the text of a line
 abbrev pub text_of : Line → List ℕ
-text_of line = line_text line.at line.asker.who (asked_by line.request) line.status.bytes.now line.millis
+text_of line =
+    line_text line.at line.asker.who (asked_by line.request) line.status.bytes.now line.millis

@@ -27,7 +27,8 @@ abbrev pub IsUnbegun : Failure → Type 0
 IsUnbegun fault = (fault ≡ Network) ⊎ (fault ≡ Journal) ⊎ (fault ≡ Memory) ⊎ (fault ≡ Storage)
 
 module _ {S : Type 0} (g : Ghosts S) where
-  -- The store was looked at, and stands for what it stood for. Where that was kept, a stop leaves it.
+  -- The store was looked at, and stands for what it stood for. Where that was kept, a stop leaves
+  -- it.
   pub record Looks (old new : Store S) : Type 0 where
     pub zone : new.plan.zone ≡ old.plan.zone
     pub trusted : HasCleanDisk (state g new.conn) → HasCleanDisk (state g old.conn)

@@ -1,4 +1,5 @@
--- Starts of a room's service, one after another: each finds what a stop of the one before may leave.
+-- Starts of a room's service, one after another: each finds what a stop of the one before may
+-- leave.
 use Rattle.std.specs.Prelude.{◌≡◌, ◌⊎◌, ⊤, ℕ, List, [], ◌∷◌, ◌++◌, All, Bool, Option, Result}
 use Rattle.jiff.specs.Placed.{IsPosixZone}
 use Rattle.sqlite.specs.Held.{Held, state}

@@ -59,10 +59,10 @@ pub fn serve_each<S: Alter, P: Callers, C: Clock, N: Witness>(
     Ok(Done::Whole)
 }
 
-/// Serves the next call. Where more is served after it, what held after the calls before holds after
-/// one more: so it does after every number of them, however long the room is served. A connection
-/// that ends badly doesn't end the service, but for want of memory, where the witness could not keep
-/// what it was told, and where the store is not sound any longer.
+/// Serves the next call. Where more is served after it, what held after the calls before holds
+/// after one more: so it does after every number of them, however long the room is served. A
+/// connection that ends badly doesn't end the service, but for want of memory, where the witness
+/// could not keep what it was told, and where the store is not sound any longer.
 pub fn serve_next<S: Alter, P: Callers, C: Clock, N: Witness>(
     alloc: Global,
     callers: &mut P,

@@ -1,6 +1,6 @@
 //! A log of what is served: a line for each message.
-ghost use Rattle.std.specs.Prelude.{◌≡◌, [], None, false, true};
-ghost use Rattle.dispatch_room_serving.specs.Logged.{PutsAll, PutsLine, request_of};
+ghost use Rattle.std.specs.Prelude.{◌≡◌, [], None, false};
+ghost use Rattle.dispatch_room_serving.specs.Logged.{Logs, PutsAll, PutsLine, request_of};
 ghost use Rattle.dispatch_room_serving.specs.Logs.{asked_by};
 
 use crate::log_lines::{Asker, Line, Request, Visible, path_of, utc};
@@ -128,10 +128,8 @@ impl<'a, E: Write, T: Clock> Witness for Log<'a, E, T> {
 
     // Beside what each witness ensures: the line is written, unless the log is none or given up.
     fn answered(&mut self, asked: &Asked<'_>, answer: &[u8])
-        ensures line { self.old.goes_on ≡ true → PutsLine self.new.goes_on
-            (E.contents self.old.out.now) (E.contents self.new.out.now) asked.now answer.now }
-        ensures silent { self.old.goes_on ≡ false
-            → E.contents self.new.out.now ≡ E.contents self.old.out.now }
+        ensures logged { Logs self.old.goes_on self.new.goes_on (E.contents self.old.out.now)
+            (E.contents self.new.out.now) asked.now answer.now }
     {
         if self.goes_on {
             self.goes_on = self.put(asked, answer);

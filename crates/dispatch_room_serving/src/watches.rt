@@ -2,6 +2,7 @@
 ghost use Rattle.std.specs.Prelude.{◌≡◌, is_some};
 ghost use Rattle.dispatch_room_journal.specs.Records.{answer_text, message_text, room_text};
 ghost use Rattle.dispatch_room_serving.specs.Journals.{failed_by, held_by};
+ghost use Rattle.dispatch_room_serving.specs.Logged.{Logs};
 
 use crate::journals::{Journal, Synced};
 use crate::logs::Log;
@@ -53,7 +54,13 @@ impl<'a, E: Write, T: Clock, W: Synced> Witness for Watch<'a, E, T, W> {
         }
     }
 
-    fn answered(&mut self, asked: &Asked<'_>, answer: &[u8]) {
+    // Beside what each witness ensures: the line is written, unless the log is none or given up.
+    fn answered(&mut self, asked: &Asked<'_>, answer: &[u8])
+        ensures kept { self.new.journal ≡ self.old.journal }
+        ensures logged { Logs self.old.log.goes_on self.new.log.goes_on
+            (E.contents self.old.log.out.now) (E.contents self.new.log.out.now) asked.now
+            answer.now }
+    {
         self.log.answered(asked, answer);
     }
 }

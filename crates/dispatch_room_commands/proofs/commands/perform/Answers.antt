@@ -1,5 +1,8 @@
 use Rattle.dispatch_room_commands.proofs.commands.perform.Goals as goal
 
+pub returns-in-Serve-clause-done : goal.returns-in-Serve-clause-done
+returns-in-Serve-clause-done g c = rw c.in-Serve.is c.serve_file.ensures.done
+
 pub returns-in-Serve-clause-undone : goal.returns-in-Serve-clause-undone
 returns-in-Serve-clause-undone g c = rw c.in-Serve.is c.serve_file.ensures.undone
 

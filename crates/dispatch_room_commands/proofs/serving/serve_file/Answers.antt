@@ -1,9 +1,8 @@
-use Rattle.std.proofs.Common.{inr}
-use Rattle.std.proofs.lemmas.Result.{IfErr-weaker, IfOk-weaker}
+use Rattle.std.proofs.Common.{inr, refl}
 use Rattle.dispatch_room_commands.proofs.serving.serve_file.Goals as goal
 
-pub returns-clause-done : goal.returns-clause-done
-returns-clause-done g c = IfOk-weaker c.in_file.result _ _ (λ done is. rw c.in_ok-journal.ensures.file at is) c.in_file.ensures.done
+pub returns-in-Ok-clause-done : goal.returns-in-Ok-clause-done
+returns-in-Ok-clause-done g c = (c.new-listener.result, c.in-Ok.served, rw c.in_ok-journal.ensures.file at c.in-Ok.ensures.done, refl)
 
 pub returns-clause-undone : goal.returns-clause-undone
-returns-clause-undone g c = IfErr-weaker c.in_file.result _ _ (λ fault is. inr (rw c.in_ok-journal.ensures.file at is)) c.in_file.ensures.undone
+returns-clause-undone g c = inr (c.new-listener.result, rw c.in_ok-journal.ensures.file at c.in-Err.ensures.undone)

@@ -1,5 +1,6 @@
 use Rattle.std.proofs.Common.{◌≡◌, ◌∙◌, ap, arith, refl, ◌+◌, ◌++◌, ◌∷◌, [], length-append, min, inl, inr, rules}
-use Rattle.dispatch_room_journal.specs.Ends.{EndsWhole, most_bytes}
+use Rattle.dispatch_room_journal.specs.Ends.{IsCutTo, most_bytes}
+use Rattle.dispatch_room_journal.specs.Entries.{texts_of}
 use Rattle.dispatch_room_journal.proofs.EndLemmas.{nothing_taken, taken_kept, taken_more}
 use Rattle.dispatch_room_journal.proofs.ends.whole_bytes.Goals as goal
 
@@ -30,28 +31,16 @@ returns-in-Ok-None g c = λ text known.
     let taken = c.entries.invariant.taken in
     let follows = taken.1.follows text known in
     let first = (rw c.in-Ok-None.field-0-is at (c.in-Ok-None.ensures.read.first follows.0 follows.1)) in
-    record {
-      entries = taken.0;
-      rest = follows.0;
-      are_entries = taken.1.are_entries;
-      is = follows.2;
-      count = c.taken.ensures ∙ c.in-Ok-None.ensures.taken ∙ taken.1.count;
-      end = inl first;
-    }
+    let whole : IsCutTo text (texts_of taken.0) = (taken.0, follows.0, (taken.1.are_entries, follows.2), refl, inl first) in
+    (texts_of taken.0, whole, c.taken.ensures ∙ c.in-Ok-None.ensures.taken ∙ taken.1.count)
 
 pub returns-in-Err-Cut : goal.returns-in-Err-Cut
 returns-in-Err-Cut g c = λ text known.
     let taken = c.entries.invariant.taken in
     let follows = taken.1.follows text known in
     let first = (rw c.in-Err-Cut.field-0-is at (c.in-Err-Cut.ensures.read.first follows.0 follows.1)) in
-    record {
-      entries = taken.0;
-      rest = follows.0;
-      are_entries = taken.1.are_entries;
-      is = follows.2;
-      count = c.taken-in-Err-Cut.ensures ∙ c.in-Err-Cut.ensures.taken ∙ taken.1.count;
-      end = inr first.1;
-    }
+    let whole : IsCutTo text (texts_of taken.0) = (taken.0, follows.0, (taken.1.are_entries, follows.2), refl, inr first.1) in
+    (texts_of taken.0, whole, c.taken-in-Err-Cut.ensures ∙ c.in-Err-Cut.ensures.taken ∙ taken.1.count)
 
 -- why no number is told
 pub returns-in-Err-Foreign : goal.returns-in-Err-Foreign

@@ -68,7 +68,8 @@ returns-in-Err-clause-answers g c =
 pub returns-clause-answers : goal.returns-clause-answers
 returns-clause-answers g c =
     let going = c.turns.invariant.going in
-    let stops = exhausted _ _ (digits_of g.M.Digested.digest_of (g.M.Room.zone c.args.room.now)) _ _ _ _ _ None IsPlayed going.0 false c.turns.progress _ _ _ going.1 going.2 c.stopped-2.ensures (omega (arith, going.4))
+    let stops = exhausted _ _ (digits_of g.M.Digested.digest_of (g.M.Room.zone c.args.room.now)) _ _ _ _ _ None IsPlayed going.0 false c.turns.progress _ _ _ going.1 going.2
+    c.stopped-2.ensures (omega (arith, going.4))
     c.turns.invariant.reader c.turns.invariant.writer in
     (going.0, [], stops, ([], ([], refl), subst (λ (t : List ℕ). Appends (g.W.Sink.held c.args.writer.now) (g.W.Sink.held c.turns.writer) t) (sym (append-nil (frames_of going.0))) going.3))
 

@@ -15,7 +15,8 @@ returns-in_default-clause-turn g c =
     let x = c.requires.front in
     let gone = taken _ (g.R.Source.left c.args.reader.now) _ _ c.args.layout.now _ x.1 (Keeps-refl _) refl in (
       [],
-      refused_stops true _ _ (digits_of g.M.Digested.digest_of (g.M.Room.zone c.args.room.now)) _ _ _ _ c.args.at x.0 x.1.begins.0 _ false _ gone (Want Memory) c.requires.sound refl (λ trust terminals room stood. stood)
+      refused_stops true _ _ (digits_of g.M.Digested.digest_of (g.M.Room.zone c.args.room.now)) _ _ _ _ c.args.at x.0 x.1.begins.0 _ false _ gone (Want Memory) c.requires.sound refl
+          (λ trust terminals room stood. stood)
           (inr (Memory, refl, inl refl)) (λ rest known wait bad. absurd (cc bad)),
     )
 
@@ -26,7 +27,8 @@ returns-in-Err-clause-turn g c =
     let gone = taken _ (g.R.Source.left c.args.reader.now) _ _ c.args.layout.now _ x.1 (Keeps-refl _) c.remove.ensures.kept in
     rw c.read_fault.ensures (
       [],
-      unread_stops true _ _ (digits_of g.M.Digested.digest_of (g.M.Room.zone c.args.room.now)) _ _ _ _ c.args.at x.0 x.1.begins.0 _ false _ gone c.in-Err.fault refl (λ trust terminals room stood. stood) read.first
+      unread_stops true _ _ (digits_of g.M.Digested.digest_of (g.M.Room.zone c.args.room.now)) _ _ _ _ c.args.at x.0 x.1.begins.0 _ false _ gone c.in-Err.fault refl
+          (λ trust terminals room stood. stood) read.first
           (read_due _ _ _ _ c.in-Err.fault read.says),
     )
 

@@ -1,6 +1,6 @@
 use Rattle.std.proofs.Common.{refl, [], ◌∷◌, true}
 use Rattle.dispatch_room_replaying.specs.declared.messages.Turned.TheVariants.{Played, LeftOut, Last}
-use Rattle.dispatch_room_replaying.specs.Turns.{head, IsReplayed}
+use Rattle.dispatch_room_replaying.specs.Turns.{compared, IsReplayed}
 use Rattle.dispatch_room_replaying.proofs.FaultLemmas.{unless_after}
 use Rattle.dispatch_room_replaying.proofs.TurnLemmas.{no_progress, passes_none, next_stops, head_turn, takes_message, stops_message}
 use Rattle.dispatch_room_replaying.specs.Replays.{digits_of}
@@ -18,14 +18,15 @@ returns-in-End-clause-turn g c =
 
 pub returns-in-Head-clause-turn : goal.returns-in-Head-clause-turn
 returns-in-Head-clause-turn g c =
-    let x = head_turn _ _ (digits_of g.M.Digested.digest_of (g.M.Room.zone c.args.room.now)) _ _ _ _ _ _ IsReplayed (λ digest. tt) _ _ _ _ c.note_head.ensures _ c.in-Head.is c.in-Ok.ensures.next in
-    (head x.0 ∷ [], x.1, x.2, λ _. (x.3, refl {a = 1}), λ never. absurd (cc never))
+    let x = head_turn _ _ (digits_of g.M.Digested.digest_of (g.M.Room.zone c.args.room.now)) _ _ _ _ _ _ IsReplayed (λ head. tt) _ _ _ _ c.note_head.ensures _ c.in-Head.is c.in-Ok.ensures.next in
+    (compared x.0 ∷ [], x.1, x.2, λ _. (x.3, refl {a = 1}), λ never. absurd (cc never))
 
 pub returns-in-Err-replay_message-clause-turn : goal.returns-in-Err-replay_message-clause-turn
 returns-in-Err-replay_message-clause-turn g c =
     let turn = (rw c.next_entry.ensures.zone at c.in-Err-replay_message.ensures.turn) in (
       turn.0,
-      stops_message _ _ (digits_of g.M.Digested.digest_of (g.M.Room.zone c.args.room.now)) _ _ c.replay_message.ensures.trusted _ _ _ _ _ _ _ _ c.in-Message.at _ _ c.in-Message.is c.args.progress.now c.in-Ok.ensures.next
+      stops_message _ _ (digits_of g.M.Digested.digest_of (g.M.Room.zone c.args.room.now)) _ _ c.replay_message.ensures.trusted _ _ _ _ _ _ _ _ c.in-Message.at _ _ c.in-Message.is
+          c.args.progress.now c.in-Ok.ensures.next
           true c.in-Err-replay_message.fault _ _ turn.0 turn.1,
       refl,
     )

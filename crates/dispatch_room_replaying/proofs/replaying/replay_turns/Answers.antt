@@ -60,7 +60,8 @@ returns-in-Err-clause-replay g c =
 pub returns-clause-replay : goal.returns-clause-replay
 returns-clause-replay g c =
     let going = c.turns.invariant.going in
-    let stops = exhausted _ _ (digits_of g.M.Digested.digest_of (g.M.Room.zone c.args.room.now)) _ _ _ _ _ _ IsReplayed going.0 true c.turns.progress _ _ _ going.1 going.2 c.stopped-2.ensures (omega (arith, going.3))
+    let stops = exhausted _ _ (digits_of g.M.Digested.digest_of (g.M.Room.zone c.args.room.now)) _ _ _ _ _ _ IsReplayed going.0 true c.turns.progress _ _ _ going.1 going.2
+    c.stopped-2.ensures (omega (arith, going.3))
     c.turns.invariant.reader refl in
     (going.0, [], stops)
 

@@ -6,6 +6,7 @@ use Rattle.room_service.specs.declared.digests.Version.TheVariants.{Second}
 use Rattle.sqlite_trees.specs.declared.store.Store.{Ghosts}
 use Rattle.room_store.specs.declared.store.Store.{Store}
 use Rattle.dispatch_room_serving.specs.Rooms.{Looks}
+use Rattle.dispatch_room_serving.proofs.ConnectionLaws.{leaves_kept}
 use Rattle.dispatch_room_serving.proofs.serving.announce.Goals as goal
 
 -- the head that is told
@@ -30,7 +31,7 @@ looks_same g store = record {
   zone = refl;
   trusted = λ clean. clean;
   same = λ clean terminals room is. is;
-  left = λ clean kept terminals room is db left. inl (rw (kept.alone db left) (is.tables kept.is_open));
+  left = λ clean kept terminals room is. leaves_kept g store terminals room is kept;
 }
 
 pub returns-then-not-wants_digest-clause-announces :

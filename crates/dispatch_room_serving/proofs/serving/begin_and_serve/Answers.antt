@@ -39,10 +39,12 @@ returns-in-Err-clause-attends g c = inl (record {
 pub returns-in-Ok-clause-attends : goal.returns-in-Ok-clause-attends
 returns-in-Ok-clause-attends g c =
     let told = announced g.S.Store _ _ c.args.room.now c.announce.new.room _ _ c.announce.result c.in_default.not-Err c.announce.ensures.announces in
+    let failed : g.N.Witness.has_failed c.announce.new.watcher ≡ g.N.Witness.has_failed c.args.watcher.now =
+    same_failed c.announce.result c.in_default.not-Err _ _ c.announce.ensures.failed in
     inr (record {
       store = c.announce.new.room;
       kept = g.N.Witness.held c.announce.new.watcher;
       looks = told.0;
       head = told.1;
-      serves = rw (c.begin.ensures.heard, c.begin.ensures.told, same_failed c.announce.result c.in_default.not-Err (g.N.Witness.has_failed c.args.watcher.now) (g.N.Witness.has_failed c.announce.new.watcher) c.announce.ensures.failed) at c.serve_each.ensures.served;
+      serves = rw (c.begin.ensures.heard, c.begin.ensures.told, failed) at c.serve_each.ensures.served;
     })
