@@ -1,7 +1,8 @@
-"""The Debian package from outside: made twice with the same bytes, installed in an empty root,
-used from there where no toolchain is, and removed."""
-# needs: python3 curl dpkg groff-base
+"""The Debian package from outside: made twice with the same bytes, judged by Debian's lintian,
+installed in an empty root, used from there where no toolchain is, and removed."""
+# needs: python3 bash binutils curl dpkg groff-base lintian
 # builds: dispatch_room
+import contextlib
 import gzip
 import os
 import pathlib
@@ -9,6 +10,7 @@ import re
 import shutil
 import subprocess
 import tempfile
+import threading
 
 from documents import LINK, told
 from room import TOP, TestCase, free_port
@@ -16,13 +18,30 @@ from room import TOP, TestCase, free_port
 DOCUMENTS = 'usr/share/doc/dispatch-room'
 UNIT = 'usr/lib/systemd/system/dispatch-room.service'
 PAGE = 'usr/share/man/man1/dispatch_room.1.gz'
+COMPLETION = 'usr/share/bash-completion/completions/dispatch_room'
+OF_DEBIAN = [f'{DOCUMENTS}/copyright', f'{DOCUMENTS}/changelog.Debian.gz']
 EXAMPLES = TOP / 'examples'
-SCRIPTS = ['day.sh', 'haproxy/certificates.sh', 'month/month.sh', 'three/companion.py',
-           'three/three.py', 'wall/wall.py']
+SCRIPTS = ['1992/play.py', 'day.sh', 'desks/desks.py', 'haproxy/certificates.sh',
+           'metrics/metrics.py', 'month/month.sh', 'three/companion.py', 'three/three.py',
+           'wall/wall.py']
 
 # What a day in the room calls beside the program.
 TOOLS = ['bash', 'curl', 'date', 'dirname', 'sleep']
-SECTIONS = ['NAME', 'SYNOPSIS', 'DESCRIPTION', 'COMMANDS', 'EXIT STATUS', 'FILES', 'SEE ALSO']
+SECTIONS = ['NAME', 'SYNOPSIS', 'DESCRIPTION', 'COMMANDS', 'EXIT STATUS', 'DIAGNOSTICS', 'FILES',
+            'SEE ALSO']
+
+# What is typed up to a key that completes it, in a folder with a file plan.csv, and the words then.
+TYPED = [
+    ('ser', ['serve']),
+    ('serve room.db 127.0.0.1:9 --connec', ['serve', 'room.db', '127.0.0.1:9', '--connections']),
+    ('serve --journal-sync al', ['serve', '--journal-sync', 'always']),
+    ('board --color ne', ['board', '--color', 'never']),
+    ('init room.db pl', ['init', 'room.db', 'plan.csv']),
+    ('serve --journal pl', ['serve', '--journal', 'plan.csv']),
+    ('serve --idle pl', ['serve', '--idle', 'pl']),
+    ('board pl', ['board', 'pl']),
+    ('check --color al', ['check', '--color', 'al']),
+]
 
 
 def output(*words, **named):
@@ -38,6 +57,13 @@ def starts_package(folder, mask, zone):
     return subprocess.Popen([TOP / 'tools' / 'package', folder], stdin=subprocess.DEVNULL,
                             stdout=subprocess.PIPE, umask=mask, cwd=folder,
                             env=os.environ | {'TZ': zone})
+
+
+def drain(screen):
+    """Reads what a terminal shows until it is closed."""
+    with contextlib.suppress(OSError):
+        while screen.read(4096):
+            pass
 
 
 class Root:
@@ -109,7 +135,14 @@ class Package(TestCase):
             self.assertRegex(field('Depends'), r'^libc6 \(>= [0-9.]+\)$')
         control = self.folder / 'control'
         output('dpkg-deb', '--control', self.packages[0], control)
-        self.check('it has no scripts', [it.name for it in control.iterdir()], ['control'])
+        self.check('it has no scripts', sorted(it.name for it in control.iterdir()),
+                   ['control', 'md5sums'])
+        done = subprocess.run(['md5sum', '--check', '--quiet', control / 'md5sums'],
+                              cwd=self.root.folder, capture_output=True)
+        self.check('sums', (done.returncode, done.stdout), (0, b''))
+        sums = (control / 'md5sums').read_text().splitlines()
+        files = [it for it in self.root.files() if self.path(it).is_file()]
+        self.check('a sum for each file', sorted(it.split('  ')[1] for it in sums), files)
 
     def test_files(self):
         listed = output('dpkg-deb', '--contents', self.packages[0])
@@ -122,10 +155,43 @@ class Package(TestCase):
         programs = scripts | {'usr/bin/dispatch_room'}
         documents = [TOP / 'README.md', TOP / 'bench' / 'README.md', *EXAMPLES.glob('*.*'),
                      *EXAMPLES.glob('*/*.*'), *(TOP / 'docs').iterdir()]
-        others = {f'{DOCUMENTS}/{it.relative_to(TOP)}' for it in documents} | {UNIT, PAGE}
+        others = {f'{DOCUMENTS}/{it.relative_to(TOP)}' for it in documents}
+        others |= {UNIT, PAGE, COMPLETION, *OF_DEBIAN}
         wanted = dict.fromkeys(programs | others, '-rw-r--r--')
         wanted |= dict.fromkeys(programs, '-rwxr-xr-x')
         self.check('files', modes, wanted)
+
+    def test_lintian(self):
+        """Debian's own judge has no error and no warning."""
+        words = ['lintian', '--allow-root', '--no-cfg', '--fail-on', 'error,warning']
+        judged = lambda *more: subprocess.run([*words, *more], stdin=subprocess.DEVNULL,
+                                              capture_output=True, timeout=600)
+        done = judged(self.packages[0])
+        self.check('lintian', (done.returncode, done.stdout.decode()), (0, ''))
+        worse = self.folder / 'worse'
+        output('dpkg-deb', '--raw-extract', self.packages[0], worse)
+        (worse / DOCUMENTS / 'copyright').unlink()
+        output('dpkg-deb', '--root-owner-group', '--build', worse)
+        done = judged('--tags', 'no-copyright-file', f'{worse}.deb')
+        self.check('a worse one', (done.returncode, done.stdout.decode()),
+                   (2, 'E: dispatch-room: no-copyright-file\n'))
+
+    def test_copyright(self):
+        """Each library below the program that comes from elsewhere is named."""
+        text = self.path(f'{DOCUMENTS}/copyright').read_text()
+        lines = [it for it in (TOP / 'crates.txt').read_text().splitlines() if it[:1] != '#']
+        own = {it.partition(':')[0] for it in lines}
+        below = {name for it in lines for name in it.partition(':')[2].split()} - own
+        self.check('there are libraries', {'clap', 'sqlite', 'jiff'} < below, True)
+        for name in sorted(below):
+            is_named = f'{name}/*' in text or re.match('(sqlite_|std_)', name) or name == 'libc'
+            self.check(name, bool(is_named), True)
+        self.check('a licence for each', set(re.findall('^License: (.*)$', text, re.M))
+                   >= {'Expat', 'Apache-2.0', 'BSD-3-Clause'}, True)
+
+    def test_stripped(self):
+        done = subprocess.run(['nm', self.program], capture_output=True)
+        self.check('no symbols', b'no symbols' in done.stderr, True)
 
     def test_links(self):
         """Links between documents lead somewhere, but for those into the sources."""
@@ -167,7 +233,8 @@ class Package(TestCase):
         self.check('its room', file, f'/var/lib/{folder}/room.db')
         room = self.folder / 'room.db'
         output(self.path(program[1:]), 'init', room, self.examples / 'plan.csv', env={})
-        address = address.rpartition(':')[0] + f':{free_port()}'
+        self.check('its address', address, '${ROOM_ADDRESS}')
+        address = re.search('^Environment=ROOM_ADDRESS=(.*):', unit, re.M)[1] + f':{free_port()}'
         with subprocess.Popen([self.path(program[1:]), serve, room, address, *more], env={},
                               stdout=subprocess.PIPE) as process:
             self.check('it is served', process.stdout.readline(), b'serving\n')
@@ -188,6 +255,47 @@ class Package(TestCase):
             help_of = output(self.program, *words, '--help', env={}).splitlines()
             self.check(f'the help of {" ".join(words) or "all"} is in it',
                        {it.strip() for it in help_of} - shown, set())
+
+    def test_errors_of_the_manual(self):
+        """The manual page has each fault that the program reports, and each status."""
+        source = gzip.decompress(self.path(PAGE).read_bytes())
+        shown = subprocess.run(['groff', '-man', '-Tascii', '-P-cbou'], input=source,
+                               capture_output=True, timeout=60).stdout.decode()
+        part = ' '.join(shown.partition('DIAGNOSTICS')[2].partition('\nFILES')[0].split())
+        endings = TOP / 'crates' / 'dispatch_room_endings' / 'src' / 'endings.rt'
+        faults = re.findall(r'#\[error\("(.*)"\)\]', endings.read_text())
+        self.check('there are faults', 'storage' in faults, True)
+        for fault in faults:
+            self.check(fault, fault.replace('{0}', 'K') in part, True)
+        statuses = set(re.findall(r'\(status (\d)\)', part))
+        self.check('statuses', sorted(statuses), list('0123456'))
+
+    def test_completion(self):
+        """What bash makes of words that are typed in part: a shell at a terminal is asked."""
+        (self.folder / 'plan.csv').touch()
+        for typed, words in TYPED:
+            self.check(typed, self.completed(typed), words)
+
+    def completed(self, typed):
+        """The words of a line after the key that completes it. (Ctrl-A goes to its beginning.)"""
+        reads, writes = os.pipe()
+        main, side = os.openpty()
+        shell = subprocess.Popen(
+            ['bash', '--norc', '--noprofile', '-i'], stdin=side, stdout=side, stderr=side,
+            cwd=self.folder, pass_fds=[writes], start_new_session=True,
+            env={'PATH': os.environ['PATH'], 'TERM': 'dumb', 'HOME': str(self.folder)})
+        os.close(side)
+        os.close(writes)
+        lines = [f'. {self.path(COMPLETION)}\n', f'dispatch_room {typed}\t',
+                 f"\x01printf '%s\\n' >&{writes} \n", 'exit\n']
+        os.write(main, ''.join(lines).encode())
+        with os.fdopen(reads) as told, os.fdopen(main, 'rb', buffering=0) as screen:
+            drains = threading.Thread(target=drain, args=[screen])
+            drains.start()
+            words = told.read().splitlines()
+            shell.wait(timeout=60)
+            drains.join()
+        return words[1:]
 
     # ---- its end
 
