@@ -1,15 +1,32 @@
-"""Chromium without a window, driven by the WebDriver protocol over HTTP."""
+"""Chromium without a window, driven by the WebDriver protocol over HTTP, as a person does: by keys
+and clicks. Also a line to a server that can be cut."""
+import asyncio
+import contextlib
 import json
 import os
 import pathlib
 import signal
 import subprocess
+import threading
 import time
+import urllib.error
 import urllib.request
 
 from room import free_port
 
 OPENER = urllib.request.build_opener(urllib.request.ProxyHandler({}))
+
+# What WebDriver calls the id of an element, and keys without a letter.
+ELEMENT = 'element-6066-11e4-a52e-4f735466cecf'
+KEYS = {'Backspace': '\ue003', 'Tab': '\ue004', 'Enter': '\ue007', 'Shift': '\ue008',
+        'Control': '\ue009', 'Alt': '\ue00a', 'Escape': '\ue00c', 'Space': ' ',
+        'PageUp': '\ue00e', 'PageDown': '\ue00f', 'End': '\ue010', 'Home': '\ue011',
+        'ArrowLeft': '\ue012', 'ArrowUp': '\ue013', 'ArrowRight': '\ue014',
+        'ArrowDown': '\ue015', 'Delete': '\ue017'}
+
+
+class Unmet(Exception):
+    """What the browser could not do, in its driver's words."""
 
 
 def until(holds, seconds):
@@ -67,8 +84,11 @@ class Browser:
         body = json.dumps(told).encode() if method == 'POST' else None
         request = urllib.request.Request(f'{self.address}/session{self.session}{path}', body,
                                          {'Content-Type': 'application/json'}, method=method)
-        with OPENER.open(request, timeout=60) as answer:
-            return json.load(answer)['value']
+        try:
+            with OPENER.open(request, timeout=120) as answer:
+                return json.load(answer)['value']
+        except urllib.error.HTTPError as told:
+            raise Unmet(json.load(told)['value']['message'].split('\n')[0]) from None
 
     def open(self, url):
         """Opens an address in this tab, and gives the tab."""
@@ -107,3 +127,175 @@ class Browser:
     def picture(self):
         """The page as a picture, in base64 of PNG."""
         return self.send('GET', '/screenshot')
+
+    # ---- as a person does
+
+    def find(self, css, seconds=5):
+        """The element that a selector names first, waited for."""
+        return until(lambda: next(iter(self.all(css)), None), seconds) or self.miss(css)
+
+    def miss(self, css):
+        raise Unmet(f'there is no {css} on the page')
+
+    def all(self, css):
+        """The elements that a selector names."""
+        found = self.send('POST', '/elements', using='css selector', value=css)
+        return [it[ELEMENT] for it in found]
+
+    def text(self, css):
+        """What is read of an element, as it is shown."""
+        return self.send('GET', f'/element/{self.find(css)}/text')
+
+    def texts(self, css):
+        """What is read of each element; one that went away meanwhile is left out."""
+        found = []
+        for it in self.all(css):
+            with contextlib.suppress(Unmet):
+                found.append(self.send('GET', f'/element/{it}/text'))
+        return found
+
+    def is_shown(self, css):
+        return any(self.send('GET', f'/element/{it}/displayed') for it in self.all(css))
+
+    def click(self, css):
+        """Clicks the middle of an element, which has to be seen and not covered."""
+        self.send('POST', f'/element/{self.find(css)}/click')
+
+    def click_at(self, css, x, y):
+        """Clicks so many pixels right of and below the middle of an element."""
+        move = {'type': 'pointerMove', 'duration': 0, 'x': x, 'y': y,
+                'origin': {ELEMENT: self.find(css)}}
+        act = [{'type': it, 'button': 0} for it in ('pointerDown', 'pointerUp')]
+        self.act({'type': 'pointer', 'id': 'mouse', 'actions': [move, *act]})
+
+    def type(self, text):
+        """Types a text where the keys go; what no keyboard has comes as by an input method."""
+        if max(text, default='') > '\uffff':
+            self.devtools('Input.insertText', text=text)
+        elif text:
+            active = self.send('GET', '/element/active')[ELEMENT]
+            self.send('POST', f'/element/{active}/value', text=text)
+
+    def press(self, *names):
+        """Presses keys one after another, by letter or name; Control+Enter is one press."""
+        self.act(typing([it for name in names for it in chord(name)]))
+
+    def act(self, source):
+        self.send('POST', '/actions', actions=[source])
+
+    # ---- what is around the page
+
+    def devtools(self, command, **told):
+        """A command of the browser's DevTools protocol."""
+        return self.send('POST', '/goog/cdp/execute', cmd=command, params=told)
+
+    def stand_at(self, latitude, longitude, accuracy=10):
+        """Gives the page leave to ask where it is, and tells it so."""
+        self.devtools('Browser.grantPermissions', permissions=['geolocation'])
+        self.devtools('Emulation.setGeolocationOverride', latitude=latitude, longitude=longitude,
+                      accuracy=accuracy)
+
+    def paper(self, **told):
+        """The page as it is printed, in base64 of PDF; A4 by default."""
+        size = {'width': 21.0, 'height': 29.7}
+        return self.send('POST', '/print', **({'page': size} | told))
+
+
+def stroke(key):
+    return [{'type': 'keyDown', 'value': key}, {'type': 'keyUp', 'value': key}]
+
+
+def chord(name):
+    """A key with those that are held meanwhile."""
+    *held, key = [KEYS.get(it, it) for it in name.split('+')] if len(name) > 1 else [name]
+    downs = [{'type': 'keyDown', 'value': it} for it in held]
+    ups = [{'type': 'keyUp', 'value': it} for it in reversed(held)]
+    return [*downs, *stroke(key), *ups]
+
+
+def typing(actions):
+    return {'type': 'key', 'id': 'keyboard', 'actions': actions}
+
+
+# ---- a line that can be cut
+
+
+class Line:
+    """Hands connections on to an address of this machine, until it is cut: then all of them are
+    broken and new ones are refused. `with Line(('127.0.0.2', port), port)` stands between a browser
+    at http://localhost:port/ and a server at 127.0.0.2:port, which is asked by the same name."""
+
+    def __init__(self, to, port=None):
+        self.to, self.port = to, port or free_port()
+        self.is_cut, self.left, self.pairs = False, None, set()
+        self.loop = asyncio.new_event_loop()
+        self.thread = threading.Thread(target=self.loop.run_forever, daemon=True)
+
+    def __enter__(self):
+        self.thread.start()
+        self.server = self.done(asyncio.start_server(self.carry, '127.0.0.1', self.port))
+        return self
+
+    def __exit__(self, *_):
+        self.cut()
+        self.loop.call_soon_threadsafe(self.server.close)
+        self.loop.call_soon_threadsafe(self.loop.stop)
+        self.thread.join(10)
+        if not self.loop.is_running():
+            self.loop.close()
+
+    def done(self, work):
+        """What some work of the line's own thread gives."""
+        return asyncio.run_coroutine_threadsafe(work, self.loop).result(10)
+
+    async def carry(self, near_reader, near):
+        """One connection, both ways."""
+        far = None
+        if not self.is_cut:
+            with contextlib.suppress(OSError):
+                far_reader, far = await asyncio.open_connection(*self.to)
+        if far is None or self.is_cut:
+            near.transport.abort()
+            return
+        self.pairs.add((near, far))
+        await asyncio.gather(self.pump(near_reader, far), self.pump(far_reader, near))
+        self.pairs.discard((near, far))
+        near.close()
+        far.close()
+
+    async def pump(self, reader, writer):
+        """Carries bytes one way until they end, or until so many were carried on this line."""
+        with contextlib.suppress(OSError):
+            while piece := await reader.read(65536):
+                if self.left is not None and len(piece) >= self.left:
+                    writer.write(piece[:self.left])
+                    self.break_all()
+                    return
+                if self.left is not None:
+                    self.left -= len(piece)
+                writer.write(piece)
+                await writer.drain()
+            writer.write_eof()
+
+    def break_all(self):
+        """Breaks each connection where it stands: the server still gets what went before."""
+        self.is_cut, self.left = True, None
+        for near, far in self.pairs:
+            near.transport.abort()
+            far.close()
+        self.pairs.clear()
+
+    def cut(self, after=None):
+        """Breaks all connections, now or once so many bytes more were carried, and every new one
+        until it is mended."""
+        async def work():
+            if after is None:
+                self.break_all()
+            else:
+                self.left = after
+        self.done(work())
+
+    def mend(self):
+        async def work():
+            self.is_cut, self.left = False, None
+        self.done(work())

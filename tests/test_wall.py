@@ -1,12 +1,10 @@
 """The wall of examples/wall in a browser: over a served room, over a room that stops, and over a
-room that is played, with hostile names and with a thousand incidents."""
+room that is played, with hostile names."""
 # needs: chromium chromium-driver
 # builds: dispatch_room
 import contextlib
 import json
 import re
-import select
-import socket
 import subprocess
 import sys
 import tempfile
@@ -16,10 +14,12 @@ import unittest
 import urllib.error
 import urllib.request
 
+import walls
 from browser import OPENER, Browser, until
-from room import PROGRAM, TOP, TestCase, ask, call, fleet_of, free_port, message, run
+from pages import contrast
+from room import PROGRAM, TestCase, ask, call, fleet_of, free_port, message, run
+from walls import NOW, WALL, incident, played, vehicle, wall
 
-WALL = TOP / 'examples' / 'wall' / 'wall.py'
 TOKENS = ['deskone1', 'desktwo2', 'takerone', 'crewofa1', 'crewofb1']
 # Three hours ahead of UTC, which no other clock here is.
 ZONE, AHEAD = 'XYZ-3', 3 * 3600
@@ -42,32 +42,15 @@ def plan_in(folder):
     return plan
 
 
-@contextlib.contextmanager
-def wall(port, plan, *tokens):
-    """A wall over the room at a port; gives its address."""
-    command = [sys.executable, WALL, f'127.0.0.1:{port}', plan, *tokens]
-    process = subprocess.Popen([*command, '--listen', '127.0.0.1:0'], stdin=subprocess.DEVNULL,
-                               stdout=subprocess.PIPE, stderr=subprocess.PIPE)
-    try:
-        line = process.stdout.readline().decode()
-        assert line.startswith('wall: '), f'no wall: {line} {process.stderr.read().decode()}'
-        yield line.removeprefix('wall: ').strip()
-    finally:
-        process.kill()
-        process.communicate()
-
-
 # ---- what is seen on the page
 
 
 def pictures():
-    return int(BROWSER.run('return document.documentElement.dataset.pictures ?? 0'))
+    return walls.pictures(BROWSER)
 
 
 def refresh(times):
-    """Waits for so many pictures more."""
-    wanted = pictures() + times
-    until(lambda: pictures() >= wanted, 4 * times + 4)
+    walls.refresh(BROWSER, times)
 
 
 # The middle of a vehicle's dot or of an incident's, in metres by the edges of division 1's area.
@@ -86,20 +69,34 @@ return mark && [mark.classList.value, ...[...mark.querySelectorAll('text')]
 """
 LINES = "return [...document.querySelectorAll('.sent line')].map((it) => " \
         "[it.dataset.name, it.dataset.to])"
+# Of each queue its head, and of each of its entries the texts in the order of ENTRY.
 QUEUES = """
 const texts = (nodes) => [...nodes].map((it) => it.textContent);
-return [...document.querySelectorAll('.queue')].map((it) => [it.querySelector('h2').textContent,
-  ...[...it.querySelectorAll('li')].map((entry) => texts(entry.children))]);
+return [...document.querySelectorAll('.queue')].map((it) => [it.querySelector('thead').textContent,
+  ...[...it.querySelectorAll('tbody tr')].map((entry) => texts(entry.querySelectorAll('span')))]);
 """
+ENTRY = ['class', 'who', 'place', 'why', 'time']
 WARNING = """
 const box = document.querySelector('#stale'), main = document.querySelector('main');
 const sizeOf = (it) => parseFloat(getComputedStyle(it).fontSize);
-const others = [...document.querySelectorAll('h1, h2, li, li *, #clock, small')].map(sizeOf);
+const others = ['h1', 'th', 'th *', 'td *', 'li', 'li *', 'button', 'button *', '#clock', 'small']
+  .flatMap((it) => [...document.querySelectorAll(it)]).map(sizeOf);
 const {filter, opacity} = getComputedStyle(main);
 return {shown: box.getBoundingClientRect().height > 0, words: box.querySelector('p').innerText,
   why: box.querySelector('small').textContent, filter, opacity,
   isLargest: sizeOf(box.querySelector('p')) > Math.max(...others),
   marks: document.querySelectorAll('.mark').length};
+"""
+
+
+# The colour of each thing, and of the ground that it stands on.
+COLOURS = """
+const groundOf = (node) => {
+  const {backgroundColor} = getComputedStyle(node);
+  return backgroundColor === 'rgba(0, 0, 0, 0)' ? groundOf(node.parentNode) : backgroundColor;
+};
+return arguments[0].flatMap((it) => [...document.querySelectorAll(it)]).map((it) =>
+  [getComputedStyle(it).color, groundOf(it)]);
 """
 
 
@@ -157,7 +154,7 @@ class Served(TestCase):
         self.check('not grey any longer', warning()['filter'], 'none')
         for other, why in others:
             BROWSER.turn_to(other)
-            until(lambda: warning()['shown'], 5)
+            until(lambda: warning()['shown'], 20)
             seen = warning()
             self.check(why, [seen['shown'], seen['why'], seen['marks'] > 0], [True, why, True])
             BROWSER.close(other, then=tab)
@@ -166,7 +163,7 @@ class Served(TestCase):
         """Two more pages that get nothing new from now on, each with what it has to tell."""
         with wall(played(self, small_room).port, self.plan, 'deskone1') as address:
             left = BROWSER.tab(address)
-            until(pictures, 5)
+            until(pictures, 20)
         is_broken = []
 
         def told_of(token, what):
@@ -175,7 +172,7 @@ class Served(TestCase):
 
         address = self.enterContext(wall(played(self, told_of).port, self.plan, 'deskone1'))
         broken = BROWSER.tab(address)
-        until(pictures, 5)
+        until(pictures, 20)
         is_broken.append(True)
         return [(left, "The wall's own server does not answer."),
                 (broken, 'The page can not draw what the room tells.')]
@@ -187,7 +184,8 @@ class Served(TestCase):
         ask(self.port, call(1, 'TQ400600'))
         address = self.enterContext(wall(self.port, self.plan, 'deskone1', 'desktwo2'))
         tab = BROWSER.open(address)
-        self.check('a first picture', until(pictures, 5) >= 1, True)
+        self.check('a first picture', bool(until(
+            lambda: BROWSER.run(MARK, 'vehicles A1'), 20)), True)
         self.check('an available vehicle', BROWSER.run(MARK, 'vehicles A1')[:3],
                    ['mark vehicle status-1', 'A', 'A1'])
         self.check('a vehicle that is off duty', BROWSER.run(MARK, 'vehicles B1')[:3],
@@ -225,12 +223,13 @@ class Served(TestCase):
 
     def check_queues(self):
         one, two = BROWSER.run(QUEUES)
-        self.check('a queue where nothing waits', one, ['Division 10'])
-        self.check('a queue', [two[0], [it[1:] for it in two[1:]]],
-                   ['Division 22', [['B1', 'report 4 came out of turn'],
-                                    ['Point 7', 'short of cover']]])
-        self.check('what has no moment has no wait', two[2][0], '')
-        self.check('what has one', re.fullmatch('0:[01][0-9]', two[1][0]) is not None, True)
+        self.check('a queue where nothing waits', one, ['Division 1nothing waits'])
+        self.check('a queue', [two[0], [it[:4] for it in two[1:]]],
+                   ['Division 22',
+                    [['\u2013', 'B1', 'TQ 600 800', 'report 4 came out of turn'],
+                     ['\u2013', 'Point 7', 'TQ 700 500', 'short of cover']]])
+        self.check('what has no moment has no wait', two[2][4], '')
+        self.check('what has one', re.fullmatch('0:[01][0-9]', two[1][4]) is not None, True)
         self.check('a point', BROWSER.run(MARK, 'points 2/7')[:3], ['mark point short', '7', '0/2'])
         self.check('nothing is wrong', warning()['shown'], False)
 
@@ -258,66 +257,6 @@ class Served(TestCase):
 # ---- a room that is played
 
 
-class PlayedRoom(threading.Thread):
-    """Answers like a room. Keeps the heads that it was sent, and counts connections that came
-    while another was open, or that were not closed."""
-
-    def __init__(self, told_of):
-        super().__init__(daemon=True)
-        self.told_of = told_of
-        self.listener = socket.create_server(('127.0.0.1', 0))
-        self.port = self.listener.getsockname()[1]
-        self.heads, self.overlaps = [], 0
-        self.start()
-
-    def run(self):
-        with contextlib.suppress(OSError, ValueError):  # until it is closed
-            while True:
-                connection, _ = self.listener.accept()
-                with connection:
-                    self.serve(connection)
-
-    def serve(self, connection):
-        head = b''
-        while not head.endswith(b'\r\n\r\n'):
-            head += connection.recv(4096) or b'\r\n\r\n'
-        self.heads.append(head.decode())
-        line, *fields = head.decode().split('\r\n')
-        token = next(it for it in fields if it.startswith('X-Terminal: ')).split(' ')[1]
-        what = line.split(' ')[1].removeprefix('/')
-        body = json.dumps({what: self.told_of(token, what)}).encode()
-        self.overlaps += self.is_called(0.01)
-        connection.sendall(b'HTTP/1.1 200 OK\r\nDate: Wed, 25 Nov 2026 12:00:00 GMT\r\n'
-                           b'Content-Type: application/json\r\nConnection: close\r\n'
-                           b'Content-Length: %d\r\n\r\n' % len(body) + body)
-        ready, _, _ = select.select([connection, self.listener], [], [], 10)
-        self.overlaps += connection not in ready or connection.recv(1) != b''
-
-    def is_called(self, seconds):
-        return bool(select.select([self.listener], [], [], seconds)[0])
-
-
-def played(test, told_of):
-    """A played room, which ends with the test."""
-    room = PlayedRoom(told_of)
-    test.addCleanup(room.listener.close)
-    return room
-
-
-NOW = 1795608000  # the moment of the played room's answers
-LONGEST = 200  # milliseconds that a picture may take to be drawn anew
-
-
-def vehicle(name, status=1, kind=1, place=(530000, 180000), incident=None):
-    return {'home': 1, 'incident': incident, 'kind': kind, 'place': place, 'post': None,
-            'shift_end': NOW, 'status': status, 'vehicle': name}
-
-
-def incident(number, place=(530000, 180000), lack=(1, 0, 0), level=2):
-    return {'calls': 1, 'class': level, 'lack': lack, 'needs': [1, 1, 1], 'number': number,
-            'opened': NOW - 60, 'place': place}
-
-
 HOSTILE = ['<img src=x onerror=alert(1)>', '</title><script>alert(1)</script>', '"><b>', '&lt;']
 
 
@@ -325,7 +264,8 @@ def small_room(token, what):
     """A room with a vehicle of each status, names that are no callsigns, and a queue."""
     if token != 'deskone1':
         return []
-    vehicles = [vehicle(f'V{it}', it, it % 3 + 1) for it in range(8)]
+    vehicles = [vehicle(f'V{it}', it, it % 3 + 1, incident=2 if it == 1 else None)
+                for it in range(8)]
     waits = [(2, 3, 600, 'V2'), (6, 0, 50, 'V1'), (7, 4, NOW, ''), (4, 9, 4000, 'V3'),
              (1, 1, 200, '')]
     return {
@@ -336,34 +276,6 @@ def small_room(token, what):
                   for rank, number, age, name in waits]
         + [{'number': 1, 'rank': 4, 'since': NOW, 'vehicle': it} for it in HOSTILE],
     }[what]
-
-
-def large_room():
-    """A room of 500 vehicles and 1,000 incidents in which each reading finds another picture."""
-    readings = []
-
-    def told_of(token, what):
-        readings.append(what)
-        west, name = (500000, 'A') if token == 'deskone1' else (550000, 'B')
-        turn = len(readings) // 8
-
-        def at(it, moved=0):
-            return [west + (it * 7919 + moved) % 50000, 100000 + it * 104729 % 100000]
-
-        def status(it):
-            return (it // 8 + turn if it % 8 == 0 else it) % 8
-
-        return {
-            'vehicles': [vehicle(f'{name}{it}', status(it), it % 3 + 1, at(it, turn * 997),
-                                 it + 1 if 2 <= status(it) <= 5 else None) for it in range(250)],
-            'incidents': [incident(it + 1, at(it + 1000), [(it + turn) % 4 // 3, it % 2, 0],
-                                   it % 3 + 1) for it in range(500)],
-            'points': [],
-            'queue': [{'number': it + 1, 'rank': 1, 'since': NOW - 1000 + it, 'vehicle': ''}
-                      for it in range(300)],
-        }[what]
-
-    return told_of
 
 
 class Played(TestCase):
@@ -377,7 +289,7 @@ class Played(TestCase):
         room, address = self.show(small_room, 'deskone1', 'desktwo2')
         BROWSER.size(1280, 720)
         BROWSER.open(address)
-        until(pictures, 5)
+        until(pictures, 20)
         BROWSER.run('window.kept = document.querySelector(".vehicle")')
         refresh(1)
         self.check('nodes are kept', BROWSER.run('return kept.isConnected'), True)
@@ -386,7 +298,7 @@ class Played(TestCase):
         self.check('names stay text', names[8:], HOSTILE)
         self.check('no name is markup', BROWSER.run(
             "return document.querySelectorAll('img, b b, svg script, title ~ title').length"), 0)
-        self.check_waits()
+        self.check_queue()
         self.check_marks()
         self.check_type()
         self.check_widths()
@@ -395,12 +307,15 @@ class Played(TestCase):
                    all('\r\nConnection: close\r\n' in it for it in room.heads), True)
         self.check('never two at once', room.overlaps, 0)
 
-    def check_waits(self):
-        _, *entries = BROWSER.run(QUEUES)[0]
-        self.check('the longest wait first', [it[:2] for it in entries[:3]],
-                   [['1 h 06', 'V3'], ['10:00', 'V2'], ['3:20', 'Incident 1']])
-        self.check('what finds no room is counted', BROWSER.run(
-            "return document.querySelector('.more').textContent"), f'and {9 - len(entries)} more')
+    def check_queue(self):
+        head, *entries = BROWSER.run(QUEUES)[0]
+        self.check('its head', head, 'Division 19')
+        self.check('the order of the room, with class, place and wait', entries[:5], [
+            ['3', 'V2', 'TQ 300 800', 'order not acknowledged, incident 3', '10:00'],
+            ['2', 'V1', 'TQ 300 800', 'shift is over', '0:50'],
+            ['\u2013', 'Point 4', 'place not known', 'short of cover', ''],
+            ['\u2013', 'V3', 'TQ 300 800', 'report 9 came out of turn', '1 h 06'],
+            ['1', 'Incident 1', 'TQ 300 800', 'nobody sent', '3:20']])
 
     def check_marks(self):
         letters = [BROWSER.run(MARK, f'vehicles V{it}')[1] for it in range(8)]
@@ -418,24 +333,23 @@ class Played(TestCase):
 
     def check_type(self):
         heights = BROWSER.run("""
-            return ['.who', '.time', '.why', '.vehicle .name', '#clock'].map((it) => {
+            return ['.who', '.time', '.why', '.place', '.class', '.page', '.vehicle .name',
+              '#clock'].map((it) => {
               const node = document.querySelector(it);
               const scale = node.getCTM?.().a ?? 1;
               return scale * parseFloat(getComputedStyle(node).fontSize) / innerHeight; });""")
-        self.check('letters are large', [it > 0.025 for it in heights], 5 * [True])
-        colours = BROWSER.run("""
-            return ['.who', '.time', '.why', 'h2', 'h1', '#counts', '.more'].map((it) =>
-              getComputedStyle(document.querySelector(it)).color).concat(
-              [...document.querySelectorAll('.vehicle.mark .letter')].slice(0, 8).map((it) =>
-                getComputedStyle(it).fill));""")
-        grounds = 7 * ['rgb(20, 27, 36)'] + BROWSER.run("""
-            return [...document.querySelectorAll('.vehicle.mark .shape')].slice(0, 8).map((it) =>
-              getComputedStyle(it).fill);""")
-        ratios = [contrast(*it) for it in zip(colours, grounds)]
+        self.check('letters are large', [it for it in heights if it <= 0.025], [])
+        colours = BROWSER.run(COLOURS, ['.who', '.time', '.why', '.place', '.class', '.page', 'th',
+                                        'h1', '#counts', '#counts b', '.count', '#clock'])
+        colours += BROWSER.run("""
+            const fill = (node) => getComputedStyle(node).fill;
+            return [...document.querySelectorAll('.vehicle.mark')].slice(0, 8).map((it) =>
+              ['.letter', '.shape'].map((part) => fill(it.querySelector(part))));""")
+        ratios = [contrast(*it) for it in colours]
         self.check('contrast is at least 7', [it for it in ratios if it < 7], [])
 
     def check_widths(self):
-        boxes = "return ['#queues', '#map'].map((it) => document.querySelector(it)" \
+        boxes = "return ['#side', '#map'].map((it) => document.querySelector(it)" \
                 ".getBoundingClientRect()).map((it) => [it.left, it.top])"
         (left, top), (map_left, map_top) = BROWSER.run(boxes)
         self.check('a wide window: the queue beside the map', [left > map_left, top == map_top],
@@ -451,8 +365,8 @@ class Played(TestCase):
         room, address = self.show(small_room, 'deskone1', 'desktwo2')
         files = [it.name for it in WALL.parent.glob('*.*') if it.suffix in ('.html', '.css', '.js')]
         paths = ['', 'picture', *files]
-        others = ['wall.py', 'README.md', 'vehicles', '../plan.csv', 'picture?token=deskone1',
-                  'http://127.0.0.1/queue']
+        others = ['wall.py', 'README.md', 'wall.cfg', 'vehicles', '../plan.csv',
+                  'picture?token=deskone1', 'http://127.0.0.1/queue']
         told = {it: fetch(address + it) for it in paths + others}
         self.check('what is there', [it for it in told if told[it][0] == 200], paths)
         self.check('what is not', {told[it][0] for it in others}, {404})
@@ -487,26 +401,6 @@ class Played(TestCase):
             said = (done.stdout + done.stderr).decode()
             self.check(f'{what} is refused', [done.returncode, token in said], [2, False])
 
-    def test_many(self):
-        """500 vehicles and 1,000 incidents. From each picture to the next all vehicles move, an
-        eighth of them changes its status, and half of the incidents what they lack."""
-        _, address = self.show(large_room(), 'deskone1', 'desktwo2')
-        BROWSER.size(1280, 720)
-        BROWSER.open(address)
-        until(pictures, 5)
-        # What else runs on the machine makes some slower: it is the quickest that counts.
-        took = []
-        while len(took) < 12 and min(took, default=LONGEST + 1) > LONGEST:
-            refresh(1)
-            time.sleep(0.4)
-            took.append(float(BROWSER.run(
-                'return document.documentElement.dataset.redrawMilliseconds')))
-        count = "return document.querySelectorAll(arguments[0]).length"
-        self.check('vehicles', BROWSER.run(count, '.vehicle.mark'), 500)
-        self.check('incidents', BROWSER.run(count, '.incident.mark'), 1000)
-        self.check('lines', BROWSER.run(count, '.sent line'), 280)
-        self.check('a redraw within 200 ms', [it for it in took if min(took) > LONGEST], [])
-
 
 def fetch(url, fields=None, body=None):
     """The status, the head and the content of an answer of the wall."""
@@ -516,15 +410,3 @@ def fetch(url, fields=None, body=None):
             return answer.status, str(answer.headers), answer.read().decode()
     except urllib.error.HTTPError as answer:
         return answer.code, str(answer.headers), answer.read().decode()
-
-
-def contrast(*colours):
-    """The contrast of two colours as the accessibility guidelines of the web reckon it."""
-    def light(text):
-        parts = [int(it) / 255 for it in re.findall('[0-9]+', text)[:3]]
-        red, green, blue = (it / 12.92 if it <= 0.04045 else ((it + 0.055) / 1.055) ** 2.4
-                            for it in parts)
-        return 0.2126 * red + 0.7152 * green + 0.0722 * blue
-
-    low, high = sorted(map(light, colours))
-    return (high + 0.05) / (low + 0.05)

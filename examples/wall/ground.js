@@ -8,6 +8,8 @@ const LINES = 10000; // metres between two lines, a tenth of it on a map that is
 const WIDE = 40000; // metres
 const SQUARE = 100000; // metres of a square that has letters
 const MARGIN = 0.03; // of the map's height
+const NAME = 0.04; // the height of an area's name, of the map's
+const WIDTH = 0.6; // a letter of a name, of its height
 
 /** How metres become pixels so that all areas are seen, with the metres that the edges show. */
 export function viewOf(svg, areas) {
@@ -62,18 +64,23 @@ function seenOf(view, west, south) {
     width: (to - from) * view.scale, height: (high - low) * view.scale };
 }
 
+/** Draws the areas; gives the boxes of their names, over which no mark should lie. */
 export function drawAreas(layers, view, areas) {
-  const placed = areas.map((it, at) => ({ ...it, at }));
+  const size = view.height * NAME;
+  const placed = areas.map((it, at) => {
+    const [x, y] = view.point([it.west, it.north + 1]);
+    return { ...it, at, x, y, text: `Division ${it.division}` };
+  });
   const keyOf = (it) => it.at;
   keep(layers.areas, placed, keyOf, () => svgNode('rect'), (node, it) => {
-    const [x, y] = view.point([it.west, it.north + 1]);
-    set(node, { x, y, width: (it.east - it.west + 1) * view.scale,
+    set(node, { x: it.x, y: it.y, width: (it.east - it.west + 1) * view.scale,
       height: (it.north - it.south + 1) * view.scale, 'data-division': it.division });
   });
   keep(layers.names, placed, keyOf, () => svgNode('text'), (node, it) => {
-    const [x, y] = view.point([it.west, it.north + 1]);
-    const size = view.height * 0.04;
-    set(node, { x: x + size * 0.4, y: y + size * 1.1, 'font-size': size });
-    setText(node, `Division ${it.division}`);
+    set(node, { x: it.x + size * 0.4, y: it.y + size * 1.1, 'font-size': size,
+      'stroke-width': size * 0.25 });
+    setText(node, it.text);
   });
+  return placed.map(({ x, y, text }) => ({ x, y: y + size * 0.1,
+    width: size * (0.8 + WIDTH * text.length), height: size * 1.3 }));
 }

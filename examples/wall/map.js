@@ -8,8 +8,8 @@ import { settle } from './places.js';
 
 const READABLE = 1.2; // pixels to a unit of a mark, below which its letters are left away
 
-const LAYERS = ['grid', 'letters', 'areas', 'names', 'sent', 'leaders', 'dots', 'points',
-  'incidents', 'vehicles'];
+const LAYERS = ['grid', 'letters', 'areas', 'sent', 'leaders', 'dots', 'points', 'incidents',
+  'vehicles', 'names'];
 
 function layersOf(svg) {
   svg.layers ??= Object.fromEntries(LAYERS.map((name) => {
@@ -23,7 +23,7 @@ function layersOf(svg) {
 /** What all desks see of a sort, each with its key, once. */
 function seen(desks, what, sort, nameOf) {
   const keyed = new Map();
-  for (const { division, [what]: things } of desks ?? []) {
+  for (const { division, [what]: things } of desks) {
     for (const thing of things) {
       const it = { ...thing, division, sort };
       it.key = `${what} ${nameOf(it)}`;
@@ -66,18 +66,27 @@ function drawSent(layer, vehicles, targets) {
   });
 }
 
-/** Draws all that was told, in the room that the map has now. */
-export function drawMap(svg, { areas, desks, offset }) {
+/** The areas of the desks that are shown, where those of all aren't. */
+function areasOf(desks, { desks: all, areas }) {
+  const divisions = desks.map((it) => it.division);
+  const theirs = areas.filter((it) => divisions.includes(it.division));
+  return desks === all || !theirs.length ? areas : theirs;
+}
+
+/** Draws what some of the desks were told, in the room that the map has now. */
+export function drawMap(svg, desks, told) {
+  const { offset } = told;
   const layers = layersOf(svg);
+  const areas = areasOf(desks, told);
   const view = viewOf(svg, areas);
   if (!(view.scale > 0)) return;
   drawGrid(layers, view);
-  drawAreas(layers, view, areas);
+  const names = drawAreas(layers, view, areas);
   const incidents = seen(desks, 'incidents', incidentMark, numbered);
   const points = seen(desks, 'points', pointMark, numbered);
   const vehicles = seen(desks, 'vehicles', vehicleMark, (it) => it.vehicle);
   const marks = [...incidents, ...points, ...vehicles];
-  const { scale } = settle(svg, view, marks);
+  const { scale } = settle(svg, view, marks, names);
   if (svg.scale !== scale) { // what is set anew here is reckoned anew for all within
     svg.scale = scale;
     svg.classList.toggle('small', scale < READABLE);

@@ -1,11 +1,11 @@
-// The marks of vehicles, incidents and points. Each is drawn about its middle in a box of 26 by 12,
+// The marks of vehicles, incidents and points. Each is drawn about its middle in a box of 34 by 12,
 // and is scaled; a line ends so far right of that middle as its `end` says. A shape tells the kind
 // and a letter or figure the rest; colour only repeats it.
 
 import { set, setText, svgNode } from './nodes.js';
 import { incidentWords, LETTERS, pointWords, vehicleWords } from './words.js';
 
-export const BOX = { width: 26, height: 12 };
+export const BOX = { width: 34, height: 12 };
 
 /** The outline of a kind of vehicle: an ambulance is a box, a car is round, support is pointed. */
 export function outline(kind, x, y, width, height) {
@@ -43,16 +43,16 @@ export const vehicleMark = {
   end: 0,
   make() {
     const shape = svgNode('path', { class: 'shape' });
-    const letter = svgNode('text', { class: 'letter', x: -7.9, y: 2.5 });
-    const edge = svgNode('path', { class: 'edge', d: 'M-4.4 -5v10' });
-    const name = svgNode('text', { class: 'name', x: 3.7, y: 2.5 });
+    const letter = svgNode('text', { class: 'letter', x: -12.1, y: 2.9 });
+    const edge = svgNode('path', { class: 'edge', d: 'M-8 -5.5v11' });
+    const name = svgNode('text', { class: 'name', x: 4, y: 3.6 });
     return Object.assign(mark(shape, edge, letter, name), { shape, letter, name });
   },
   update(node, vehicle, offset) {
     set(node, { class: `mark vehicle status-${vehicle.status}` });
-    set(node.shape, { d: outline(vehicle.kind, -12.5, -5, 25, 10) });
+    set(node.shape, { d: outline(vehicle.kind, -16.5, -5.5, 33, 11) });
     setText(node.letter, LETTERS[vehicle.status]);
-    write(node.name, vehicle.vehicle, 3, 14);
+    write(node.name, vehicle.vehicle, 3, 22);
     setText(node.words, vehicleWords(vehicle, offset));
   },
 };
@@ -66,7 +66,7 @@ function lackOf(kind) {
 
 /** Shows those that are lacked, side by side. */
 function showLack(lacks, numbers) {
-  let x = -1.4;
+  let x = -4;
   lacks.forEach((it, kind) => {
     const number = numbers[kind];
     set(it, { display: number ? 'inline' : 'none', transform: `translate(${x} 0)` });
@@ -77,11 +77,11 @@ function showLack(lacks, numbers) {
 
 /** An incident: a diamond with its class, the larger the more urgent, its number, and its lack. */
 export const incidentMark = {
-  end: -8.6,
+  end: -11,
   make() {
     const shape = svgNode('path', { class: 'shape' });
-    const figure = svgNode('text', { class: 'letter', x: -8.6, y: 2.6 });
-    const number = svgNode('text', { class: 'name', x: -1.2, y: -0.6 });
+    const figure = svgNode('text', { class: 'letter', x: -11, y: 2.6 });
+    const number = svgNode('text', { class: 'name', x: -4, y: -0.4 });
     const lacks = [1, 2, 3].map(lackOf);
     return Object.assign(mark(shape, figure, number, ...lacks), { shape, figure, number, lacks });
   },
@@ -89,9 +89,9 @@ export const incidentMark = {
     const isShort = incident.lack.some(Boolean);
     set(node, { class: `mark incident class-${incident.class} ${isShort ? 'short' : 'served'}` });
     const size = 6.8 - 0.7 * incident.class;
-    set(node.shape, { d: `M-8.6 ${-size}l${size} ${size}l${-size} ${size}l${-size} ${-size}z` });
+    set(node.shape, { d: `M-11 ${-size}l${size} ${size}l${-size} ${size}l${-size} ${-size}z` });
     setText(node.figure, String(incident.class));
-    write(node.number, String(incident.number), 3, 13);
+    write(node.number, String(incident.number), 4, 20);
     showLack(node.lacks, incident.lack);
     setText(node.words, incidentWords(incident, offset));
   },
@@ -99,11 +99,11 @@ export const incidentMark = {
 
 /** A standby point: a house with its number, and how many of its cover are there. */
 export const pointMark = {
-  end: -7.5,
+  end: -11,
   make() {
-    const shape = svgNode('path', { class: 'shape', d: 'M-12.5 5.5v-7l5 -4.5l5 4.5v7z' });
-    const number = svgNode('text', { class: 'letter', x: -7.5, y: 4 });
-    const cover = svgNode('text', { class: 'name', x: -1, y: 3.4 });
+    const shape = svgNode('path', { class: 'shape', d: 'M-16.5 5.5v-7l5.5 -4.5l5.5 4.5v7z' });
+    const number = svgNode('text', { class: 'letter', x: -11, y: 4 });
+    const cover = svgNode('text', { class: 'name', x: -3.5, y: 3.4 });
     return Object.assign(mark(shape, number, cover), { number, cover });
   },
   update(node, point) {

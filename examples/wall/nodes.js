@@ -36,7 +36,7 @@ export function setText(node, text) {
 
 /**
  * Makes the children of a node those of the things, in their order: each thing keeps its node by
- * its key, and what has gone goes.
+ * its key, and what has gone goes, but for what another node has taken.
  */
 export function keep(parent, things, keyOf, make, update) {
   const before = parent.kept ?? new Map();
@@ -45,7 +45,9 @@ export function keep(parent, things, keyOf, make, update) {
     const key = keyOf(thing);
     kept.set(key, before.get(key) ?? kept.get(key) ?? make(thing));
   }
-  for (const [key, node] of before) if (!kept.has(key)) node.remove();
+  for (const [key, node] of before) {
+    if (!kept.has(key) && node.parentNode === parent) node.remove();
+  }
   let next = parent.firstChild;
   for (const node of kept.values()) {
     if (node === next) next = next.nextSibling;

@@ -3,12 +3,14 @@
 import { BOX } from './marks.js';
 
 // How high a mark may be, as a part of the map's height: the first at which all find a place.
-const HEIGHTS = [0.085, 0.07, 0.056, 0.045, 0.036, 0.028, 0.022, 0.017, 0.013];
+const HEIGHTS = [0.085, 0.077, 0.07, 0.063, 0.056, 0.05, 0.045, 0.04, 0.036, 0.032, 0.028, 0.025,
+  0.022, 0.019, 0.017, 0.015, 0.013];
 const GAP = 1.06; // boxes to a box, with what is left free round it
-const FEW = 200; // marks that can be laid close to their places
+const FEW = 120; // marks that can be laid close to their places
 // The cells that a mark covers, across and down, and how many places the map has for each mark.
 const CLOSE = { across: 4, down: 2, places: 2.6 };
-const DENSE = { across: 1, down: 1, places: 1.6 };
+const ROOM_BESIDE_NAMES = 1.1; // the least places for each mark beside the names
+const DENSE = { across: 1, down: 1, places: 1.3 };
 
 /**
  * How large marks are so that so many find a place, and the cells that they are laid on: a mark
@@ -55,6 +57,23 @@ function takeCells({ across, down, columns }, taken, [column, row]) {
   }
 }
 
+/**
+ * Takes the cells over which names stand, so that they cover no mark; none where names are so many
+ * that marks would want for room.
+ */
+function takeNames({ across, down, columns, rows, width, height }, taken, names, count) {
+  for (const it of names) {
+    const from = Math.max(0, Math.floor(it.x / width));
+    const to = Math.min(columns, Math.ceil((it.x + it.width) / width));
+    const last = Math.min(rows, Math.ceil((it.y + it.height) / height));
+    for (let row = Math.max(0, Math.floor(it.y / height)); row < last; row += 1) {
+      taken.fill(1, row * columns + from, row * columns + to);
+    }
+  }
+  const free = taken.length - taken.reduce((sum, it) => sum + it, 0);
+  if (free < ROOM_BESIDE_NAMES * count * across * down) taken.fill(0);
+}
+
 /** The nearest cell to a mark's place at which it covers none that is taken. */
 function nearestFree(cells, steps, taken, [x, y]) {
   const { across, down, columns, rows, width, height } = cells;
@@ -74,13 +93,15 @@ function nearestFree(cells, steps, taken, [x, y]) {
  * Gives each mark the free cells that are nearest to its place. One that hasn't moved keeps its
  * cells, as long as the cells stay the same.
  */
-export function settle(svg, view, marks) {
+export function settle(svg, view, marks, names) {
   const cells = cellsFor(view, marks.length);
-  const made = [view.width, view.height, view.left, view.top, cells.scale, cells.across].join();
+  const made = [view.width, view.height, view.left, view.top, cells.scale, cells.across,
+    names.length].join();
   if (svg.made !== made) Object.assign(svg, { made, settled: new Map(), steps: stepsOf(cells) });
   const before = svg.settled;
   svg.settled = new Map();
   const taken = new Uint8Array(cells.columns * cells.rows);
+  takeNames(cells, taken, names, marks.length);
   const take = (mark, there) => {
     svg.settled.set(mark.key, { there, place: String(mark.place) });
     takeCells(cells, taken, there);

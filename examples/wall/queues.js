@@ -1,66 +1,96 @@
-// The queue of each division beside the map, the longest wait first.
+// The queues of the divisions beside the map, each in the room's own order.
 
 import { htmlNode, keep, set, setText } from './nodes.js';
-import { entryWords, timeOf, wait } from './words.js';
+import { entryWords, reference, timeOf, wait } from './words.js';
 
-/** Since when an entry waits, or nothing: a point that is short has no such moment. */
-const sinceOf = (entry) => (entry.rank === 7 ? Infinity : entry.since);
-
-/** The entries of a desk, the longest wait first; those of one wait stay in the room's order. */
-function longestFirst(queue) {
-  return [...queue].sort((one, other) =>
-    (sinceOf(one) < sinceOf(other) ? -1 : Number(sinceOf(one) > sinceOf(other))));
-}
+const OF_INCIDENTS = [1, 2, 3]; // the ranks whose number is an incident's
+const POINT_SHORT = 7; // the rank that has no moment
 
 function makeQueue() {
   const name = htmlNode('span');
   const count = htmlNode('b', 'count');
-  const list = htmlNode('ol');
-  const more = htmlNode('p', 'more');
-  const node = htmlNode('section', 'queue', htmlNode('h2', '', name, count), list, more);
-  return Object.assign(node, { name, count, list, more });
+  const head = htmlNode('th', '', name, count);
+  head.colSpan = 3;
+  const list = htmlNode('tbody');
+  const columns = ['classes', '', 'times'].map((it) => htmlNode('col', it));
+  const node = htmlNode('table', 'queue', ...columns,
+    htmlNode('thead', '', htmlNode('tr', '', head)), list);
+  return Object.assign(node, { name, count, list });
 }
 
+/** An entry: its class, what it is about with its place and what is the matter, and its wait. */
 function makeEntry() {
-  const [time, who, why] = ['time', 'who', 'why'].map((it) => htmlNode('span', it));
-  return Object.assign(htmlNode('li', '', time, who, why), { time, who, why });
+  const [level, who, place, why, time] = ['class', 'who', 'place', 'why', 'time']
+    .map((it) => htmlNode('span', it));
+  const cells = [[level], [who, place, why], [time]].map((it) => htmlNode('td', '', ...it));
+  return Object.assign(htmlNode('tr', '', ...cells), { level, who, place, why, time });
 }
 
-function updateEntry(node, entry, { moment, offset }) {
+/** Things by their names. */
+const named = (things, nameOf) => new Map(things.map((it) => [nameOf(it), it]));
+
+/** What of a desk's picture its entries speak of; of a vehicle that it lent, another desk's. */
+function knownTo(desk, lent) {
+  return {
+    moment: desk.moment,
+    incidents: named(desk.incidents, (it) => it.number),
+    points: named(desk.points, (it) => it.number),
+    vehicles: named(desk.vehicles, (it) => it.vehicle),
+    lent,
+  };
+}
+
+/** The class and the place of an entry, as far as they are known. */
+function aboutOf(entry, { incidents, points, vehicles, lent }) {
+  if (OF_INCIDENTS.includes(entry.rank)) return incidents.get(entry.number) ?? {};
+  if (entry.rank === POINT_SHORT) return { place: points.get(entry.number)?.place };
+  const held = vehicles.get(entry.vehicle);
+  const place = (held ?? lent.get(entry.vehicle))?.place;
+  return { class: incidents.get(held?.incident)?.class, place };
+}
+
+function updateEntry(node, entry, known, offset) {
   const [who, why] = entryWords(entry);
-  const since = sinceOf(entry);
-  const isTimed = Number.isFinite(since);
+  const { class: level, place } = aboutOf(entry, known);
+  const isTimed = entry.rank !== POINT_SHORT;
   set(node, { 'data-rank': entry.rank,
-    title: `${who}: ${why}${isTimed ? `, since ${timeOf(since, offset)}` : ''}` });
-  setText(node.time, isTimed ? wait(Math.max(0, moment - since)) : '');
+    title: `${who}: ${why}${isTimed ? `, since ${timeOf(entry.since, offset)}` : ''}` });
+  set(node.level, { 'data-class': level ?? '', title: level ? `class ${level}` : 'no class' });
+  setText(node.level, String(level ?? '\u2013'));
   setText(node.who, who);
+  setText(node.place, place ? reference(place) : 'place not known');
   setText(node.why, why);
+  setText(node.time, isTimed ? wait(Math.max(0, known.moment - entry.since)) : '');
 }
 
-/** How many entries the list has room for, where the window doesn't scroll. */
-function roomIn(list) {
-  const isOpen = getComputedStyle(list).overflowY === 'visible';
-  const row = list.firstChild?.offsetHeight;
-  return isOpen || !row ? 50 : Math.max(1, Math.floor((list.clientHeight + 1) / row));
-}
-
-function updateQueue(node, desk, offset) {
-  const entries = longestFirst(desk.queue);
-  const told = { moment: desk.moment, offset };
-  const draw = (shown) => keep(node.list, shown, (it) => `${it.rank} ${it.vehicle} ${it.number}`,
-    makeEntry, (at, entry) => updateEntry(at, entry, told));
+function updateQueue(node, { desk, entries }, known, offset) {
   set(node, { 'data-division': desk.division });
   setText(node.name, `Division ${desk.division}`);
-  setText(node.count, String(entries.length));
-  if (!node.list.firstChild) draw(entries.slice(0, 1));
-  const shown = entries.slice(0, roomIn(node.list));
-  draw(shown);
-  const left = entries.length - shown.length;
-  setText(node.more, entries.length ? (left ? `and ${left} more` : '') : 'nothing waits');
+  setText(node.count, desk.queue.length ? String(desk.queue.length) : 'nothing waits');
+  keep(node.list, entries, (it) => `${it.rank} ${it.vehicle} ${it.number}`, makeEntry,
+    (at, entry) => updateEntry(at, entry, known, offset));
 }
 
-export function drawQueues(parent, { desks, offset }) {
-  set(parent, { 'data-many': (desks ?? []).length > 3 });
-  keep(parent, desks ?? [], (it) => it.division, makeQueue,
-    (node, desk) => updateQueue(node, desk, offset));
+/** The lines of all queues: each entry, and a desk alone where nothing waits. */
+export function linesOf(desks) {
+  return desks.flatMap((desk) => (desk.queue.length
+    ? desk.queue.map((entry) => ({ desk, entry })) : [{ desk, entry: null }]));
+}
+
+/** Draws some lines. All desks know where each vehicle is. */
+export function drawLines(parent, lines, desks, offset) {
+  const lent = named(desks.flatMap((it) => it.vehicles), (it) => it.vehicle);
+  const queues = new Map(lines.map(({ desk }) => [desk, { desk, entries: [] }]));
+  for (const { desk, entry } of lines) if (entry) queues.get(desk).entries.push(entry);
+  keep(parent, [...queues.values()], (it) => it.desk.division, makeQueue,
+    (node, it) => updateQueue(node, it, knownTo(it.desk, lent), offset));
+}
+
+/** How many of the lines that are drawn are seen whole, at least one. */
+export function wholeLines(parent) {
+  if (getComputedStyle(parent).overflowY === 'visible') return Infinity;
+  const end = parent.getBoundingClientRect().bottom + 1;
+  const lines = [...parent.querySelectorAll('tbody tr, tbody:empty')].map((it) =>
+    (it.matches('tr') ? it : it.previousSibling).getBoundingClientRect().bottom);
+  return Math.max(1, lines.filter((it) => it <= end).length);
 }

@@ -4,7 +4,7 @@
 import { drawKey } from './key.js';
 import { drawMap } from './map.js';
 import { htmlNode, keep, setText } from './nodes.js';
-import { drawQueues } from './queues.js';
+import { Pages } from './pages.js';
 import { timeOf } from './words.js';
 
 const ASK_EVERY = 2000; // milliseconds
@@ -18,6 +18,7 @@ let last = { desks: null, areas: [], age: 0, fault: null, came: performance.now(
   now: Date.now() / 1000, since: Date.now() / 1000, offset: -60 * new Date().getTimezoneOffset() };
 let trouble = ''; // why nothing newer came to this page, where it is not the room's fault
 
+const pages = new Pages(byId('pages'), byId('queues'), () => draw(last));
 const elapsed = () => (performance.now() - last.came) / 1000;
 
 // ---- drawing
@@ -25,9 +26,13 @@ const elapsed = () => (performance.now() - last.came) / 1000;
 /** Draws a picture, and keeps how many milliseconds it took until it was shown. */
 function draw(told) {
   const began = performance.now();
-  drawCounts(byId('counts'), told.desks ?? []);
-  drawMap(byId('map'), told);
-  drawQueues(byId('queues'), told);
+  const desks = told.desks ?? [];
+  const shown = pages.chosen(desks);
+  setText(document.querySelector('h1'), shown === desks ? 'Control room'
+    : `Division ${shown[0].division}`);
+  drawCounts(byId('counts'), shown);
+  drawMap(byId('map'), shown, told);
+  pages.draw(desks, told.offset);
   requestAnimationFrame(() => setTimeout(() => {
     page.dataset.redrawMilliseconds = (performance.now() - began).toFixed(1);
   }));

@@ -171,7 +171,7 @@ class Reader(threading.Thread):
 
 KINDS = {'.html': 'text/html', '.css': 'text/css', '.js': 'text/javascript'}
 FILES = ['wall.html', 'wall.css', 'wall.js', 'ground.js', 'key.js', 'map.js', 'marks.js',
-         'nodes.js', 'places.js', 'queues.js', 'words.js']
+         'nodes.js', 'pages.js', 'places.js', 'queues.js', 'words.js']
 
 HEADERS = {
     'Content-Security-Policy': "default-src 'none'; script-src 'self'; style-src 'self'; "

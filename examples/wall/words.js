@@ -39,7 +39,7 @@ export function timeOf(moment, offset) {
 /** How long something waits: minutes and seconds, from an hour on hours and minutes. */
 export function wait(seconds) {
   const [minutes, hours, days] = [60, 3600, 86400].map((it) => Math.floor(seconds / it));
-  if (!hours) return `${minutes}:${two(seconds % 60)}`;
+  if (!hours) return `${minutes}:${two(Math.floor(seconds % 60))}`;
   return days ? `${days} d ${hours % 24} h` : `${hours} h ${two(minutes % 60)}`;
 }
 

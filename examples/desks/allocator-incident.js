@@ -1,0 +1,118 @@
+// An incident's own page: its calls with their notes, and its turns with their moments. A room that
+// is served without history tells less: then it shows what the lists know.
+
+import { askInTurn } from './allocator-reading.js';
+import { refusalWords } from './allocator-acting.js';
+import { incidentWhy, vehicleWhy } from './allocator-lines.js';
+import { KINDS, clock, far, reference, since, vehicles } from './allocator-words.js';
+import { distance } from './grid.js';
+import { element, fill } from './nodes.js';
+
+const NO_PATH = 36;
+const STATES = ['active', 'closed', 'merged'];
+const CALLS = ['Position', 'Serial', 'At', 'Class', 'Needs', 'Place', 'Linked', 'Note'];
+const TURNS = ['Vehicle', 'Order', 'Kind', 'Ordered', 'Acknowledged', 'Scene', 'Left', 'Hospital',
+  'Ended', ''];
+
+/** A table with a heading; each cell is text. */
+export function table(caption, heads, rows) {
+  const line = (cells, name) => element('tr', {}, ...cells.map((it) =>
+    element(name, name === 'th' ? { scope: 'col' } : {}, String(it))));
+  return element('table', {}, element('caption', {}, caption),
+    element('thead', {}, line(heads, 'th')),
+    element('tbody', {}, ...rows.map((it) => line(it, 'td'))));
+}
+
+const time = (moment) => (moment === null ? '–' : clock(moment));
+
+export class IncidentPage {
+  hasJustMoved = false;
+  number = null;
+
+  constructor(leave) {
+    this.title = element('h2', { tabindex: -1 });
+    this.head = element('p', {});
+    this.said = element('p', { class: 'said', role: 'status' });
+    this.list = element('div', { class: 'tables' });
+    const back = element('button', { type: 'button', onclick: leave }, 'Lists ',
+      element('kbd', {}, 'Esc'));
+    this.node = element('section', { id: 'incident', class: 'panel', hidden: true,
+      'aria-label': 'Incident' }, back, this.title, this.head, this.said, this.list);
+  }
+
+  get line() {
+    return { target: { incident: this.number } };
+  }
+
+  focus() {
+    this.title.focus();
+  }
+
+  draw() {}
+
+  say(words, isRefused = false) {
+    this.said.className = `said ${isRefused ? 'bad' : 'good'}`;
+    this.said.textContent = words;
+  }
+
+  /** Shows an incident, or none. */
+  turnTo(number) {
+    this.number = number;
+    this.node.hidden = number === null;
+    fill(this.list);
+    this.said.textContent = this.head.textContent = '';
+    this.title.textContent = number === null ? '' : `Incident ${number}`;
+    this.told = null;
+  }
+
+  /** Asks the history, and shows what it tells or what the lists know. */
+  async read(reading) {
+    const { number } = this;
+    if (number === null) return;
+    const answer = await askInTurn(`/incidents/${number}`);
+    if (this.number !== number) return;
+    if (answer.ok) this.#showHistory(answer.content, reading.told());
+    else if (answer.number === NO_PATH) this.#showLists(reading.told());
+    else if (!answer.isUnanswered) this.head.textContent = refusalWords(answer);
+  }
+
+  #showHistory(it, told) {
+    const state = STATES[it.state] + (it.into === null ? '' : ` into incident ${it.into}`);
+    this.head.textContent = `Class ${it.class}, ${reference(it.place)}, ${state}; `
+      + `opened ${clock(it.opened)}, ${since(it.opened, told.moment)} ago; first order `
+      + `${time(it.first_order)}; needs ${vehicles(it.needs)}; served by `
+      + `${vehicles(it.served) || 'nobody'}.`;
+    const content = JSON.stringify(it);
+    if (content === this.told) return;
+    this.told = content;
+    fill(this.list, table('Calls', CALLS, it.calls.map((one) => [one.position, one.serial,
+      time(one.moment), one.class, vehicles(one.needs), reference(one.place),
+      one.linked ? `linked, ${far(distance(one.place, it.place))}` : 'first', one.note])),
+    table('Turns', TURNS, it.turns.map((one) => [one.vehicle, one.order, KINDS[one.kind - 1],
+      time(one.ordered), time(one.acknowledged), time(one.scene), time(one.left),
+      time(one.hospital), time(one.ended), turnWords(one, it)])));
+  }
+
+  /** Without history: the incident's line, and the vehicles that are sent to it now. */
+  #showLists(told) {
+    const it = told.incidentOf.get(this.number);
+    const words = it ? `Class ${it.class}, ${reference(it.place)}; opened ${clock(it.opened)}, `
+      + `${since(it.opened, told.moment)} ago; needs ${vehicles(it.needs)}; calls: ${it.calls}; `
+      + `${incidentWhy(told, it)}.` : 'No active incident has this number.';
+    this.head.textContent = 'This room is served without history, so calls, notes and moments can '
+      + `not be shown. ${words}`;
+    fill(this.list, table('Vehicles sent now', ['Vehicle', 'Kind', 'Place', ''],
+      told.sentTo(this.number).map((one) => [one.vehicle, KINDS[one.kind - 1],
+        reference(one.place), vehicleWhy(told, one)])));
+  }
+}
+
+/** What its moments don't say: it was stood down, or ordered before a call made it urgent. */
+function turnWords(turn, incident) {
+  const raised = incident.calls.filter((it) => it.moment > turn.ordered)
+    .map((it) => it.class);
+  const before = incident.calls.filter((it) => it.moment <= turn.ordered).map((it) => it.class);
+  const isLate = turn.ended === null && Math.min(...raised) < Math.min(...before);
+  return [turn.stood_down ? 'stood down' : '',
+    isLate ? `its order does not say class ${Math.min(...raised)}` : ''].filter(Boolean).join(', ');
+}

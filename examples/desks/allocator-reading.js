@@ -1,0 +1,103 @@
+// What the room tells the desk: its lists, read one after another and over again, and whatever else
+// is asked. Never two requests at once, and a round of the lists at most every two seconds.
+
+import { ask } from './room.js';
+
+export const LISTS = ['queue', 'incidents', 'vehicles', 'points', 'offers', 'loans'];
+export const EVERY = 2000; // milliseconds from the start of a round to the next
+const OLD = 2; // whole seconds, above which a list says how old it is
+
+// A page behind others gets its own timers once a minute only; a worker's are on time.
+const timer = new Worker(new URL('allocator-clock.js', import.meta.url));
+
+function sleep(milliseconds) {
+  return new Promise((wake) => {
+    timer.onmessage = wake;
+    timer.postMessage(milliseconds);
+  });
+}
+
+let last = Promise.resolve();
+
+/** Asks the room once all that was asked before is answered. */
+export function askInTurn(path, body) {
+  last = last.then(() => ask(path, body));
+  return last;
+}
+
+/** The lists as they were told last, and when each was asked for. */
+export class Reading {
+  #lists = Object.fromEntries(LISTS.map((it) => [it, []]));
+  #asked = {};
+  #clock = { moment: Date.now() / 1000, at: performance.now() };
+  fault = ''; // why the last round ended early
+  drawFault = ''; // why what it told is not shown
+
+  get isWhole() {
+    return LISTS.every((it) => it in this.#asked);
+  }
+
+  /** The seconds since a list was asked for; of one that never came, since the page began. */
+  age(...names) {
+    const oldest = Math.min(...names.map((it) => this.#asked[it] ?? 0));
+    return (performance.now() - oldest) / 1000;
+  }
+
+  isOld(...names) {
+    return Math.floor(this.age(...names)) > OLD;
+  }
+
+  /** Now, by the room's clock: whole seconds of UTC. */
+  get moment() {
+    return Math.floor(this.#clock.moment + (performance.now() - this.#clock.at) / 1000);
+  }
+
+  /** Reads each list; what the room does not answer ends the round. */
+  async round() {
+    for (const name of LISTS) {
+      const began = performance.now();
+      const answer = await askInTurn(`/${name}`);
+      this.fault = answer.ok ? '' : answer.words;
+      if (!answer.ok) return;
+      this.#lists[name] = answer.content[name];
+      this.#asked[name] = began;
+      this.#clock = { moment: answer.moment, at: performance.now() };
+    }
+  }
+
+  /** The lists with what is looked up in them, at the moment of now. */
+  told() {
+    const by = (name, key) => new Map(this.#lists[name].map((it) => [it[key], it]));
+    const sent = Map.groupBy(this.#lists.vehicles, (it) => it.incident);
+    const told = { ...this.#lists, moment: this.moment, incidentOf: by('incidents', 'number'),
+      vehicleOf: by('vehicles', 'vehicle'), pointOf: by('points', 'number'),
+      offerOf: by('offers', 'vehicle'), loanOf: by('loans', 'vehicle'),
+      sentTo: (number) => sent.get(number) ?? [] };
+    return { ...told, division: divisionOf(told) };
+  }
+}
+
+/** The desk's division, which no list tells by itself; null before there is a vehicle. */
+function divisionOf({ vehicles, vehicleOf, loans, loanOf, offers }) {
+  const own = vehicles.find((it) => !loanOf.has(it.vehicle));
+  if (own) return own.home;
+  const [loan] = loans;
+  if (loan) return vehicleOf.has(loan.vehicle) ? loan.borrower : loan.lender;
+  return offers[0]?.borrower ?? null;
+}
+
+/** Reads round after round and shows each, whatever goes wrong with one. */
+export async function readOn(reading, show) {
+  for (;;) {
+    const began = performance.now();
+    try {
+      await reading.round();
+      await show();
+      reading.drawFault = '';
+    } catch (fault) {
+      reading.drawFault = 'The page can not show what the room tells.';
+      console.error(fault);
+    }
+    await sleep(Math.max(0, EVERY - (performance.now() - began)));
+  }
+}

@@ -1,0 +1,51 @@
+// Sending vehicles: by the room's proposals, by hand, and standing them down.
+
+import { askInTurn } from './allocator-reading.js';
+import { byDistance, incidentAsk, isFree, numberField, vehicleAsk, vehicleAt }
+  from './allocator-forms.js';
+import { KINDS, far } from './allocator-words.js';
+
+/** The proposals of the room, the first of which is chosen. */
+async function proposals(it) {
+  const answer = await askInTurn(`/incidents/${it.incident}/propose`);
+  if (!answer.ok) return { refusal: answer };
+  const choices = answer.content.proposals.map((one) => ({ value: one.vehicle, what: one.vehicle,
+    words: `${KINDS[one.kind - 1]}, ${far(one.distance)}`,
+    warning: one.breaks ? 'breaks cover' : '' }));
+  return choices.length ? { fields: [{ name: 'vehicle', label: 'Proposed by the room', choices }] }
+    : { isEmpty: true, note: 'No vehicle that it lacks can be proposed.' };
+}
+
+/** The number of the nearest incident that lacks a vehicle's kind. */
+function nearestLacking(told, it) {
+  const vehicle = vehicleAt(told, it);
+  const lacking = told.incidents.filter((one) => vehicle && one.lack[vehicle.kind - 1]);
+  return byDistance(lacking, vehicle)[0]?.number;
+}
+
+const mobilise = (incident, vehicle) => incidentAsk({ incident }, 'mobilise', { vehicle });
+const sentWords = (incident, vehicle, order) =>
+  `${vehicle} is sent to incident ${incident}: order ${order}.`;
+const takenBack = (vehicle) =>
+  ({ words: `stand ${vehicle} down`, requests: [vehicleAsk({ vehicle }, 'standdown')] });
+
+export const SENDING = [
+  { key: 'Enter', name: 'propose, and send', of: 'incident', button: 'Send', isRepeated: true,
+    title: (it) => `Send to incident ${it.incident}`,
+    form: proposals,
+    request: (it, { vehicle }) => mobilise(it.incident, vehicle),
+    done: (it, { vehicle }, { order }) => sentWords(it.incident, vehicle, order),
+    undo: (it, { vehicle }) => takenBack(vehicle) },
+  { key: 'g', name: 'send it to an incident', of: 'vehicle', button: 'Send', fits: isFree,
+    title: (it) => `Send ${it.vehicle}`,
+    form: (it, told) => ({ fields: [numberField('into', 'To incident', nearestLacking(told, it),
+      'the nearest that lacks its kind')] }),
+    request: (it, { into }) => mobilise(Number(into), it.vehicle),
+    done: (it, { into }, { order }) => sentWords(Number(into), it.vehicle, order),
+    undo: (it) => takenBack(it.vehicle) },
+  { key: 's', name: 'stand down', of: 'vehicle', button: 'Stand down',
+    fits: (told, it) => vehicleAt(told, it)?.status === 2,
+    confirm: (it) => `Stand ${it.vehicle} down? Its crew loses the order.`,
+    request: (it) => vehicleAsk(it, 'standdown'),
+    done: (it) => `${it.vehicle} is stood down.` },
+];

@@ -1,0 +1,254 @@
+#!/usr/bin/env python3
+"""Serves the pages of the desks beside a served room, for a trial on one machine: a call taker's,
+an allocator's and a crew's. What a page asks of the room is handed on as it is, over a connection
+of its own. It is not proved, and listens on loopback only: for other machines see nginx.conf.
+
+  desks.py 127.0.0.1:8080 --plan examples/plan.csv --places examples/desks/places.csv
+
+The pages are then at http://127.0.0.1:8082/."""
+import argparse
+import csv
+import http.client
+import http.server
+import ipaddress
+import json
+import pathlib
+import socket
+import sys
+
+HERE = pathlib.Path(__file__).resolve().parent
+
+ANSWER_WITHIN = 3.0  # seconds that the room may be silent for
+LONGEST_ANSWER = 16 << 20  # bytes
+LONGEST_BODY = 64 << 10  # bytes that are handed on; the room itself takes 1024
+LONGEST_READ = 16 << 20  # bytes that are read, so that the refusal of more arrives
+
+# ---- the words of the command line
+
+
+class Refused(Exception):
+    """Why the pages are not served."""
+
+
+def loopback(text):
+    """An address of this machine, written 127.0.0.1:8082 or [::1]:8082."""
+    host, colon, port = text.rpartition(':')
+    try:
+        if colon and ipaddress.ip_address(host.strip('[]')).is_loopback and 0 <= int(port) < 65536:
+            return host.strip('[]'), int(port)
+    except ValueError:
+        pass
+    raise argparse.ArgumentTypeError(f'{text!r} is no address of loopback with a port')
+
+
+def words():
+    parser = argparse.ArgumentParser(prog='desks.py', description=__doc__,
+                                     formatter_class=argparse.RawDescriptionHelpFormatter)
+    parser.add_argument('room', metavar='ADDRESS', type=loopback, help='where the room is served')
+    parser.add_argument('--plan', metavar='FILE', type=pathlib.Path,
+                        help="the room's plan, for the map of areas")
+    parser.add_argument('--places', metavar='FILE', type=pathlib.Path,
+                        help='names of places and their references: a CSV with name,place')
+    parser.add_argument('--listen', metavar='ADDRESS', type=loopback, default='127.0.0.1:8082',
+                        help='where the pages are served (%(default)s)')
+    parser.add_argument('--write', metavar='FOLDER', type=pathlib.Path,
+                        help='writes areas.json and places.json there for nginx, and ends')
+    return parser, parser.parse_args()
+
+
+# ---- what the pages know of the service: its areas and its places, and no token
+
+
+def rows_of(path, *members):
+    """The rows of a CSV file with these members at least."""
+    try:
+        with path.open(encoding='utf-8-sig', newline='') as file:
+            rows = list(csv.DictReader(file))
+    except (OSError, ValueError, csv.Error) as told:
+        raise Refused(f'{path} can not be read: {told}') from None
+    for number, row in enumerate(rows, 2):
+        if any(row.get(it) is None for it in members):
+            raise Refused(f'{path}:{number}: wanted {",".join(members)}')
+    return rows
+
+
+def area_of(row):
+    """A rectangle in metres of the National Grid, and whose it is."""
+    sides = {'west': 'a', 'south': 'b', 'east': 'c', 'north': 'd'}
+    return {'division': int(row['number'])} | {it: int(row[at]) for it, at in sides.items()}
+
+
+def areas_of(plan):
+    rows = rows_of(plan, 'what', 'number', 'a', 'b', 'c', 'd') if plan else []
+    try:
+        return {'areas': [area_of(it) for it in rows if it['what'] == 'area']}
+    except ValueError:
+        raise Refused(f'{plan} is no plan') from None
+
+
+def places_of(file):
+    rows = rows_of(file, 'name', 'place') if file else []
+    return {'places': [[it['name'].strip(), it['place'].strip()] for it in rows]}
+
+
+def write(folder, known):
+    folder.mkdir(parents=True, exist_ok=True)
+    for name, content in known.items():
+        (folder / name).write_bytes(content)
+        print(f'written: {folder / name}')
+
+
+# ---- files
+
+KINDS = {'.html': 'text/html', '.css': 'text/css', '.js': 'text/javascript'}
+# Modules of the wall that the pages share.
+SHARED = 'ground.js', 'nodes.js', 'words.js'
+
+HEADERS = {
+    'Content-Security-Policy': "default-src 'none'; script-src 'self'; style-src 'self'; "
+                               "connect-src 'self'; base-uri 'none'; form-action 'none'; "
+                               "frame-ancestors 'none'",
+    'Cross-Origin-Opener-Policy': 'same-origin',
+    'Cross-Origin-Resource-Policy': 'same-origin',
+    'Referrer-Policy': 'no-referrer',
+    'X-Content-Type-Options': 'nosniff',
+    'Cache-Control': 'no-store',
+}
+
+
+def files():
+    """The pages' files by their paths, which are those below examples/."""
+    own = [it for it in HERE.iterdir() if it.suffix in KINDS]
+    shared = [HERE.parent / 'wall' / it for it in SHARED]
+    return {f'/{it.parent.name}/{it.name}': it for it in [*own, *shared]}
+
+
+# ---- the room
+
+
+def ask(room, method, path, token, body):
+    """The status, the Date and the content of the room's answer to one request, over a connection
+    of its own. Where none comes: 504 where it is silent, 502 where it is not there."""
+    connection = http.client.HTTPConnection(*room, timeout=ANSWER_WITHIN)
+    fields = {'Connection': 'close'} | ({} if token is None else {'X-Terminal': token})
+    try:
+        connection.request(method, path, body, fields)
+        with connection.getresponse() as answer:
+            content = answer.read(LONGEST_ANSWER)
+            return answer.status, answer.headers['Date'], content
+    except TimeoutError:
+        return 504, None, told('Unanswered', 0)
+    except (OSError, http.client.HTTPException):
+        return 502, None, told('Unanswered', 0)
+    except ValueError:  # what no request of HTTP can have, as letters of no ASCII in a path
+        return 400, None, told('BadMessage', 30)
+    finally:
+        connection.close()
+
+
+def told(name, number):
+    """A refusal in the room's form."""
+    return json.dumps({'error': name, 'number': number}, separators=(',', ':')).encode()
+
+
+# ---- serving
+
+
+class Page(http.server.BaseHTTPRequestHandler):
+    """Answers a browser: a file, what the pages know of the service, or what the room says."""
+    timeout = 10
+    server_version, sys_version = 'desks', ''
+
+    def handle_one(self):
+        if not self.is_own():
+            self.answer(403, 'text/plain', b'These pages are for this machine only.\n')
+        elif self.path.startswith('/room/'):
+            self.hand_on()
+        elif self.command not in ('GET', 'HEAD'):
+            self.answer(405, 'text/plain', b'Files are only read.\n', Allow='GET, HEAD')
+        elif self.path == '/':
+            self.answer(302, 'text/plain', b'', Location='/desks/index.html')
+        elif self.path in self.server.known:
+            self.answer(200, 'application/json', self.server.known[self.path])
+        elif file := files().get(self.path):
+            self.answer(200, KINDS[file.suffix], file.read_bytes())
+        else:
+            self.answer(404, 'text/plain', b'There is no such page.\n')
+
+    do_GET = do_HEAD = do_POST = do_PUT = do_PATCH = do_DELETE = do_OPTIONS = handle_one
+
+    def is_own(self):
+        """Whether the request names this server as its host, and is of no other site's page."""
+        origin = self.headers.get('Origin')
+        site = self.headers.get('Sec-Fetch-Site', 'none')
+        return (self.headers.get('Host') in self.server.hosts
+                and origin in (None, f'http://{self.headers.get("Host")}')
+                and site in ('none', 'same-origin'))
+
+    def hand_on(self):
+        """Hands a request on to the room, and its answer back."""
+        length = self.headers.get('Content-Length', '0')
+        if 'Transfer-Encoding' in self.headers:
+            return self.answer(501, 'application/json', told('Coding', 34))
+        if not length.isdecimal():
+            return self.answer(400, 'application/json', told('BadMessage', 30))
+        body = self.rfile.read(min(int(length), LONGEST_READ)) or None
+        if int(length) > LONGEST_BODY:
+            return self.answer(413, 'application/json', told('BodyTooLong', 32))
+        path, token = self.path.removeprefix('/room'), self.headers.get('X-Terminal')
+        status, date, content = ask(self.server.room, self.command, path, token, body)
+        return self.answer(status, 'application/json', content, Date=date)
+
+    def answer(self, status, kind, content, **more):
+        self.send_response_only(status)
+        given = {'Date': self.date_time_string(), 'Content-Type': f'{kind}; charset=utf-8',
+                 'Content-Length': str(len(content))} | HEADERS
+        for name, value in (given | {it: more[it] for it in more if more[it]}).items():
+            self.send_header(name, value)
+        self.end_headers()
+        if self.command != 'HEAD':
+            self.wfile.write(content)
+
+    def log_message(self, *_):
+        """Says nothing: a path may have what was typed."""
+
+
+class Desks(http.server.ThreadingHTTPServer):
+    """The pages' server."""
+    daemon_threads = True
+
+    def __init__(self, address, room, known):
+        self.address_family = socket.AF_INET6 if ':' in address[0] else socket.AF_INET
+        super().__init__(address, Page)
+        self.room = room
+        self.known = {f'/data/{name}': content for name, content in known.items()}
+        host, port = self.server_address[:2]
+        self.name = f'[{host}]:{port}' if ':' in host else f'{host}:{port}'
+        self.hosts = {self.name, f'localhost:{port}'}
+
+    def handle_error(self, request, client_address):
+        """Says nothing of a page that went away."""
+        if not isinstance(sys.exc_info()[1], OSError):
+            super().handle_error(request, client_address)
+
+
+def main():
+    parser, found = words()
+    try:
+        known = {'areas.json': json.dumps(areas_of(found.plan)).encode(),
+                 'places.json': json.dumps(places_of(found.places)).encode()}
+        if found.write:
+            return write(found.write, known)
+        desks = Desks(found.listen, found.room, known)
+    except (Refused, OSError) as told:
+        parser.error(str(told))
+    print(f'desks: http://{desks.name}/', flush=True)
+    try:
+        desks.serve_forever()
+    except KeyboardInterrupt:
+        pass
+    return None
+
+
+if __name__ == '__main__':
+    main()

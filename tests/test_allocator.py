@@ -1,0 +1,774 @@
+"""The allocator's page of examples/desks in a browser, driven by keys and clicks: over a served
+room, and over a room that is played, for what is hard to come by."""
+# needs: chromium chromium-driver poppler-utils sqlite3
+# builds: dispatch_room
+import base64
+import contextlib
+import http.server
+import json
+import re
+import shutil
+import signal
+import subprocess
+import tempfile
+import threading
+import time
+import unittest
+
+from browser import Browser, Unmet, until
+from pages import PHONE, companion, nameless, sign_in, small_targets, unseen_focus, weak_texts
+from room import TestCase, ask, made, message, serving, sql
+
+SOON = 20  # seconds within which the page does what is waited for, on a busy machine too
+NOW = 1795608000  # the moment of the played room: 25 November 2026, noon
+BROWSER = None
+
+
+def setUpModule():
+    global BROWSER
+    folder = unittest.enterModuleContext(
+        tempfile.TemporaryDirectory(ignore_cleanup_errors=True))
+    BROWSER = unittest.enterModuleContext(Browser(folder))
+
+
+def show(address, token='deskone1'):
+    """Signs in as a desk does, and comes to the allocator's page with its first lists."""
+    BROWSER.size(1600, 900)
+    sign_in(BROWSER, address, 'desk', token)
+    assert until(rounds, 3 * SOON), 'the page shows nothing'
+
+
+# ---- what is seen on the page
+
+
+def rounds():
+    return int(BROWSER.run('return document.documentElement.dataset.rounds ?? 0'))
+
+
+def patiently(ask):
+    """What the browser gives; it is asked again where a busy machine had no time for it."""
+    for _ in range(5):
+        with contextlib.suppress(Unmet):
+            return ask()
+    return ask()
+
+
+def refresh(times=1):
+    """Waits for so many rounds more that began after this."""
+    wanted = rounds() + times + 1
+    until(lambda: rounds() >= wanted, SOON + 5 * times)
+
+
+def is_shown(css):
+    """Whether one of these elements is shown."""
+    return BROWSER.run("return [...document.querySelectorAll(arguments[0])]"
+                       ".some((it) => it.checkVisibility())", css)
+
+
+def told(css):
+    """The words of an element, in one line, waited for."""
+    script = "return document.querySelector(arguments[0])?.innerText.replace(/\\s+/g, ' ').trim()"
+    return until(lambda: BROWSER.run(script, css), SOON) or ''
+
+
+def told_in(css):
+    """The words of all such elements, once there is one."""
+    BROWSER.find(css)
+    return [' '.join(it.split()) for it in BROWSER.texts(css)]
+
+
+def cells(number):
+    """The cells of each row of the incident's table of this number, from 1."""
+    return BROWSER.run("""return [...document.querySelectorAll(
+      `#incident table:nth-of-type(${arguments[0]}) tbody tr`)].map((it) =>
+      [...it.cells].map((cell) => cell.textContent));""", number)
+
+
+def time_of(moment):
+    return time.strftime('%H:%M:%S', time.localtime(moment))
+
+
+ROWS = """return [...document.querySelectorAll(`.${arguments[0]} .lines li`)].map((it) =>
+  [...it.children].map((part) => part.textContent));"""
+
+
+def rows(name):
+    """The lines of a list that are shown, each with its age, sign, name, words and place."""
+    return BROWSER.run(ROWS, name)
+
+
+# ---- a room that is played
+
+
+class PlayedRoom(http.server.ThreadingHTTPServer):
+    """Answers like a room, by a function of method, path and body that gives a status and a
+    content; a refusal's content is its number, and without a status there is no answer. Keeps what
+    it was asked, when, and how many requests were there at once."""
+    daemon_threads = True
+
+    def __init__(self, answer_of):
+        super().__init__(('127.0.0.1', 0), PlayedAnswer)
+        self.answer_of, self.port = answer_of, self.server_address[1]
+        self.asked, self.at_once, self.most = [], 0, 0
+        self.lock = threading.Lock()
+        threading.Thread(target=self.serve_forever, daemon=True).start()
+
+    def handle_error(self, *_):
+        """Says nothing of a companion that ended meanwhile."""
+
+
+class PlayedAnswer(http.server.BaseHTTPRequestHandler):
+    def do_GET(self):
+        room = self.server
+        body = self.rfile.read(int(self.headers.get('Content-Length', 0)))
+        with room.lock:
+            room.at_once += 1
+            room.most = max(room.most, room.at_once)
+            room.asked.append((time.monotonic(), self.command, self.path, body.decode()))
+        status, content = room.answer_of(self.command, self.path, body and json.loads(body))
+        with room.lock:
+            room.at_once -= 1
+        if status is None:
+            return
+        if isinstance(content, int):
+            content = {'error': 'Refused', 'number': content}
+        content = json.dumps(content).encode()
+        self.send_response_only(status)
+        self.send_header('Date', self.date_time_string(NOW))
+        self.send_header('Content-Length', str(len(content)))
+        self.end_headers()
+        self.wfile.write(content)
+
+    do_POST = do_GET
+
+    def log_message(self, *_):
+        """Says nothing."""
+
+
+def vehicle(name, status=1, kind=1, place=(530000, 180000), incident=None, post=None, home=1,
+            left=3600):
+    return {'home': home, 'incident': incident, 'kind': kind, 'place': place, 'post': post,
+            'shift_end': NOW + left, 'status': status, 'vehicle': name}
+
+
+def incident(number, level=2, lack=(1, 0, 0), needs=(1, 0, 0), age=60, calls=1,
+             place=(530000, 180000)):
+    return {'calls': calls, 'class': level, 'lack': lack, 'needs': needs, 'number': number,
+            'opened': NOW - age, 'place': place}
+
+
+def entry(rank, number, name='', age=600):
+    return {'number': number, 'rank': rank, 'since': 0 if rank == 7 else NOW - age,
+            'vehicle': name}
+
+
+def loan(name, lender, borrower, until=1800, age=60, **more):
+    return {'borrower': borrower, 'lender': lender, 'since': NOW - age, 'until': NOW + until,
+            'vehicle': name} | more
+
+
+HOSTILE = ['<img src=x onerror=alert(1)>', '</span><script>alert(1)</script>', '"><b>&lt;']
+
+
+class Lists:
+    """The lists of a played room, and the answers to what else it is asked; 36 to the rest."""
+
+    def __init__(self, answers=None, **lists):
+        self.is_silent = False
+        self.lists = dict.fromkeys(
+            ['queue', 'incidents', 'vehicles', 'points', 'offers', 'loans'], []) | lists
+        self.answers = answers or {}
+
+    def __call__(self, method, path, body):
+        name = path.removeprefix('/')
+        if self.is_silent:
+            return None, None
+        if method == 'GET' and name in self.lists:
+            return 200, {name: self.lists[name]}
+        found = self.answers.get(f'{method} {path}', (404, 36))
+        return found(body) if callable(found) else found
+
+
+def posted(room):
+    """What a played room was asked to do: path and body."""
+    return [it[2:] for it in room.asked if it[1] == 'POST']
+
+
+def history(number, name, scene=None, note=''):
+    """An incident as the paths of history tell it: a second call made it urgent after the order."""
+    def call(serial, level, age, **more):
+        return {'class': level, 'linked': serial > 1, 'moment': NOW - age, 'needs': [1, 0, 0],
+                'note': note, 'place': [530000, 180000], 'position': 1, 'serial': serial} | more
+
+    turn = {'acknowledged': NOW - 890, 'ended': None, 'hospital': None, 'kind': 1, 'left': None,
+            'order': 1, 'ordered': NOW - 900, 'scene': scene, 'stood_down': False, 'vehicle': name}
+    return {'calls': [call(1, 2, 1000), call(2, 1, 500)], 'class': 1, 'first_order': NOW - 900,
+            'into': None, 'needs': [1, 0, 0], 'number': number, 'opened': NOW - 1000,
+            'place': [530000, 180000], 'served': [1, 0, 0], 'state': 0, 'turns': [turn]}
+
+
+def many():
+    """A room of 300 incidents and 200 vehicles in which each round finds other lists."""
+    turn = [0]
+
+    def at(number):
+        return [500000 + (number * 7919 + turn[0] * 97) % 50000, 100000 + number * 104729 % 100000]
+
+    def row(number):
+        status = (number + turn[0]) % 7
+        return vehicle(f'V{number}', status, number % 3 + 1, at(number + 500),
+                       number + 1 if 2 <= status <= 5 else None, 5 if status == 1 else None)
+
+    def answer_of(method, path, body):
+        turn[0] += path == '/queue'
+        return Lists(
+            queue=[entry(1 + it % 3, it + 1, f'V{it % 200}' if it % 3 else '')
+                   for it in range(300)],
+            incidents=[incident(it + 1, it % 3 + 1, [(it + turn[0]) % 2, it % 2, 0], [1, 1, 0],
+                                place=at(it)) for it in range(300)],
+            vehicles=[row(it) for it in range(200)],
+            points=[{'cover': 1, 'held': 0, 'number': it + 1, 'place': at(it)}
+                    for it in range(20)])(method, path, body)
+
+    return answer_of
+
+
+# A list by its key; and for each refusal a way to it, with what is said. Of those below 0 it is the
+# question for proposals that is refused.
+PANELS = {'queue': '1', 'incidents': '3', 'vehicles': '5', 'loans': '6'}
+REFUSALS = [
+    (-1, 'incidents Enter', 'no incident'), (-2, 'incidents Enter', 'closed or merged'),
+    (3, 'vehicles s Enter', 'does not hold'), (4, 'vehicles s Enter', 'is lent'),
+    (5, 'vehicles s Enter', 'status'), (6, 'incidents Enter Enter', 'shift is over'),
+    (7, 'incidents Enter Enter', 'no more'), (8, 'incidents n Enter', 'already serve'),
+    (9, 'incidents c Enter', 'still has an order'), (10, 'incidents m Enter', 'into itself'),
+    (11, 'vehicles p Enter', 'no standby point'), (12, 'vehicles l Enter', 'borrowed'),
+    (13, 'vehicles l Enter', 'no other division'), (14, 'loans r Enter', 'not on loan'),
+    (15, 'queue x Enter', 'cleared'), (19, 'incidents Enter Enter', 'no numbers left'),
+    (22, 'loans e Enter', 'no longer there'), (30, 'incidents c Enter', 'could not read'),
+    (31, 'incidents c Enter', 'too long'), (32, 'incidents c Enter', 'too long'),
+    (33, 'incidents c Enter', 'does not do'), (34, 'incidents c Enter', 'does not take'),
+    (36, 'incidents c Enter', 'no such thing'), (37, 'incidents c Enter', 'does not do this'),
+    (38, 'incidents c Enter', 'does not know this terminal'), (39, 'incidents c Enter', 'may not'),
+    (40, 'vehicles d Enter', 'Check each field'), (41, 'incidents c Enter', 'out of memory'),
+    (42, 'incidents c Enter', 'failed')]
+
+# What stands beside the queue in test_unranked.
+UNRANKED = [
+    ['Incident 1', 'nobody sent yet'],
+    ['Incident 4', 'lacks 1 ambulance, 1 car, 1 sent'],
+    ['Incident 7', 'lacks 1 ambulance, nobody is sent any longer'],
+    ['No car', 'none can be sent; incidents that lack one: 1'],
+    ['A2', 'at scene for long'],
+    ['Incident 5', 'all vehicles have left it, not closed'],
+    ['A8', f'offered to division 2, until {time_of(NOW + 1800)}: not answered'],
+    ['B1', 'offered by division 2, its time is over: answer it'],
+    ['B3', 'division 2 wants it back'],
+    ['A7', 'recalled, division 2 has it still']]
+PRINTED = ['Handover of division 1', 'in the queue: 24', 'More in the queue: 9', 'Points: 12',
+           'A8: report 1 came out of turn', 'Offers and loans: 2', 'B1: lent to division 2']
+LONGEST = 1000  # milliseconds of a redraw, on a machine that does much beside
+
+COUNT_TONES = """window.tones = 0;
+const { start } = AudioScheduledSourceNode.prototype;
+AudioScheduledSourceNode.prototype.start = function (...told) {
+  window.tones += 1;
+  return start.apply(this, told);
+};"""
+CUT_OFF = """return [...document.querySelectorAll('.lines')].flatMap((list) => {
+  const { bottom } = list.getBoundingClientRect();
+  return [...list.children].filter((it) => it.getBoundingClientRect().bottom > bottom + 1)
+    .map((it) => it.textContent); });"""
+
+
+class Played(TestCase):
+    def show(self, answer_of, token='deskone1'):
+        """A played room on the page."""
+        room = PlayedRoom(answer_of)
+        self.addCleanup(room.server_close)
+        self.addCleanup(room.shutdown)
+        show(self.enterContext(companion(room.port)), token)
+        return room
+
+    # ---- sending
+
+    def test_two_keys(self):
+        """From the queue's first line to a vehicle that is sent: two keys."""
+        found = [{'breaks': False, 'distance': 312, 'kind': 1, 'vehicle': 'A1'},
+                 {'breaks': True, 'distance': 5123, 'kind': 1, 'vehicle': 'A2'}]
+        proposed = [found, []]
+        room = self.show(Lists(
+            {'GET /incidents/3/propose': lambda _: (200, {'proposals': proposed.pop(0)}),
+             'POST /incidents/3/mobilise': (200, {'order': 7, 'vehicle': 'A1'}),
+             'POST /vehicles/A1/standdown': (200, {'done': True})},
+            queue=[entry(1, 3), entry(1, 4)], incidents=[incident(3), incident(4)]))
+        BROWSER.press('Enter')
+        self.check('proposals', told_in('.choice'), ['A1 ambulance, 312 m',
+                                                     'A2 ambulance, 5.1 km breaks cover'])
+        BROWSER.press('Enter')
+        self.check('what was done', told('.queue .said'),
+                   'A1 is sent to incident 3: order 7. u takes it back: stand A1 down.')
+        until(lambda: not is_shown('.drawer'), SOON)
+        self.check('what was sent', posted(room), [('/incidents/3/mobilise', '{"vehicle":"A1"}')])
+        BROWSER.press('u')
+        until(lambda: len(posted(room)) > 1, SOON)
+        self.check('taken back', posted(room)[1:], [('/vehicles/A1/standdown', '')])
+        self.check_unanswered(room)
+
+    def check_unanswered(self, room):
+        """What got no answer is not sent again by itself."""
+        before = len(posted(room))
+        room.answer_of.answers['POST /incidents/3/close'] = (None, None)
+        BROWSER.press('c', 'Enter')
+        self.check('no answer', told('.queue .drawer .bad').startswith('No answer came.'), True)
+        refresh(2)
+        self.check('sent once', posted(room)[before:], [('/incidents/3/close', '')])
+
+    def test_moved(self):
+        """What acts at once does nothing where the list moved under the person's fingers."""
+        offers = [loan('B1', 2, 1), loan('B2', 2, 1)]
+        room = self.show(Lists({'POST /vehicles/B2/accept': (200, {'done': True})}, offers=offers,
+                               vehicles=[vehicle('A1')]))
+        BROWSER.press('6')
+        del offers[0]
+        until(lambda: [it[2] for it in rows('loans')] == ['B2'], SOON)
+        BROWSER.press('a')
+        self.check('it is said', told('.loans .said'),
+                   'The list has just moved. Look at the line, and press again.')
+        self.check('nothing was sent', posted(room), [])
+        time.sleep(2.1)
+        BROWSER.press('a')
+        wanted = 'B2 is lent to this division. u takes it back: give B2 back.'
+        until(lambda: told('.loans .said') == wanted, SOON)
+        self.check('then it is sent', told('.loans .said'), wanted)
+
+    # ---- refusals
+
+    def test_refusals(self):
+        """Each refusal that the page can meet, in words, in the list where it arose."""
+        answers = Lists(
+            queue=[entry(4, 9, 'A1')], incidents=[incident(3)], vehicles=[vehicle('A1')],
+            offers=[loan('B1', 2, 1)])
+        number = [0]
+
+        def answer_of(method, path, body):
+            if path == '/incidents/3/propose' and number[0] > 0:
+                return 200, {'proposals': [{'breaks': False, 'distance': 1, 'kind': 1,
+                                            'vehicle': 'A1'}]}
+            is_told = method == 'POST' or path.endswith('/propose')
+            return (409, abs(number[0])) if is_told else answers(method, path, body)
+
+        self.show(answer_of)
+        for number[0], keys, words in REFUSALS:
+            name, *rest = keys.split()
+            BROWSER.press(PANELS[name])
+            for key in rest:
+                BROWSER.press(key)
+                until(lambda: is_shown('.drawer, .bad'), 3)
+            shown = f'({abs(number[0])})'
+            found = until(lambda: [it for it in BROWSER.texts(f'.{name} .bad') if shown in it],
+                          SOON)
+            self.check(f'{number[0]} after {keys}', [words in it for it in found], [True])
+            BROWSER.press('Escape')
+
+    # ---- what is seen
+
+    def test_pages(self):
+        """Nothing is hidden: pages turn, by keys and by clicks, in the room's order."""
+        wanted = [entry(1 + it // 40, it + 1, f'V{it}' if it > 39 else '') for it in range(70)]
+        lists = Lists(queue=wanted)
+        self.show(lists)
+        names = [it['vehicle'] or f'Incident {it["number"]}' for it in wanted]
+        pages = [[it[2] for it in rows('queue')]]
+        count = int(BROWSER.text('.queue .page').split(' ')[-1])
+        for _ in range(count - 1):
+            BROWSER.press('PageDown')
+            pages.append([it[2] for it in rows('queue')])
+        self.check('more than one page', count > 1, True)
+        self.check('all lines, once each', [it for page in pages for it in page], names)
+        self.check('no line is cut off', BROWSER.run(CUT_OFF), [])
+        BROWSER.press('Home')
+        BROWSER.click('.queue [aria-label="Queue: next page"]')
+        self.check('a click turns, too', [it[2] for it in rows('queue')], pages[1])
+        selected = told('.queue [aria-selected=true] .what')
+        del lists.lists['queue'][:3]
+        refresh()
+        self.check('the selected line stays', told('.queue [aria-selected=true] .what'), selected)
+
+    def test_unranked(self):
+        """What no rank of the queue shows, by state."""
+        lists = Lists(
+            queue=[entry(1, 3), entry(8, 2, 'A9')],
+            incidents=[incident(1, 1), incident(3, age=400),
+                       incident(4, lack=(1, 1, 0), needs=(2, 1, 0)),
+                       incident(5, lack=(0, 0, 0)), incident(6, lack=(0, 0, 0)),
+                       incident(7, lack=(1, 0, 0), needs=(2, 0, 0))],
+            vehicles=[vehicle('A1'), vehicle('A2', 3, incident=4), vehicle('A3', 2, incident=6),
+                      vehicle('A8', 7), vehicle('A9', 7), vehicle('C1', 1, 2, left=-5),
+                      vehicle('B3', 1, home=2)],
+            offers=[loan('A8', 1, 2), loan('A9', 1, 2, age=400), loan('B1', 2, 1, until=-5)],
+            loans=[loan('B3', 2, 1, recalled=True), loan('A7', 1, 2, recalled=True),
+                   loan('A6', 1, 2, recalled=False)],
+            answers={'GET /incidents/4': (200, history(4, 'A2', scene=NOW - 7500))})
+        self.show(lists)
+        until(lambda: 'A2' in [it[2] for it in rows('unranked')], SOON)
+        pages, words = int(told('.unranked .page').split(' ')[-1] or 1), []
+        BROWSER.press('2')
+        for _ in range(pages):
+            words += [[it[2], it[3]] for it in rows('unranked')]
+            BROWSER.press('PageDown')
+        self.check('what no rank shows', words, UNRANKED)
+        lists.lists['incidents'][4]['calls'] = 2
+        BROWSER.press('h')
+        BROWSER.type('130')
+        BROWSER.press('Enter', 'Home')
+        refresh()
+        found = [[it[2], it[3]] for it in rows('unranked')]
+        self.check('a further call', ['Incident 6', 'a further call: 2 now'] in found, True)
+        self.check('the bound that was set', [it for it in found if it[0] == 'A2'], [])
+
+    def test_incident(self):
+        """An incident's page: calls and turns; and without history what the lists know."""
+        told_of = history(4, 'A2', scene=NOW - 100)
+        told_of['calls'][0]['note'] = HOSTILE[1]
+        answers = {'GET /incidents/4': (200, told_of)}
+        self.show(Lists(answers, incidents=[incident(4)], vehicles=[vehicle('A2', 3, incident=4)]))
+        BROWSER.press('3', 'o')
+        until(lambda: is_shown('#incident td'), SOON)
+        self.check('calls', cells(1)[0], ['1', '1', time_of(NOW - 1000), '2', '1 ambulance',
+                                          'TQ 300 800', 'first', HOSTILE[1]])
+        self.check('turns', cells(2)[0], ['A2', '1', 'ambulance', *map(time_of, [
+            NOW - 900, NOW - 890, NOW - 100]), '\u2013', '\u2013', '\u2013',
+            'its order does not say class 1'])
+        BROWSER.press('Escape')
+        self.check('the lists again', until(lambda: is_shown('#lists'), SOON), True)
+        del answers['GET /incidents/4']
+        BROWSER.press('i')
+        BROWSER.type('4')
+        BROWSER.press('Enter')
+        until(lambda: is_shown('#incident td'), SOON)
+        self.check('without history', [it in told('#incident') for it in (
+            'This room is served without history', 'lacks 1 ambulance; A2 at scene')], 2 * [True])
+        BROWSER.press('Escape')
+
+    def test_hostile(self):
+        """Nothing that came from elsewhere becomes markup."""
+        offers = [loan(it, 2, 1) for it in HOSTILE]
+        room = self.show(Lists(
+            queue=[entry(4, 1, it) for it in HOSTILE], offers=offers,
+            vehicles=[vehicle(it, 2, incident=1) for it in HOSTILE], incidents=[incident(1)],
+            answers={'GET /incidents/1': (200, history(1, HOSTILE[0], note=HOSTILE[2]))}))
+        self.check('names', [it[2] for it in rows('vehicles')], HOSTILE)
+        BROWSER.press('s')
+        self.check('a confirmation', told('.drawer .note'),
+                   f'Stand {HOSTILE[0]} down? Its crew loses the order.')
+        BROWSER.press('Enter')
+        until(lambda: posted(room), SOON)
+        self.check('a path is one path', posted(room)[0][0].count('/'), 3)
+        BROWSER.press('Escape', '3', 'o')
+        until(lambda: is_shown('#incident td'), SOON)
+        self.check('a note', cells(1)[0][-1], HOSTILE[2])
+        self.check('no markup', BROWSER.run("return document.querySelectorAll('img, li b, td b, "
+                                            "script:not([type=module])').length"), 0)
+        BROWSER.press('Escape')
+
+    def test_alarm(self):
+        """A class 1 to which nobody is sent sounds and shows until somebody looks."""
+        lists = Lists({f'GET /incidents/{it}/propose': (200, {'proposals': []}) for it in (1, 2)},
+                      incidents=[incident(5, 1, lack=(0, 0, 0)), incident(6, 2)])
+        self.show(lists)
+        BROWSER.run(COUNT_TONES)
+        refresh()
+        self.check('served, or less urgent', is_shown('#alarm'), False)
+        lists.lists['incidents'].append(incident(1, 1))
+        self.check('it shows', until(lambda: is_shown('#alarm'), SOON), True)
+        self.check('which', 'incident 1 at TQ 300 800' in told('#alarm'), True)
+        BROWSER.press('ArrowDown')
+        self.check('it sounds', until(lambda: BROWSER.run('return tones') > 2, SOON), True)
+        self.check('a key is no look', is_shown('#alarm'), True)
+        BROWSER.press('v')
+        self.check('somebody looks', until(lambda: not is_shown('#alarm'), SOON), True)
+        self.check('at its proposals', told('.incidents .drawer h3'), 'Send to incident 1')
+        BROWSER.press('Escape')
+        time.sleep(1)
+        before = BROWSER.run('return tones')
+        refresh(2)
+        self.check('it is silent', BROWSER.run('return tones'), before)
+        lists.lists['incidents'].append(incident(2, 1))
+        until(lambda: is_shown('#alarm'), SOON)
+        self.check('the next one', ['incident 2' in told('#alarm'), 'incident 1' in told('#alarm')],
+                   [True, False])
+        lists.lists['incidents'][-1]['lack'] = (0, 0, 0)
+        self.check('somebody is sent', until(lambda: not is_shown('#alarm'), SOON), True)
+
+    def test_rounds(self):
+        """How old each list is; and what it costs the room."""
+        lists = Lists({'GET /incidents/4': (200, history(4, 'A2'))}, incidents=[incident(4)],
+                      vehicles=[vehicle('A2', 3, incident=4)])
+        room = self.show(lists)
+        refresh(3)
+        self.check('new lists have no age', BROWSER.texts('.old'), 6 * [''])
+        starts = [it[0] for it in room.asked if it[2] == '/queue'][1:]  # the first is of signing in
+        gaps = [later - before for before, later in zip(starts, starts[1:])]
+        self.check('a round every two seconds', [it for it in gaps if it < 1.8], [])
+        self.check('never two at once', room.most, 1)
+        self.check('it only gets', {it[1] for it in room.asked}, {'GET'})
+        lists.is_silent = True
+        self.check('old lists say so', until(lambda: all(
+            re.fullmatch('0:[0-9]+ old', it) for it in BROWSER.texts('.old')), SOON), True)
+        self.check('and then the page', until(lambda: is_shown('#stale'), SOON), True)
+        self.check('in words', 'No new answer from the room since' in told('#stale'), True)
+        lists.is_silent = False
+        self.check('an answer again', until(lambda: not is_shown('#stale'), SOON), True)
+
+    def test_print(self):
+        """The handover: one page of A4 at 30 incidents, with all that the lists know."""
+        lists = Lists(
+            queue=[*(entry(1, it) for it in range(1, 16)),
+                   *(entry(4, 1, f'A{it}') for it in range(9))],
+            incidents=[incident(it, 1 + it % 3, calls=2, needs=(1, 1, 0)) for it in range(1, 31)],
+            vehicles=[vehicle(f'A{it}', it % 8, incident=it + 1 if 2 <= it % 8 <= 5 else None)
+                      for it in range(40)],
+            points=[{'cover': 1, 'held': 0, 'number': it, 'place': [530000, 180000]}
+                    for it in range(1, 13)],
+            offers=[loan('A7', 1, 2)], loans=[loan('B1', 1, 2, recalled=True)])
+        self.show(lists)
+        pages, text = self.printed()
+        self.check('one page of A4', pages, (1, '595.92 x 841.92 pts (A4)'))
+        words = set(re.findall(r'[\w.:]+', text))
+        self.check('each vehicle', [f'A{it}' for it in range(40) if f'A{it}' not in words], [])
+        numbers = re.findall(r'^ *(\d+) +[123] +TQ 300 800 ', text, re.M)
+        self.check('each incident', numbers, [str(it) for it in range(1, 31)])
+        self.check('each list', [it for it in PRINTED if it not in text], [])
+        lists.lists['incidents'] *= 3
+        refresh()
+        self.check('three times as many take more', self.printed()[0][0] > 1, True)
+
+    def printed(self):
+        """How many pages are printed and of what size, and their text."""
+        paper = self.folder / 'handover.pdf'
+        paper.write_bytes(base64.b64decode(patiently(BROWSER.paper)))
+        about = subprocess.run(['pdfinfo', paper], capture_output=True, text=True).stdout
+        text = subprocess.run(['pdftotext', '-layout', paper, '-'], capture_output=True, text=True)
+        size = re.search('Page size: +(.*)', about)[1]
+        return (int(re.search('Pages: +([0-9]+)', about)[1]), size), text.stdout
+
+    # ---- for everyone
+
+    def test_access(self):
+        """Contrast, names, focus and a phone's width, with forms and without."""
+        self.show(Lists(queue=[entry(1, 3)], incidents=[incident(3, 1)],
+                        vehicles=[vehicle('A1'), vehicle('A2', 2)],
+                        points=[{'cover': 2, 'held': 0, 'number': 1, 'place': [530000, 180000]}],
+                        offers=[loan('B1', 2, 1)]))
+        for scheme in 'light', 'dark':
+            BROWSER.devtools('Emulation.setEmulatedMedia',
+                             features=[{'name': 'prefers-color-scheme', 'value': scheme}])
+            for keys in '1', '3 n', 'Escape 5 d', 'Escape ?', 'Escape':
+                BROWSER.press(*keys.split())
+                self.check(f'{scheme}, {keys}: contrast', weak_texts(BROWSER), [])
+                if keys != 'Escape ?':  # which is a dialog, and the rest is out of reach
+                    self.check(f'{scheme}, {keys}: names', nameless(BROWSER), [])
+        BROWSER.devtools('Emulation.setEmulatedMedia', features=[])
+        self.check('focus', unseen_focus(BROWSER), [])
+        self.check_keys_told()
+        BROWSER.size(*PHONE)
+        BROWSER.press('5', 'l')
+        self.check('no scrolling sideways', BROWSER.run(
+            'return document.documentElement.scrollWidth'), PHONE[0])
+        self.check('targets', small_targets(BROWSER), [])
+        self.check('contrast on a phone', weak_texts(BROWSER), [])
+        BROWSER.press('Escape')
+
+    def check_keys_told(self):
+        """The keys that fit a line are seen, and ? shows all."""
+        BROWSER.press('6')
+        shown = BROWSER.texts('#keys kbd')
+        self.check('keys of an offer', [it for it in 'ae' if it not in shown], [])
+        self.check('no keys of a loan', [it for it in 'rb' if it in shown], [])
+        BROWSER.press('?')
+        all_keys = BROWSER.texts('#help kbd')
+        wanted = ['Enter', *'gsnmcpdfxtlwaerboiuvh/?']
+        self.check('all keys', [it for it in wanted if it not in all_keys], [])
+        BROWSER.press('Escape')
+
+    def test_many(self):
+        """300 incidents and 200 vehicles: how long a redraw takes, until it is shown. What else
+        runs on the machine makes some slower: it is the quickest that counts."""
+        self.show(many())
+        took = []
+        while len(took) < 12 and min(took, default=LONGEST + 1) > LONGEST:
+            refresh()
+            took.append(float(BROWSER.run(
+                'return document.documentElement.dataset.redrawMilliseconds')))
+        self.check('counts', [told(f'.{it} .count') for it in ('queue', 'incidents', 'vehicles')],
+                   ['300', '300', '200'])
+        self.check('a redraw', [it for it in took if min(took) > LONGEST], [])
+
+
+# ---- a served room
+
+
+class Served(TestCase):
+    """The room itself: each action by its key, and the tables."""
+
+    def setUp(self):
+        super().setUp()
+        self.now = int(time.time())
+        self.room = made(self.folder / 'room.db', 'A1,1,1,TQ303804,crewofa1',
+                         'A2,1,1,TQ320804,crewofa2', 'B1,2,1,TQ600800,crewofb1')
+        with serving(self.room, 1) as (port, process):
+            ask(port, *[message('takerone', 'POST /call', '{"class":1,"needs":[1,0,0],'
+                                f'"note":"<b>fall</b>","place":"{place}","serial":{serial}}}')
+                        for serial, place in ((1, 'TQ300800'), (2, 'TQ310800'))])
+            process.wait(60)
+        # Both are in the queue where nobody was sent for three minutes.
+        told = sql(self.room, 'UPDATE incidents SET opened = opened - 200',
+                   'UPDATE calls SET moment = moment - 200')
+        assert told == '', told
+
+    def rows(self, query):
+        """What a query gives of the room's tables, copied while the program is held."""
+        copy = self.folder / 'copy.db'
+        self.process.send_signal(signal.SIGSTOP)
+        try:
+            for end in '', '-wal':
+                shutil.copy(f'{self.room}{end}', f'{copy}{end}')
+        finally:
+            self.process.send_signal(signal.SIGCONT)
+        return sql(copy, query).strip()
+
+    def does(self, what, keys, query, wanted):
+        """Keys and texts after a sign of equality, and what the tables have soon after. Enter after
+        other keys is for the form that they opened; `lists` waits for those of now."""
+        for place, key in enumerate(keys.split()):
+            if key.startswith('='):
+                BROWSER.type(key[1:])
+            elif key == 'lists':
+                refresh()
+            else:
+                if key == 'Enter' and place:
+                    until(lambda: is_shown('.drawer'), SOON)
+                BROWSER.press(key)
+        found = []
+        until(lambda: found.append(self.rows(query)) or found[-1] == wanted, SOON)
+        self.check(what, found[-1], wanted)
+        until(lambda: not is_shown('.drawer'), SOON)
+
+    def told(self, *words):
+        (status, body), = ask(self.port, message(*words))
+        assert status == 200, body
+        return json.loads(body)
+
+    def test_actions(self):
+        """Each action by its key, from the lists to the tables."""
+        with serving(self.room, 99999) as (self.port, self.process), \
+                companion(self.port) as address:
+            show(address)
+            self.check_shifts()
+            self.check_sending()
+            self.check_incidents()
+            self.check_points()
+            self.check_lending()
+            self.check_borrowing()
+            self.check_reports()
+            self.check_real_incident()
+
+    def check_shifts(self):
+        status = 'SELECT callsign, status FROM vehicles WHERE home = 1'
+        self.does('on duty', '5 d Enter', status, 'A1|1\nA2|0')
+        self.does('that is taken back', 'u', status, 'A1|0\nA2|0')
+        self.does('on duty again', 'd Enter', status, 'A1|1\nA2|0')
+        self.does('off duty', 'lists Home f', status, 'A1|0\nA2|0')
+        self.does('that is taken back, too', 'u', status, 'A1|1\nA2|0')
+        self.does('the next line', 'ArrowDown d Enter', status, 'A1|1\nA2|1')
+        ends = f'SELECT shift_end - {self.now} BETWEEN 43000 AND 45000 FROM vehicles WHERE home = 1'
+        self.check('twelve hours where nothing else is written', self.rows(ends), '1\n1')
+
+    def check_sending(self):
+        """Both incidents are in the queue, and two keys send the nearest vehicle to the first."""
+        self.check('the queue', [it[1:] for it in rows('queue')],
+                   [['class 1', f'Incident {it}', 'nobody sent', place]
+                    for it, place in ((1, 'TQ 300 800'), (2, 'TQ 310 800'))])
+        refresh()
+        BROWSER.press('1')
+        sent = 'SELECT callsign, incident FROM assignments'
+        self.does('two keys', 'Enter Enter', sent, 'A1|1')
+        self.does('stood down', '5 Home s Enter', sent, '')
+        self.check('the turn', self.rows('SELECT stood_down FROM turns'), '1')
+        self.does('sent by hand', 'g =2 Enter', sent, 'A1|2')
+        self.does('that is taken back', 'u', sent, '')
+
+    def check_incidents(self):
+        needs = 'SELECT need1, need2, need3 FROM incidents WHERE number = 1'
+        self.does('needs', '3 Home n Tab =1 Enter', needs, '1|1|0')
+        self.does('that is taken back', 'u', needs, '1|0|0')
+        states = 'SELECT number, state, into_number FROM incidents'
+        self.does('merged', 'm Enter', states, '1|2|2\n2|0|')
+        self.does('closed', 'lists Home c Enter', states, '1|2|2\n2|1|')
+
+    def check_points(self):
+        points = 'SELECT number, east, north, cover FROM points'
+        self.does('a point', '4 t =7 Tab =TQ300805 Tab =1 Enter', points, '7|530000|180500|1')
+        self.does('moved', 'lists t Tab =TQ301805 Enter', points, '7|530100|180500|1')
+        self.does('that is taken back', 'u', points, '7|530000|180500|1')
+        posts = 'SELECT callsign, post FROM vehicles WHERE home = 1'
+        self.does('to a point', '5 Home p Enter', posts, 'A1|7\nA2|')
+        self.does('that is taken back', 'u', posts, 'A1|\nA2|')
+
+    def check_lending(self):
+        offers = 'SELECT callsign, lender, borrower FROM offers'
+        self.does('offered', 'l =2 Enter', offers, 'A1|1|2')
+        self.does('that is taken back', 'u', offers, '')
+        self.does('offered again', 'l =2 Enter', offers, 'A1|1|2')
+        self.does('withdrawn', 'lists Home w', offers, '')
+        self.does('that is taken back, too', 'u', offers, 'A1|1|2')
+        self.told('desktwo2', 'POST /vehicles/A1/accept')
+        refresh()
+        loans = 'SELECT callsign, borrower, recalled FROM loans'
+        self.does('recalled', '6 Home r Enter', loans, 'A1|2|1')
+        BROWSER.press('e', 'Enter')
+        self.check('a refusal', told('.loans .drawer .bad'), 'The offer is no longer there: it was '
+                   'withdrawn, accepted or declined. (22)')
+        BROWSER.press('Escape')
+        self.told('desktwo2', 'POST /vehicles/A1/giveback')
+
+    def check_borrowing(self):
+        end = self.now + 3600
+        self.told('desktwo2', 'POST /vehicles/B1/duty', f'{{"place":"TQ600800","until":{end}}}')
+        offer = f'{{"to":1,"until":{end}}}'
+        self.told('desktwo2', 'POST /vehicles/B1/lend', offer)
+        refresh()
+        loans = 'SELECT callsign, lender, borrower FROM loans'
+        self.does('accepted', 'Home a', loans, 'B1|2|1')
+        self.does('that is taken back', 'u', loans, '')
+        self.told('desktwo2', 'POST /vehicles/B1/lend', offer)
+        refresh()
+        self.does('accepted again', 'Home a', loans, 'B1|2|1')
+        self.does('given back', 'lists Home b Enter', loans, '')
+        self.told('desktwo2', 'POST /vehicles/B1/lend', offer)
+        refresh()
+        self.does('declined', 'Home e Enter', 'SELECT count(*) FROM offers', '0')
+
+    def check_reports(self):
+        self.told('crewofa2', 'POST /report',
+                  '{"button":"home","number":1,"order":0,"place":"TQ320804"}')
+        self.told('crewofa2', 'POST /report',
+                  '{"button":"leave","number":2,"order":5,"place":"TQ320804"}')
+        refresh()
+        BROWSER.press('1')
+        at = [it[3] for it in rows('queue')].index('report 2 came out of turn')
+        keys = ' '.join(['Home', *at * ['ArrowDown'], 'x', 'Enter'])
+        self.does('cleared', keys, 'SELECT number, cleared FROM reports', '1|0\n2|1')
+
+    def check_real_incident(self):
+        """The incident's page, as this program serves it."""
+        BROWSER.press('i')
+        BROWSER.type('2')
+        BROWSER.press('Enter')
+        until(lambda: 'history' in told('#incident') or is_shown('#incident td'), SOON)
+        words = told('#incident')
+        has_history = 'without history' not in words
+        self.check('what it says', '<b>fall</b>' in words if has_history
+                   else 'No active incident has this number.' in words, True)
+        BROWSER.press('Escape')

@@ -1,0 +1,537 @@
+"""The crew's page in a browser of a phone's size, by taps and keys, over a served room and a line
+that is cut: each press acts once and in order."""
+# needs: chromium chromium-driver sqlite3
+# builds: dispatch_room
+import contextlib
+import json
+import os
+import random
+import re
+import subprocess
+import tempfile
+import time
+import unittest
+
+from browser import ELEMENT, Browser, Line, until
+from pages import PHONE, companion, faults_everywhere, sign_in
+from room import PATIENT, PROGRAM, TOP, TestCase, ask, call, free_port, made, message, sql
+
+EVERY = 'EVERY_PLACE' in os.environ
+CUTS, CUT_FOR = (30, 5.0) if EVERY else (5, 1.5)  # moments, seconds
+REPORT_BYTES = 3000  # a report and its answer with what a browser sends beside them, some
+AGAIN_AFTER = 0.8  # seconds from one press to the next, for the page takes two taps as one
+# A point of the Ordnance Survey's test data for OSTN15 (TP09, in London): degrees of ETRS89, and
+# metres of the National Grid, here cut to 10 m as the page does.
+STANDS, STANDS_AT = (51.48936564950, -0.11992557180), (530620, 178380)
+BUTTONS = ['position', 'mobile', 'scene', 'leave', 'hospital', 'return', 'home']
+OUTCOMES = ['normal', 'skipped', 'wrong', 'late', 'stale']
+BROWSER = None
+
+
+def setUpModule():
+    global BROWSER
+    folder = unittest.enterModuleContext(
+        tempfile.TemporaryDirectory(ignore_cleanup_errors=True))
+    BROWSER = unittest.enterModuleContext(Browser(folder))
+    BROWSER.size(*PHONE)
+
+
+# ---- a room, its pages, and a line between them and the browser
+
+
+@contextlib.contextmanager
+def serving_at(file, port):
+    """Serves a room at a port, which another may have served before."""
+    command = [PROGRAM, 'serve', file, f'127.0.0.1:{port}', '--connections', '99999', *PATIENT]
+    process = subprocess.Popen(command, stdin=subprocess.DEVNULL, stdout=subprocess.PIPE)
+    try:
+        assert process.stdout.readline() == b'serving\n', 'not served'
+        yield
+    finally:
+        process.kill()
+        process.communicate()
+
+
+class Watched:
+    """A stream that is read, until an answer to a report comes that its line shall lose."""
+
+    def __init__(self, reader, line):
+        self.reader, self.line = reader, line
+
+    async def read(self, count):
+        piece = await self.reader.read(count)
+        if self.line.loses and b'"outcome"' in piece:
+            self.line.loses = False
+            self.line.break_all()
+            return b''
+        return piece
+
+
+class Losing(Line):
+    """A line that can be cut as the answer to a report comes, which nobody then hears."""
+    loses = False
+
+    async def pump(self, reader, writer):
+        return await super().pump(Watched(reader, self), writer)
+
+
+class Served(TestCase):
+    def setUp(self):
+        super().setUp()
+        self.file = made(self.folder / 'room.db', 'A1,1,1,TQ303804,crewofa1')
+        self.room_port = free_port()
+        self.room = self.enterContext(contextlib.ExitStack())
+        self.room.enter_context(serving_at(self.file, self.room_port))
+        port = free_port()
+        self.enterContext(companion(self.room_port, listen=f'127.0.0.2:{port}'))
+        self.line = self.enterContext(Losing(('127.0.0.2', port), port))
+        self.address = f'http://localhost:{port}/'
+        self.pressed, self.last_press = [], 0
+        BROWSER.stand_at(*STANDS)
+
+    # -- the others in the room
+
+    def ask(self, token, line, body=''):
+        """The body of the answer to one message, which goes past the line."""
+        (status, body), = ask(self.room_port, message(token, line, body))
+        assert status == 200, body
+        return json.loads(body)
+
+    def go_on_duty(self):
+        self.ask('deskone1', 'POST /vehicles/A1/duty',
+                 f'{{"place":"TQ303804","until":{int(time.time()) + 3600}}}')
+
+    def mobilise(self):
+        self.ask('deskone1', 'POST /incidents/1/mobilise', '{"vehicle":"A1"}')
+
+    def send_out(self):
+        """A vehicle on duty, and its first order."""
+        self.go_on_duty()
+        ask(self.room_port, call(1))
+        self.mobilise()
+
+    def report(self, number, button='position', order=0):
+        """A report that another page sends."""
+        return self.ask('crewofa1', 'POST /report', json.dumps({
+            'button': button, 'number': number, 'order': order, 'place': 'TQ300800'},
+            separators=(',', ':')))
+
+    # -- the crew
+
+    def sign_in(self):
+        self.check('signed in', sign_in(BROWSER, self.address, 'crew', 'crewofa1'), True)
+        self.check('the room is heard', bool(until(lambda: BROWSER.text('#status'), 20)), True)
+        until(self.is_placed, 20)
+
+    def is_placed(self):
+        return BROWSER.text('#fix').startswith('By the phone')
+
+    def tap(self, button):
+        """Presses a button as soon as the page takes another one."""
+        time.sleep(max(0, self.last_press + AGAIN_AFTER - time.monotonic()))
+        BROWSER.click(f'[data-button={button}]:enabled')
+        self.last_press = time.monotonic()
+        self.pressed.append(button)
+
+    def tell(self, count=None, seconds=60):
+        """What stands of the latest press, once so many are shown and it is answered."""
+        wanted = len(self.pressed) if count is None else count
+
+        def told():
+            shown = BROWSER.texts('#reports li')
+            is_whole = len(shown) >= min(wanted, 20) and 'Not sent yet' not in shown[0]
+            return shown[0].split('\n') if is_whole else None
+        return until(told, seconds)
+
+    def is_all_sent(self, seconds=60):
+        return until(lambda: not BROWSER.text('#waiting'), seconds)
+
+    # -- what became of it
+
+    def reports(self, columns='button, outcome'):
+        """What the table of reports has, once the room has ended."""
+        self.room.close()
+        return sql(self.file, f'SELECT {columns} FROM reports ORDER BY number').splitlines()
+
+    def check_once(self, words=''):
+        """Each press stands in the table once and in order, and acted as the table of buttons has
+        it: none came late."""
+        rows = [it.split('|') for it in self.reports('button, outcome, number, moment')]
+        self.check(f'each press once, in order{words}', [BUTTONS[int(it[0])] for it in rows],
+                   self.pressed)
+        self.check(f'none late, wrong or stale{words}', [it for it in rows if int(it[1]) > 1], [])
+        moments = [int(it[3]) for it in rows]
+        self.check(f'as they were pressed{words}', moments, sorted(moments))
+
+
+# ---- the table of buttons
+
+
+def table_of_buttons():
+    """What docs/RULES.md says of each button at each status, by the status' words."""
+    rules = (TOP / 'docs' / 'RULES.md').read_text()
+    rows = [re.split(r' *\| *', it)[1:-1] for it in re.findall(r'^\| \d [a-z ]+\|.*$', rules, re.M)]
+    return {row[0][2:]: dict(zip(BUTTONS, row[1:])) for row in rows if len(row) == 8}
+
+
+TABLE = table_of_buttons()
+
+
+def normal_at(status, is_acknowledged=True):
+    cells = TABLE[status]
+    found = {it for it in BUTTONS if cells[it].startswith(('normal', 'stays'))}
+    return found if status != 'mobilised' or is_acknowledged else found - {'scene'}
+
+
+def shown(where):
+    return BROWSER.run(f"return [...document.querySelectorAll('#{where} button')]"
+                       ".map((it) => it.dataset.button)")
+
+
+class Turn(Served):
+    def check_front(self, status, is_acknowledged=True):
+        """The status in words, and in front what the table calls normal at it."""
+        until(lambda: BROWSER.text('#status') == status, 20)
+        self.check('the status', BROWSER.text('#status'), status)
+        front = shown('front')
+        self.check(f'in front: {status}', set(front), normal_at(status, is_acknowledged))
+        self.check(f'all seven: {status}', sorted(front + shown('behind')), sorted(BUTTONS))
+        return front
+
+    def test_turn(self):
+        """A whole turn, each button once, from off duty to home."""
+        self.check('the table has eight statuses', len(TABLE), 8)
+        self.sign_in()
+        self.check_front('off duty')
+        self.send_out()
+        self.check('the first in front', self.check_front('mobilised', False)[0], 'mobile')
+        self.check('the order', BROWSER.text('#order').split('\n'),
+                   ['New order: press Mobile.', 'Class 2', 'Order 1', 'TQ 300 800',
+                    'Incident 1 of division 1'])
+        sizes = BROWSER.run("return [...document.querySelectorAll('body, body *')].map((it) => "
+                            "[parseFloat(getComputedStyle(it).fontSize), it.className])")
+        self.check('in the largest letters', [max(sizes)[1], max(sizes)[0] >= 40], ['loud', True])
+        for button, status in [('mobile', 'mobilised'), ('scene', 'at scene'), ('leave', 'leaving'),
+                               ('hospital', 'at hospital'), ('return', 'returning'),
+                               ('home', 'available')]:
+            self.tap(button)
+            self.check(f'{button} is told', self.tell()[1], f'Taken: you are {status}.')
+            self.check_front(status)
+        self.ask('deskone1', 'POST /vehicles/A1/lend',
+                 f'{{"to":2,"until":{int(time.time()) + 3600}}}')
+        self.check_front('offered')
+        east, north = STANDS_AT
+        self.check('the table', self.reports('button, ord, east, north, outcome'),
+                   [f'{BUTTONS.index(it)}|1|{east}|{north}|0' for it in self.pressed])
+
+    def test_post(self):
+        self.go_on_duty()
+        self.ask('deskone1', 'POST /points/4', '{"cover":1,"place":"TQ300800"}')
+        self.ask('deskone1', 'POST /vehicles/A1/standby', '{"point":4}')
+        self.sign_in()
+        self.check('no order', BROWSER.text('#order').split('\n'),
+                   ['No order', 'Wait at standby point 4.'])
+
+    def test_two_taps(self):
+        """A finger that taps twice presses once, whatever stands under it then."""
+        self.send_out()
+        self.sign_in()
+        button = BROWSER.find('[data-button=mobile]')
+        move = {'type': 'pointerMove', 'duration': 0, 'origin': {
+            ELEMENT: button}, 'x': 0, 'y': 0}
+        taps = 2 * [{'type': 'pointerDown', 'button': 0}, {'type': 'pointerUp', 'button': 0},
+                    {'type': 'pause', 'duration': 150}]
+        BROWSER.act({'type': 'pointer', 'id': 'finger', 'actions': [move, *taps]})
+        self.pressed.append('mobile')
+        self.check('taken', self.tell()[1], 'Taken: you are mobilised.')
+        time.sleep(1.5)
+        self.check('once', len(BROWSER.all('#reports li')), 1)
+        self.check_once()
+
+
+# ---- what became of it, in words
+
+
+class Words(Served):
+    def test_outcomes(self):
+        self.send_out()
+        self.sign_in()
+        opened = time.monotonic()
+        for button, what, words in [
+                ('scene', 'skipped', 'Taken: you are at scene. A button before it was left out; '
+                 'your desk sees that.'),
+                ('mobile', 'wrong', 'Not taken: it does not fit, for you are at scene. '
+                 'Your desk sees that.')]:
+            self.tap(button)
+            self.check(what, self.tell()[1], words)
+        first = self.number()
+        self.tap('position')
+        self.tell()
+        time.sleep(max(0, opened + 8 - time.monotonic()))
+        self.report(first + 3)
+        self.tap('position')
+        self.check('late', self.tell()[1], 'Not taken: a report with a later number came before '
+                   'it. Your desk sees that. Press it again where it still holds.')
+        self.tap('position')
+        self.check('not late again', self.tell()[1], 'Taken: you are at scene.')
+        self.check('the table', [OUTCOMES[int(it)] for it in self.reports('outcome')],
+                   ['skipped', 'wrong', 'normal', 'late', 'normal', 'normal'])
+
+    def number(self):
+        """The number of the latest press."""
+        return int(self.tell()[0].split('number ')[1])
+
+    def test_stale(self):
+        """An order that was taken back and given again while the crew heard nothing."""
+        self.send_out()
+        self.sign_in()
+        self.line.cut()
+        self.tap('mobile')
+        self.check('it waits, and is not answered',
+                   BROWSER.texts('#reports li')[0].split('\n')[1].startswith('Not sent yet'), True)
+        self.ask('deskone1', 'POST /vehicles/A1/standdown')
+        self.mobilise()
+        self.line.mend()
+        self.check('stale', self.tell(), ['Mobile at TQ30627838, order 1, number ' +
+                   self.tell()[0].split('number ')[1],
+                   'Not taken: it is about an order that you no longer have. Your desk sees that.'])
+        self.check('the new order', until(lambda: 'Order 2' in BROWSER.text('#order'), 20), True)
+        self.tap('mobile')
+        self.check('and it is taken', self.tell()[1], 'Taken: you are mobilised.')
+        self.check('the table', self.reports('ord, outcome'), ['1|4', '2|0'])
+
+    def test_used_number(self):
+        """A number that another page used is passed over, in words, and the press acts once."""
+        self.send_out()
+        self.sign_in()
+        self.tap('mobile')
+        first = self.number()
+        self.report(first + 1)
+        self.tap('scene')
+        self.check('taken, in words', self.tell()[1], 'Taken: you are at scene. The number '
+                   f"{first + 1} was another report\u2019s, and was passed over.")
+        self.check('the table', self.reports('number - %d, button, outcome' % first),
+                   ['0|1|0', '1|0|0', '2|2|0'])
+
+    def test_unknown_terminal(self):
+        """A room that does not know the crew says so; what was pressed waits for one that does."""
+        self.send_out()
+        self.sign_in()
+        self.room.close()
+        other = made(self.folder / 'other.db', 'A2,1,1,TQ303804,crewofa2')
+        with serving_at(other, self.room_port):
+            words = 'The room does not know this terminal. Sign in with its token.'
+            until(lambda: BROWSER.text('#trouble') == words, 30)
+            self.check('in words', BROWSER.text('#trouble'), words)
+            self.tap('mobile')
+            self.check('it waits', BROWSER.text('#waiting').split(' sent')[0], '1 button is not')
+        self.room.enter_context(serving_at(self.file, self.room_port))
+        self.check('it is taken', self.tell()[1], 'Taken: you are mobilised.')
+        self.check('no trouble is left', until(lambda: not BROWSER.text('#trouble'), 30), True)
+        self.check_once()
+
+
+# ---- where it is
+
+
+class Place(Served):
+    def test_by_hand(self):
+        self.send_out()
+        self.sign_in()
+        for typed, words in [('TX300800', 'A place begins with TQ, TL, SU or SP.'),
+                             ('TQ3008', 'A place has six, eight or ten digits.'),
+                             ('TQ3x0800', 'After its two letters a place has digits only.')]:
+            BROWSER.click('#hand')
+            BROWSER.press('Control+a')
+            BROWSER.type(typed)
+            self.check(f'{typed}: at once', BROWSER.text('#fault'), words)
+            BROWSER.click('[data-button=mobile]')
+            self.check(f'{typed}: not pressed', BROWSER.text('#refused'),
+                       f'Not pressed, for the place is missing. {words}')
+            self.check(f'{typed}: the keys are at the place',
+                       BROWSER.run('return document.activeElement.id'), 'hand')
+        BROWSER.press('Control+a')
+        BROWSER.type('tq 303 804')
+        self.tap('mobile')
+        self.tell()
+        self.tap('scene')
+        self.tell()
+        BROWSER.click('#place button')  # the order's place
+        self.tap('leave')
+        self.tell()
+        east, north = STANDS_AT
+        self.check('by hand once, then the phone, then a tap', self.reports('east, north'),
+                   ['530300|180400', f'{east}|{north}', '530000|180000'])
+
+    def test_without_a_position(self):
+        self.send_out()
+        self.sign_in()
+        BROWSER.stand_at(55.9486, -3.1999)  # Edinburgh
+        until(lambda: not self.is_placed(), 20)
+        words = 'The phone is outside of the squares TQ, TL, SU and SP. Type the place.'
+        self.check('outside', BROWSER.text('#fix'), words)
+        BROWSER.click('[data-button=mobile]')
+        self.check('not pressed', BROWSER.text('#refused'),
+                   f'Not pressed, for the place is missing. {words}')
+        BROWSER.devtools('Browser.setPermission', permission={'name': 'geolocation'},
+                         setting='denied')
+        BROWSER.open(f'{self.address}desks/crew.html')
+        words = 'This page may not use the phone\u2019s position. Type the place.'
+        until(lambda: BROWSER.text('#fix') == words, 20)
+        self.check('not allowed', BROWSER.text('#fix'), words)
+        self.check('nothing was sent', self.reports(), [])
+
+
+# ---- a network that comes and goes
+
+
+class Network(Served):
+    def test_cuts(self):
+        """A line that is cut at random moments, now, at some byte, or as an answer comes, while the
+        crew presses before, meanwhile and after."""
+        self.send_out()
+        self.sign_in()
+        seed = random.randrange(1 << 32)
+        dice = random.Random(seed)
+        turn = iter(['mobile', 'scene', 'leave', 'hospital', 'return', 'home'])
+        for _ in range(CUTS):
+            time.sleep(dice.uniform(0, 1))
+            how = dice.choice(['now', 'at a byte', 'as an answer comes'])
+            if how == 'as an answer comes':
+                self.line.loses = True
+            else:
+                self.line.cut(None if how == 'now' else dice.randrange(1, REPORT_BYTES))
+            self.tap(next(turn, 'home'))
+            self.tap('position')
+            time.sleep(CUT_FOR)
+            self.line.loses = False
+            self.line.mend()
+            if dice.random() < 0.5:
+                self.tap('position')
+        self.check(f'all are sent (seed {seed})', self.is_all_sent(), True)
+        self.check_once(f' (seed {seed})')
+
+    def test_lost_answer(self):
+        """The room has done it and the answer is lost: the same is sent again, and done once."""
+        self.send_out()
+        self.sign_in()
+        self.line.loses = True
+        self.tap('scene')
+        self.check('it was done', until(self.is_at_scene, 20), True)
+        self.check('and not heard', BROWSER.text('#waiting').startswith('1 button is not'), True)
+        self.tap('position')
+        time.sleep(2.5)
+        ages = [re.search(r'Not sent yet, waits (\d+):(\d\d)\.$', it)
+                for it in BROWSER.texts('#reports li')]
+        self.check('two wait, with their age', list(map(bool, ages)), [True, True])
+        later, first = (60 * int(it[1]) + int(it[2]) for it in ages)
+        self.check('which grows', first > later >= 2, True)
+        self.line.mend()
+        self.tell()
+        self.check_once()
+
+    def is_at_scene(self):
+        return self.ask('crewofa1', 'GET /order')['status'] == 3
+
+    def test_silence(self):
+        """What is shown says that it is old, and since when."""
+        self.send_out()
+        self.sign_in()
+        self.line.cut()
+        said = until(lambda: BROWSER.text('#trouble'), 30)
+        self.check('in words', re.sub(r'\d:\d\d', 'AGE', said),
+                   'No answer from the room for AGE: what you see is as old as that.')
+        self.check('the order stays', 'Order 1' in BROWSER.text('#order'), True)
+        self.line.mend()
+        self.check('and then no longer', until(lambda: not BROWSER.text('#trouble'), 30), True)
+
+    def test_closed_page(self):
+        """A page that is closed in the middle goes on when it is opened, also without a network."""
+        self.send_out()
+        self.sign_in()
+        self.check('its files are kept', until(self.is_kept, 30), True)
+        first = BROWSER.send('GET', '/window')
+        other = BROWSER.tab('about:blank')
+        BROWSER.turn_to(first)
+        self.line.loses = True
+        self.tap('mobile')
+        until(lambda: self.line.is_cut, 20)
+        self.tap('scene')
+        BROWSER.close(first, then=other)
+        second = BROWSER.tab(f'{self.address}desks/crew.html')
+        BROWSER.stand_at(*STANDS)
+        self.check('it opens without a network', until(
+            lambda: 'Order 1' in BROWSER.text('#order'), 30), True)
+        self.check('both wait', BROWSER.text('#waiting').startswith('2 buttons are not'), True)
+        self.check('what is in front is as they will be', shown('front')[0], 'leave')
+        until(self.is_placed, 20)
+        self.tap('leave')
+        BROWSER.close(second, then=other)
+        self.line.mend()
+        BROWSER.open(f'{self.address}desks/crew.html')
+        self.check('all are sent', [bool(self.tell()), self.is_all_sent()], [True, True])
+        self.check_once()
+
+    def is_kept(self):
+        return BROWSER.run("return navigator.serviceWorker.getRegistration('/desks/crew.html')"
+                           ".then((it) => Boolean(it?.active) && caches.open('desks crew'))"
+                           ".then((it) => it && it.keys()).then((it) => it.length > 5)")
+
+    def test_two_tabs(self):
+        """Two pages of one crew: each press has a number of its own, and acts once."""
+        self.send_out()
+        self.sign_in()
+        one = BROWSER.send('GET', '/window')
+        two = BROWSER.tab(f'{self.address}desks/crew.html')
+        BROWSER.stand_at(*STANDS)
+        until(self.is_placed, 20)
+        self.line.cut()
+        for nth, button in enumerate(['mobile', 'scene', 'leave', 'hospital', 'return', 'home']):
+            BROWSER.turn_to((one, two)[nth % 2])
+            until(lambda count=nth: len(BROWSER.all('#reports li')) == count, 20)
+            self.tap(button)
+        until(lambda: len(BROWSER.all('#reports li')) == 6, 20)
+        self.line.mend()
+        for it in (one, two):
+            BROWSER.turn_to(it)
+            self.check('all are sent', self.is_all_sent(), True)
+            self.check('all are shown', len(BROWSER.all('#reports li')), 6)
+        BROWSER.close(two, then=one)
+        self.check_once()
+
+
+# ---- for everyone
+
+
+class Everyone(Served):
+    def test_everyone(self):
+        self.send_out()
+        self.sign_in()
+        self.tap('scene')
+        self.tell()
+        self.tap('mobile')
+        self.tell()
+        self.line.cut()
+        self.tap('position')
+        until(lambda: BROWSER.text('#trouble'), 30)
+        self.check('contrast, names, targets, focus', faults_everywhere(BROWSER), [])
+        BROWSER.size(*PHONE)
+        self.line.mend()
+        until(lambda: not BROWSER.text('#trouble'), 30)
+        BROWSER.run('scrollTo(0, 0)')
+        seen = BROWSER.run("return ['#order .loud', '#front button'].map((it) => "
+                           "document.querySelector(it).getBoundingClientRect().bottom)")
+        self.check('order and button are seen at once', [it <= PHONE[1] for it in seen],
+                   [True, True])
+
+    def test_by_keys(self):
+        """The focus stays on the button that was pressed, wherever it then stands."""
+        self.send_out()
+        self.sign_in()
+        BROWSER.run("document.querySelector('[data-button=mobile]').focus()")
+        BROWSER.press('Enter')
+        self.pressed.append('mobile')
+        self.tell()
+        self.check('the focus', BROWSER.run('return document.activeElement.dataset.button'),
+                   'mobile')
+        self.check_once()

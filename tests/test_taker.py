@@ -1,0 +1,411 @@
+"""The call taker's page in a browser, by keys and clicks, over a served room and a line that is
+cut: each call acts once. Also the modules below all pages: places, words of refusals."""
+# needs: chromium chromium-driver proj-bin sqlite3
+# builds: dispatch_room
+import contextlib
+import http.server
+import json
+import os
+import random
+import re
+import subprocess
+import tempfile
+import threading
+import time
+import unittest
+
+from browser import Browser, Line, until
+from pages import companion, faults_everywhere, sign_in
+from room import TOP, TestCase, ask, call, free_port, made, message, serving, sql
+
+EVERY = 'EVERY_PLACE' in os.environ
+CUTS, CUT_FOR = (30, 5.0) if EVERY else (5, 1.2)  # moments, seconds
+CALL_BYTES = 2600  # a call and its answer as the browser and the companion send them, some
+BROWSER = None
+
+
+def setUpModule():
+    global BROWSER
+    folder = unittest.enterModuleContext(
+        tempfile.TemporaryDirectory(ignore_cleanup_errors=True))
+    BROWSER = unittest.enterModuleContext(Browser(folder))
+    BROWSER.size(1280, 720)
+
+
+class Keys:
+    """Types and counts the keys beside texts."""
+
+    def __init__(self):
+        self.count = 0
+
+    def text(self, text):
+        BROWSER.type(text)
+
+    def press(self, *names):
+        self.count += len(names)
+        BROWSER.press(*names)
+
+
+def send_call(place, level='2', note='', needs=None):
+    """Fills the form by keys from the place on and sends it; gives how many keys it took."""
+    keys = Keys()
+    keys.text(place)
+    keys.press('Tab', level, 'Tab')
+    for it in needs or ():
+        keys.press(str(it), 'Tab')
+    if not needs:
+        keys.press('Tab', 'Tab', 'Tab')
+    keys.text(note)
+    keys.press('Enter')
+    return keys.count
+
+
+def answer(wanted, seconds=15):
+    """The answer in large letters, waited for; what stands there where it does not come."""
+    until(lambda: BROWSER.text('#answer').startswith(wanted), seconds)
+    return BROWSER.text('#answer').split('\n')
+
+
+def is_all_answered(seconds=30):
+    return until(lambda: BROWSER.text('#waiting') == '', seconds)
+
+
+class Served(TestCase):
+    """A room, its pages, and a line between them and the browser."""
+
+    def setUp(self):
+        super().setUp()
+        self.file = made(self.folder / 'room.db')
+        self.stack = self.enterContext(contextlib.ExitStack())
+        self.room_port, _ = self.stack.enter_context(serving(self.file, 99999))
+        port = free_port()
+        self.enterContext(companion(self.room_port, listen=f'127.0.0.2:{port}'))
+        self.line = self.enterContext(Line(('127.0.0.2', port), port))
+        self.address = f'http://localhost:{port}/'
+
+    def sign_in(self, last='0'):
+        """Signs the position in; the room has no history, so its last serial is typed."""
+        self.check('signed in', sign_in(BROWSER, self.address, 'taker', 'takerone'), True)
+        self.check('the last serial is asked for', until(lambda: BROWSER.is_shown('#start'), 10),
+                   True)
+        BROWSER.click('#last')
+        BROWSER.type(last)
+        BROWSER.press('Enter')
+        until(lambda: not BROWSER.is_shown('#start'), 10)
+
+    def calls(self, columns):
+        """What the table of calls has, once the room has ended."""
+        self.stack.close()
+        return sql(self.file, f'SELECT {columns} FROM calls ORDER BY serial').splitlines()
+
+
+class Calls(Served):
+    def test_calls(self):
+        self.sign_in()
+        count = send_call('mill lane br', '1', 'man fallen', [2, 0, 1])
+        self.check('division and incident', answer('NEW')[:2], ['NEW', 'Division 1, incident 1'])
+        self.check('ten keys beside the text', count <= 10, True)
+        self.check('the keys are back at the place',
+                   BROWSER.run('return document.activeElement.id'), 'place')
+        send_call('tq 306 8151')
+        self.check('a place that is none', BROWSER.text('#place-says'),
+                   'A place has six, eight or ten digits.')
+        BROWSER.press('Control+a')
+        send_call('tq 3060 8151', '2', 'the same')
+        self.check('linked', answer('LINKED')[:1], ['LINKED'])
+        large = BROWSER.run("return parseFloat(getComputedStyle("
+                            "document.querySelector('#answer .loud')).fontSize)")
+        self.check('in large letters', large >= 40, True)
+        self.check('the table', self.calls('serial, division, incident, linked, east, north, '
+                                           'class, need1, need2, need3, note'),
+                   ['1|1|1|0|530600|181500|1|2|0|1|man fallen',
+                    '2|1|1|1|530600|181510|2|1|0|0|the same'])
+
+    def test_places(self):
+        """A name that is found as one types, by words; the second by an arrow; the map."""
+        self.sign_in()
+        BROWSER.type('mill')
+        names = ['Mill Lane Bridge · TQ 306 815', 'Hope & Anchor, Mill Lane · TQ 305 812']
+        self.check('names by words', BROWSER.texts('#found li'), names)
+        BROWSER.press('ArrowDown', 'Enter')
+        self.check('the second', BROWSER.run('return document.querySelector("#place").value'),
+                   'Hope & Anchor, Mill Lane')
+        BROWSER.click_at('#map', 0, 0)  # the middle of two areas of 50 km by 100 km
+        found = re.fullmatch(r'TQ(\d{3})(\d{3})',
+                             BROWSER.run('return document.querySelector("#place").value'))
+        self.check('a click on the map', [abs(int(it) - 500) < 20 for it in found.groups()],
+                   [True, True])
+        BROWSER.press('Control+a')
+        BROWSER.type('TL 300 804')
+        self.check('a place outside', BROWSER.text('#place-says'),
+                   'This place lies in no division.')
+
+    def test_note(self):
+        """What a person typed is shown as it is and counted in bytes."""
+        self.sign_in()
+        note = '<img src=x onerror=alert(1)> "\'&amp; <b>é😀</b>'
+        BROWSER.click('#note')
+        for text, words in [('', '120 of 120 bytes left'), ('é', '118 of 120 bytes left'),
+                            ('😀', '114 of 120 bytes left'), ('x' * 114, '0 of 120 bytes left'),
+                            ('é', '2 bytes too long')]:
+            BROWSER.type(text)
+            self.check(f'bytes: {words}', BROWSER.text('#bytes'), words)
+        BROWSER.press('Enter')
+        self.check('too long a note', BROWSER.text('#note-says'), 'The note is too long.')
+        self.check('and the other faults',
+                   [BROWSER.text(f'#{it}-says') for it in ('place', 'class')],
+                   ['A place begins with TQ, TL, SU or SP.', 'Choose a class: 1, 2 or 3.'])
+        BROWSER.click('#note')
+        BROWSER.press('Control+a', 'Delete')
+        BROWSER.click('#place')
+        send_call('TQ300800', '3', note)
+        answer('NEW')
+        self.check('as it was typed', note in BROWSER.text('#calls'), True)
+        self.check('and no markup', BROWSER.all('#calls img, #calls b'), [])
+        self.check('in the table', self.calls('hex(note)'), [note.encode().hex().upper()])
+
+    def test_refused(self):
+        """A call in no division says so, is put back into the form, and is sent anew."""
+        self.sign_in()
+        send_call('TL300800', '1', 'caller is <lost>')
+        self.check('in words', answer('NOT TAKEN')[:2], [
+            'NOT TAKEN', 'The place lies in no division of this service. Check the place.'])
+        BROWSER.click('#calls button')
+        BROWSER.press('Control+a')
+        send_call('TQ300800', '1')
+        self.check('sent anew', answer('NEW')[:2], ['NEW', 'Division 1, incident 1'])
+        self.check('with its note', self.calls('serial, class, note'), ['2|1|caller is <lost>'])
+
+    def test_everyone(self):
+        self.sign_in()
+        send_call('TQ300800', '1', 'a call')
+        answer('NEW')
+        self.check("the call taker's page", faults_everywhere(BROWSER), [])
+        BROWSER.open(f'{self.address}desks/index.html')
+        self.check('where one signs in', faults_everywhere(BROWSER), [])
+
+
+class Network(Served):
+    def test_cuts(self):
+        """A line that breaks at any byte of a call or its answer: each call acts once."""
+        self.sign_in()
+        seed = random.randrange(1 << 32)
+        dice = random.Random(seed)
+        for nth in range(CUTS):
+            self.line.cut(after=dice.randrange(1, CALL_BYTES))
+            send_call(f'TQ{300 + 3 * nth}800', '2', f'call {nth}')
+            time.sleep(CUT_FOR)
+            self.line.mend()
+        self.check(f'all were answered (seed {seed})', is_all_answered(), True)
+        self.check(f'each acted once (seed {seed})', self.calls('serial, note'),
+                   [f'{it + 1}|call {it}' for it in range(CUTS)])
+
+    def test_closed_page(self):
+        """A page that is closed before its answer goes on when it is opened, by itself."""
+        self.sign_in()
+        first = BROWSER.send('GET', '/window')
+        other = BROWSER.tab('about:blank')
+        for nth, after in enumerate([None, 900, 1800]):
+            BROWSER.turn_to(first)
+            BROWSER.open(f'{self.address}desks/taker.html')
+            BROWSER.find('#place')
+            time.sleep(0.5)
+            self.line.cut(after)
+            send_call(f'TQ{300 + 3 * nth}800', '2', f'call {nth}')
+            said = until(lambda: 'not yet answered: 1' in BROWSER.text('#waiting'), 5)
+            self.check(f'{after}: it waits, or was answered',
+                       bool(said) != ('NEW' in answer('NEW', 0)), True)
+            BROWSER.close(first, then=other)
+            self.line.mend()
+            first = BROWSER.tab(f'{self.address}desks/taker.html')
+            self.check(f'{after}: the answer came', answer('NEW')[:2],
+                       ['NEW', f'Division 1, incident {nth + 1}'])
+        BROWSER.close(other, then=first)
+        self.check('each acted once', self.calls('serial, note'),
+                   [f'{it + 1}|call {it}' for it in range(3)])
+
+    def test_two_tabs(self):
+        """Two tabs of one position: each call has a serial of its own, and acts once."""
+        self.sign_in()
+        one = BROWSER.send('GET', '/window')
+        two = BROWSER.tab(f'{self.address}desks/taker.html')
+        BROWSER.find('#place')
+        self.line.cut()
+        for nth in range(6):
+            BROWSER.turn_to((one, two)[nth % 2])
+            send_call(f'TQ{300 + 3 * nth}800', '2', f'call {nth}')
+            self.check('it waits', answer('WAITING')[0], 'WAITING')
+        self.line.mend()
+        for it in (one, two):
+            BROWSER.turn_to(it)
+            self.check('all were answered', is_all_answered(), True)
+            self.check('all are shown', len(BROWSER.all('#calls li')), 6)
+        BROWSER.close(two, then=one)
+        self.check('each acted once', self.calls('serial, note'),
+                   [f'{it + 1}|call {it}' for it in range(6)])
+
+    def test_used_serials(self):
+        """Serials that another browser used are passed over, in words, and no call is lost."""
+        ask(self.room_port, *(call(it, 'TQ600800') for it in (1, 2)))
+        self.sign_in()
+        self.line.cut()
+        for nth in range(2):
+            send_call(f'TQ{300 + 3 * nth}800', '2', f'call {nth}')
+            answer('WAITING')
+        self.line.mend()
+        self.check('all were answered', is_all_answered(), True)
+        self.check('in words', [it for it in BROWSER.texts('#calls .bad') if it],
+                   ['Passed over, for other calls had them: serials 1, 2.'])
+        self.check('each acted once', self.calls('serial, note'),
+                   ['1|', '2|', '3|call 0', '4|call 1'])
+
+
+# ---- a room that keeps history
+
+
+class Historian(http.server.ThreadingHTTPServer):
+    """Stands in front of a room and answers `GET /last` as one that keeps history does; all else
+    the room answers."""
+    daemon_threads = True
+
+    def __init__(self, room_port, serial):
+        super().__init__(('127.0.0.1', 0), HistorianAnswer)
+        self.room_port, self.serial = room_port, serial
+        self.asked = []
+        threading.Thread(target=self.serve_forever, daemon=True).start()
+
+
+class HistorianAnswer(http.server.BaseHTTPRequestHandler):
+    def do_GET(self):
+        front, token = self.server, self.headers['X-Terminal']
+        body = self.rfile.read(int(self.headers.get('Content-Length', 0))).decode()
+        front.asked.append(self.path)
+        if self.path == '/last':
+            status, content = 200, f'{{"serial":{front.serial}}}'
+        else:
+            line = f'{self.command} {self.path}'
+            (status, content), = ask(front.room_port, message(token, line, body))
+        self.send_response(status)
+        self.send_header('Content-Length', str(len(content)))
+        self.end_headers()
+        self.wfile.write(content.encode())
+
+    do_POST = do_GET
+
+    def log_message(self, *_):
+        """Says nothing."""
+
+
+class History(TestCase):
+    def test_last(self):
+        """The room tells the last serial: nobody is asked, and a used one is passed over by it."""
+        file = made(self.folder / 'room.db')
+        with serving(file, 99) as (room_port, _):
+            ask(room_port, *(call(it, 'TQ600800') for it in (1, 2, 3)))
+            front = Historian(room_port, 3)
+            address = self.enterContext(companion(front.server_address[1]))
+            sign_in(BROWSER, address, 'taker', 'takerone')
+            BROWSER.find('#place')
+            until(lambda: '/last' in front.asked, 10)
+            send_call('TQ300800', '2', 'call 4')
+            self.check('a first call', answer('NEW')[:1], ['NEW'])
+            self.check('nobody is asked', BROWSER.is_shown('#start'), False)
+            ask(room_port, *(call(it, 'TQ600800') for it in (5, 6, 7)))
+            front.serial = 7
+            send_call('TQ400800', '2', 'call 8')
+            until(lambda: 'call 8' in BROWSER.text('#calls li'), 10)
+            self.check('a second call', is_all_answered(), True)
+            self.check('in words', [it for it in BROWSER.texts('#calls .bad') if it],
+                       ['Passed over, for other calls had them: serials 5.'])
+        self.check('their serials', sql(file, "SELECT serial FROM calls WHERE length(note) > 0"),
+                   '4\n8\n')
+
+
+# ---- the modules below the pages
+
+# The seven parameters and the projection as PROJ writes them; the parameters are those of "A guide
+# to coordinate systems in Great Britain" (Ordnance Survey), from OSGB36 to WGS84.
+NATIONAL_GRID = ('+proj=tmerc +lat_0=49 +lon_0=-2 +k=0.9996012717 +x_0=400000 +y_0=-100000 '
+                 '+ellps=airy +towgs84=446.448,-125.157,542.060,0.1502,0.2470,0.8421,-20.4894')
+
+
+def module(name, expression, *given):
+    """What an expression gives of a module, `it`, and of what is given, in the open page."""
+    return BROWSER.run(f"const given = arguments; return import('/desks/{name}')"
+                       f'.then((it) => {expression});', *given)
+
+
+def proj(positions):
+    """Metres east and north of WGS84 positions by PROJ."""
+    command = ['cs2cs', '-f', '%.4f', '+proj=longlat +datum=WGS84', '+to', NATIONAL_GRID]
+    told = ''.join(f'{longitude!r} {latitude!r} 0\n' for latitude, longitude in positions)
+    done = subprocess.run([word for it in command for word in it.split()], input=told,
+                          capture_output=True, text=True, timeout=60, check=True)
+    return [list(map(float, it.split()[:2])) for it in done.stdout.splitlines()]
+
+
+def typed_places(dice, count):
+    """References, and what is nearly one."""
+    found = ['', 'T', 'TQ', 'tq300800', 'TQ 300 800', 'TQ  300800', 'TQ300  800', 'TQ300800 ',
+             ' TQ300800', 'TQ 3008 00', 'TQ3008', 'TQ30080', 'TQ 30000 80000', 'TQ300000800000']
+    while len(found) < count:
+        count_of_digits = dice.choice([4, 5, 6, 6, 7, 8, 8, 9, 10, 10])
+        digits = ''.join(dice.choices('0123456789', k=count_of_digits))
+        text = list(dice.choice(['TQ', 'TL', 'SU', 'SP', 'TR', 'T']) + digits)
+        for _ in range(dice.choice([0, 1, 1, 2, 2, 3])):
+            text.insert(dice.choice([2, 2 + len(digits) // 2, 3 + len(digits) // 2, len(text)]),
+                        dice.choice('     x-'))
+        found.append(''.join(text))
+    return found
+
+
+class Modules(Served):
+    def setUp(self):
+        super().setUp()
+        BROWSER.open(f'{self.address}desks/index.html')
+
+    def test_grid(self):
+        # The guide works this position of OSGB36 out.
+        degrees = [52 + 39 / 60 + 27.2531 / 3600, 1 + 43 / 60 + 4.5177 / 3600]
+        east, north = module('grid.js', 'it.project(...given[0].map((x) => x * Math.PI / 180))',
+                             degrees)
+        self.check("the guide's example", [f'{east:.3f}', f'{north:.3f}'],
+                   ['651409.903', '313177.270'])
+        dice = random.Random(1)
+        positions = [[dice.uniform(50.8, 52.9), dice.uniform(-2.1, 1.2)] for _ in range(200)]
+        ours = module('grid.js', 'given[0].map((at) => it.gridOf(...at))', positions)
+        apart = [max(abs(one - other) for one, other in zip(*pair))
+                 for pair in zip(ours, proj(positions))]
+        self.check('as PROJ has it, to a centimetre', [len(apart), max(apart) < 0.01], [200, True])
+
+    def test_references(self):
+        """A reference is read where the room takes it, and as the same place."""
+        texts = typed_places(random.Random(2), 2000 if EVERY else 300)
+        faults = module('grid.js', 'given[0].map((text) => it.read(text).fault ?? "")', texts)
+        bodies = [json.dumps({'class': 2, 'needs': [1, 0, 0], 'note': '', 'place': it,
+                              'serial': nth}, separators=(',', ':'))
+                  for nth, it in enumerate(texts, 1)]
+        told = ask(self.room_port, *(message('takerone', 'POST /call', it) for it in bodies))
+        room = [status == 400 for status, _ in told]
+        self.check('as many', len(room), len(texts))
+        self.check('read as the room does', [it for it, fault, is_bad in zip(texts, faults, room)
+                                             if bool(fault) != is_bad], [])
+        self.check('of either kind', [sum(room) > 30, len(room) - sum(room) > 30], [True, True])
+        taken = [it for it, (status, _) in zip(texts, told) if status == 200]
+        places = module('grid.js', 'given[0].map((text) => it.read(text).place.join("|"))', taken)
+        self.check('as the same place', places, self.calls("east || '|' || north"))
+
+    def test_back_to_references(self):
+        found = module('grid.js', '[6, 8, 10].map((n) => it.reference([530312, 180409], n))')
+        self.check('digits', found, ['TQ303804', 'TQ30318040', 'TQ3031280409'])
+        self.check('outside', module('grid.js', 'it.reference([600000, 180409])'), '')
+
+    def test_refusals(self):
+        """Words of its own for each number that the interface has."""
+        table = (TOP / 'docs' / 'HTTP.md').read_text()
+        numbers = [int(it) for it in re.findall(r'^\| (\d+) \| \w+ \| \d{3} \|', table, re.M)]
+        words = module('refusals.js', 'given[0].map(it.wordsOf)', [0, *numbers])
+        self.check('the numbers of the interface', len(numbers), 32)
+        self.check('words of their own', len(set(words)), len(numbers) + 1)
+        self.check('and none by its number alone', [it for it in words if 'with number' in it
+                                                    and 'refused' in it], [])

@@ -1,0 +1,302 @@
+"""The wall with up to nine divisions on two sizes of screens: pages that turn, keys, letters that
+are read from five metres, and what a picture of many costs."""
+# needs: chromium chromium-driver
+import random
+import tempfile
+import time
+import unittest
+
+from browser import Browser, until
+from room import TestCase
+from walls import NOW, incident, pictures, plan_of, played, refresh, vehicle, wall
+
+SIZES = [(1366, 768), (1920, 1080)]
+# A capital has to be a 360th of the distance high (MUTCD 2009, section 2A.13: an inch for 30 feet):
+# 13.9 mm at five metres, of the 934 mm that a screen of 75 inches and 16:9 is high.
+LEAST = 5000 / 360 / 934
+LONGEST, WIDEST = 2147483647, 'WWWWWWWW'
+BROWSER = None
+
+
+def setUpModule():
+    global BROWSER
+    folder = unittest.enterModuleContext(
+        tempfile.TemporaryDirectory(ignore_cleanup_errors=True))
+    BROWSER = unittest.enterModuleContext(Browser(folder))
+
+
+# ---- rooms
+
+
+def entry(rank, number, name='', age=60):
+    return {'number': number, 'rank': rank, 'since': NOW - age, 'vehicle': name}
+
+
+def queue_of(division):
+    """A queue with an entry of each rank, none for division 3, and the longest that can be."""
+    letter = 'ABCDEFGHJ'[division - 1]
+    if division == 3:
+        return []
+    return [entry(1, LONGEST, age=200), entry(1, 2, age=190), entry(2, LONGEST, WIDEST, 9000),
+            entry(3, 3, f'{letter}101'), entry(4, 28500000 + division, f'{letter}102'),
+            entry(5, 9, f'{letter}103', 86400 * 99), entry(6, 0, f'{letter}104'),
+            entry(7, 1), entry(8, 9, f'{letter}105')]
+
+
+def wide_room(divisions, vehicles=200, incidents=40):
+    """A room with so many vehicles and incidents in all, which stays as it is."""
+    dice = random.Random(1)
+
+    def desk(number):
+        west = 500000 + (number - 1) % 3 * (60000 // min(divisions, 3))
+        south = 140000 + (number - 1) // 3 * (60000 // -(-divisions // 3))
+        letter = 'ABCDEFGHJ'[number - 1]
+
+        def at():
+            return [west + dice.randrange(20000), south + dice.randrange(20000)]
+        return {
+            'vehicles': [vehicle(f'{letter}{100 + it}', dice.randrange(8), it % 3 + 1, at(),
+                                 dice.choice([None, 2, 3])) for it in range(vehicles // divisions)],
+            'incidents': [incident(it, at(), [it % 2, 0, 0], it % 3 + 1)
+                          for it in (LONGEST, *range(2, incidents // divisions + 1))],
+            'points': [{'cover': 1, 'held': 0, 'number': it, 'place': at()} for it in (1, 2)],
+            'queue': queue_of(number)}
+
+    desks = {f'desknumber{it}': desk(it) for it in range(1, divisions + 1)}
+    return lambda token, what: desks[token][what]
+
+
+def large_room():
+    """A room of 500 vehicles and 1,000 incidents in which each reading finds another picture: all
+    vehicles move, an eighth of them has another status, half of the incidents lack others."""
+    readings = []
+
+    def told_of(token, what):
+        readings.append(what)
+        west, name = (500000, 'A') if token == 'desknumber1' else (530000, 'B')
+        turn = len(readings) // 8
+
+        def at(it, moved=0):
+            return [west + (it * 7919 + moved) % 30000, 140000 + it * 104729 % 60000]
+
+        def status(it):
+            return (it // 8 + turn if it % 8 == 0 else it) % 8
+
+        return {
+            'vehicles': [vehicle(f'{name}{it}', status(it), it % 3 + 1, at(it, turn * 997),
+                                 it + 1 if 2 <= status(it) <= 5 else None) for it in range(250)],
+            'incidents': [incident(it + 1, at(it + 1000), [(it + turn) % 4 // 3, it % 2, 0],
+                                   it % 3 + 1) for it in range(500)],
+            'points': [],
+            'queue': [entry(1, it + 1, age=1000 - it) for it in range(300)],
+        }[what]
+
+    return told_of
+
+
+# ---- what is seen
+
+# What the page of queues shows, and which of its texts are not seen whole.
+PAGE = """
+const sheet = document.querySelector('#queues').getBoundingClientRect();
+const isIn = (box, {left, right, top, bottom}) => box.left >= left - 1 && box.right <= right + 1
+  && box.top >= top - 1 && box.bottom <= bottom + 1;
+const boxesOf = (node) => {
+  const range = document.createRange();
+  range.selectNodeContents(node);
+  return [...range.getClientRects()];
+};
+const cells = [...document.querySelectorAll('#queues th, #queues td')];
+return {label: document.querySelector('.page').textContent,
+  rows: [...document.querySelectorAll('.queue tbody tr')].map((it) =>
+    [Number(it.closest('.queue').dataset.division), Number(it.dataset.rank),
+      it.querySelector('.who').textContent]),
+  heads: [...document.querySelectorAll('.queue')].map((it) => Number(it.dataset.division)),
+  cut: cells.filter((it) => !boxesOf(it).every((box) =>
+    isIn(box, sheet) && isIn(box, it.getBoundingClientRect()))).map((it) => it.textContent)};
+"""
+# The height of a callsign's capitals, as a part of the screen's.
+CAPITALS = """
+const name = document.querySelector('.vehicle.mark .name'), style = getComputedStyle(name);
+const pen = document.createElement('canvas').getContext('2d');
+pen.font = `${style.fontWeight} 100px ${style.fontFamily}`;
+return pen.measureText('H').actualBoundingBoxAscent / 100 * parseFloat(style.fontSize)
+  * name.getCTM().a / innerHeight;
+"""
+# The names of areas that do not lie above all marks, or on one.
+COVERED = """
+const boxOf = (it) => it.getBoundingClientRect();
+const marks = [...document.querySelectorAll('.mark .shape')].map(boxOf);
+const names = document.querySelector('#map .names');
+return [...names.children].filter((it) => {
+  const box = boxOf(it);
+  return names.nextSibling || marks.some((mark) => mark.left < box.right && mark.right > box.left
+    && mark.top < box.bottom && mark.bottom > box.top);
+}).map((it) => it.textContent);
+"""
+NAMES = """
+return [...document.querySelectorAll('.vehicle.mark .name')]
+  .filter((it) => it.getBoundingClientRect().width > 0).map((it) => it.textContent).sort();
+"""
+
+
+def who_of(entry):
+    return {1: f'Incident {entry["number"]}', 7: f'Point {entry["number"]}'}.get(
+        entry['rank'], entry['vehicle'])
+
+
+def page():
+    return BROWSER.run(PAGE)
+
+
+class Walls(TestCase):
+    def show(self, told_of, divisions, size=SIZES[0]):
+        room = played(self, told_of)
+        tokens = [f'desknumber{it}' for it in range(1, divisions + 1)]
+        address = self.enterContext(wall(room.port, plan_of(self.folder, divisions), *tokens))
+        BROWSER.size(*size)
+        BROWSER.open(address)
+        until(self.is_fresh, 30)
+
+    def is_fresh(self):
+        """Whether a picture is shown, and no warning takes room from it."""
+        return pictures(BROWSER) and BROWSER.run("return document.querySelector('#stale').hidden")
+
+
+class Pages(Walls):
+    def turned(self, key):
+        """The page after a key that turns it."""
+        before = page()['label']
+        BROWSER.press(key)
+        until(lambda: page()['label'] != before, 20)
+        return page()
+
+    def all_pages(self):
+        """Each page from the first until it comes again."""
+        found = [page()]
+        while len(found) < 60:
+            told = self.turned('ArrowRight')
+            if told['label'].startswith('stopped:\n1\u2013'):
+                break
+            found.append(told)
+        return found
+
+    def check_pages(self, divisions, size):
+        self.show(wide_room(divisions), divisions, size)
+        BROWSER.press('Space', '0')  # no turning, and the first page
+        what = f'{divisions} divisions at {size}'
+        found = self.all_pages()
+        wanted = [[division, it['rank'], who_of(it)] for division in range(1, divisions + 1)
+                  for it in queue_of(division)]
+        self.check(f'{what}: each entry once, in the order of the room',
+                   [it for told in found for it in told['rows']], wanted)
+        self.check(f'{what}: each division', sorted({it for told in found for it in told['heads']}),
+                   list(range(1, divisions + 1)))
+        self.check(f'{what}: nothing is cut off', [it for told in found for it in told['cut']], [])
+        self.check(f'{what}: pages', len(found) > 1, True)
+        self.check(f'{what}: which are shown', found[0]['label'],
+                   f'stopped:\n1\u2013{len(found[0]["rows"])} of {len(wanted)}')
+        second = self.turned('ArrowRight')
+        self.check(f'{what}: back', self.turned('ArrowLeft')['rows'], found[0]['rows'])
+        self.check(f'{what}: and on', self.turned('PageDown')['rows'], second['rows'])
+
+    def test_pages(self):
+        for divisions in (1, 4, 9):
+            for size in SIZES:
+                self.check_pages(divisions, size)
+
+    def test_by_themselves(self):
+        self.show(wide_room(2), 2)
+        BROWSER.press('0')
+        first = page()
+        self.check('a page turns', until(lambda: page()['rows'] != first['rows'], 12), True)
+        BROWSER.press('Space')
+        second = page()
+        time.sleep(9)
+        self.check('not while it is stopped', page()['rows'], second['rows'])
+        BROWSER.press('Space')
+        self.check('and then again', until(lambda: page()['rows'] != second['rows'], 12), True)
+
+    def test_divisions(self):
+        """A key or a click shows one division: its queue, its area and its marks."""
+        self.show(wide_room(9), 9)
+        chosen = "return [...document.querySelectorAll('#pages [aria-pressed=true]')]" \
+                 ".map((it) => it.textContent)"
+        areas = "return document.querySelectorAll('.areas rect').length"
+        letters = "return [...new Set([...document.querySelectorAll('.vehicle.mark .name')]" \
+                  ".map((it) => it.textContent[0]))].sort().join('')"
+        title = "return document.querySelector('h1').textContent"
+        for act, heads, wanted in [
+                (lambda: BROWSER.press('5'), [5], [['59'], 1, 'E', 'Division 5']),
+                (lambda: BROWSER.press('3'), [3], [['30'], 1, 'C', 'Division 3']),
+                (lambda: BROWSER.click('[data-division="7"]'), [7], [['79'], 1, 'G', 'Division 7']),
+                (lambda: BROWSER.press('0'), None, [['all'], 9, 'ABCDEFGHJ', 'Control room']),
+                (lambda: BROWSER.press('9', 'Escape'), None,
+                 [['all'], 9, 'ABCDEFGHJ', 'Control room'])]:
+            act()
+            self.check(f'{wanted[-1]}: what is shown',
+                       [BROWSER.run(it) for it in (chosen, areas, letters, title)], wanted)
+            self.check(f'{wanted[-1]}: its queue', page()['heads'] if heads else None, heads)
+        refresh(BROWSER, 1)
+        BROWSER.press('8')
+        refresh(BROWSER, 1)
+        self.check('it stays chosen', page()['heads'], [8])
+
+    def test_a_division_that_is_not_there(self):
+        self.show(wide_room(2), 2)
+        BROWSER.press('7')
+        self.check('all stay', page()['heads'][0], 1)
+        self.check('none is chosen', BROWSER.run(
+            "return document.querySelector('#pages [aria-pressed=true]').textContent"), 'all')
+
+
+class Letters(Walls):
+    def test_five_metres(self):
+        """200 vehicles, 40 incidents and two points a division."""
+        for divisions in (1, 2, 9):
+            for size in SIZES:
+                what = f'{divisions} divisions at {size}'
+                self.show(wide_room(divisions), divisions, size)
+                wanted = [f'{"ABCDEFGHJ"[division]}{100 + it}' for division in range(divisions)
+                          for it in range(200 // divisions)]
+                self.check(f'{what}: each callsign whole', BROWSER.run(NAMES), wanted)
+                self.check(f'{what}: high enough', self.too_low(LEAST), [])
+                self.check(f"{what}: areas' names", BROWSER.run(COVERED), [])
+        BROWSER.press('5')
+        self.check('a division of nine: twice as high', self.too_low(2 * LEAST), [])
+
+    def too_low(self, least):
+        """How high capitals are, where they are too low."""
+        until(self.is_fresh, 30)
+        height = BROWSER.run(CAPITALS)
+        return [height] if height < least else []
+
+
+class Many(Walls):
+    def test_many(self):
+        self.show(large_room(), 2, (1280, 720))
+        self.check('a picture costs at most 200 ms of a processor', cheapest(6) < 0.2, True)
+        for what, css, wanted in [('vehicles', '.vehicle.mark', 500), ('lines', '.sent line', 280),
+                                  ('incidents', '.incident.mark', 1000)]:
+            self.check(what, len(BROWSER.run('return [...document.querySelectorAll(arguments[0])]'
+                                             '.map((it) => 1)', css)), wanted)
+
+    def test_a_busy_day(self):
+        self.show(wide_room(9, 200, 300), 9, (1920, 1080))
+        self.check('200 vehicles and 300 incidents cost at most 100 ms', cheapest(4) < 0.1, True)
+
+
+def cheapest(times):
+    """The least seconds of a processor that the page took for a picture of so many: neither what
+    else runs on the machine counts, nor what the page does the first time."""
+    def spent():
+        told = BROWSER.devtools('Performance.getMetrics')['metrics']
+        return next(it['value'] for it in told if it['name'] == 'TaskDuration')
+
+    BROWSER.devtools('Performance.enable', timeDomain='threadTicks')
+    found = []
+    for _ in range(times):
+        before, drawn = spent(), pictures(BROWSER)
+        refresh(BROWSER, 1)
+        found.append((spent() - before) / (pictures(BROWSER) - drawn))
+    return min(found)

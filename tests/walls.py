@@ -1,0 +1,119 @@
+"""What the tests of the wall share: the wall over a room that is played, and its pictures in a
+browser."""
+import contextlib
+import json
+import select
+import socket
+import subprocess
+import sys
+import threading
+
+from browser import until
+from room import TOP
+
+WALL = TOP / 'examples' / 'wall' / 'wall.py'
+
+
+@contextlib.contextmanager
+def wall(port, plan, *tokens):
+    """A wall over the room at a port; gives its address."""
+    command = [sys.executable, WALL, f'127.0.0.1:{port}', plan, *tokens]
+    process = subprocess.Popen([*command, '--listen', '127.0.0.1:0'], stdin=subprocess.DEVNULL,
+                               stdout=subprocess.PIPE, stderr=subprocess.PIPE)
+    try:
+        line = process.stdout.readline().decode()
+        assert line.startswith('wall: '), f'no wall: {line} {process.stderr.read().decode()}'
+        yield line.removeprefix('wall: ').strip()
+    finally:
+        process.kill()
+        process.communicate()
+
+
+def plan_of(folder, divisions):
+    """A plan of up to nine divisions in rows of three, whose desks are desknumber1 and so on."""
+    across = min(divisions, 3)
+    width, height = 60000 // across, 60000 // -(-divisions // 3)
+    rows = ['what,number,a,b,c,d', 'zone,0,UTC0,,,']
+    for number in range(1, divisions + 1):
+        west = 500000 + (number - 1) % 3 * width
+        south = 140000 + (number - 1) // 3 * height
+        rows += [f'area,{number},{west},{south},{west + width - 1},{south + height - 1}',
+                 f'desk,{number},desknumber{number},,,']
+    plan = folder / 'plan.csv'
+    plan.write_text('\n'.join(rows) + '\n')
+    return plan
+
+
+# ---- what is seen on the page
+
+
+def pictures(browser):
+    return int(browser.run('return document.documentElement.dataset.pictures ?? 0'))
+
+
+def refresh(browser, times):
+    """Waits for so many pictures more."""
+    wanted = pictures(browser) + times
+    until(lambda: pictures(browser) >= wanted, 4 * times + 4)
+
+
+# ---- a room that is played
+
+
+class PlayedRoom(threading.Thread):
+    """Answers like a room. Keeps the heads that it was sent, and counts connections that came
+    while another was open, or that were not closed."""
+
+    def __init__(self, told_of):
+        super().__init__(daemon=True)
+        self.told_of = told_of
+        self.listener = socket.create_server(('127.0.0.1', 0))
+        self.port = self.listener.getsockname()[1]
+        self.heads, self.overlaps = [], 0
+        self.start()
+
+    def run(self):
+        with contextlib.suppress(OSError, ValueError):  # until it is closed
+            while True:
+                connection, _ = self.listener.accept()
+                with connection:
+                    self.serve(connection)
+
+    def serve(self, connection):
+        head = b''
+        while not head.endswith(b'\r\n\r\n'):
+            head += connection.recv(4096) or b'\r\n\r\n'
+        self.heads.append(head.decode())
+        line, *fields = head.decode().split('\r\n')
+        token = next(it for it in fields if it.startswith('X-Terminal: ')).split(' ')[1]
+        what = line.split(' ')[1].removeprefix('/')
+        body = json.dumps({what: self.told_of(token, what)}).encode()
+        self.overlaps += self.is_called(0.01)
+        connection.sendall(b'HTTP/1.1 200 OK\r\nDate: Wed, 25 Nov 2026 12:00:00 GMT\r\n'
+                           b'Content-Type: application/json\r\nConnection: close\r\n'
+                           b'Content-Length: %d\r\n\r\n' % len(body) + body)
+        ready, _, _ = select.select([connection, self.listener], [], [], 10)
+        self.overlaps += connection not in ready or connection.recv(1) != b''
+
+    def is_called(self, seconds):
+        return bool(select.select([self.listener], [], [], seconds)[0])
+
+
+def played(test, told_of):
+    """A played room, which ends with the test."""
+    room = PlayedRoom(told_of)
+    test.addCleanup(room.listener.close)
+    return room
+
+
+NOW = 1795608000  # the moment of the played room's answers
+
+
+def vehicle(name, status=1, kind=1, place=(530000, 180000), incident=None):
+    return {'home': 1, 'incident': incident, 'kind': kind, 'place': place, 'post': None,
+            'shift_end': NOW, 'status': status, 'vehicle': name}
+
+
+def incident(number, place=(530000, 180000), lack=(1, 0, 0), level=2):
+    return {'calls': 1, 'class': level, 'lack': lack, 'needs': [1, 1, 1], 'number': number,
+            'opened': NOW - 60, 'place': place}
