@@ -29,6 +29,10 @@ class Unmet(Exception):
     """What the browser could not do, in its driver's words."""
 
 
+class Stale(Unmet):
+    """The page put another element in the place of the one that was found."""
+
+
 def until(holds, seconds):
     """Waits until something holds, so long at most; gives what it gave last."""
     end = time.monotonic() + seconds
@@ -88,7 +92,9 @@ class Browser:
             with OPENER.open(request, timeout=120) as answer:
                 return json.load(answer)['value']
         except urllib.error.HTTPError as told:
-            raise Unmet(json.load(told)['value']['message'].split('\n')[0]) from None
+            value = json.load(told)['value']
+            kind = Stale if value['error'] == 'stale element reference' else Unmet
+            raise kind(value['message'].split('\n')[0]) from None
 
     def open(self, url):
         """Opens an address in this tab, and gives the tab."""
@@ -142,9 +148,16 @@ class Browser:
         found = self.send('POST', '/elements', using='css selector', value=css)
         return [it[ELEMENT] for it in found]
 
+    def at(self, css, method, what):
+        """Asks something of an element; again where the page redraws between the two requests."""
+        for _ in range(9):
+            with contextlib.suppress(Stale):
+                return self.send(method, f'/element/{self.find(css)}/{what}')
+        return self.send(method, f'/element/{self.find(css)}/{what}')
+
     def text(self, css):
         """What is read of an element, as it is shown."""
-        return self.send('GET', f'/element/{self.find(css)}/text')
+        return self.at(css, 'GET', 'text')
 
     def texts(self, css):
         """What is read of each element; one that went away meanwhile is left out."""
@@ -155,11 +168,13 @@ class Browser:
         return found
 
     def is_shown(self, css):
-        return any(self.send('GET', f'/element/{it}/displayed') for it in self.all(css))
+        """Whether one of these elements is shown."""
+        return self.run('return [...document.querySelectorAll(arguments[0])]'
+                        '.some((it) => it.checkVisibility())', css)
 
     def click(self, css):
         """Clicks the middle of an element, which has to be seen and not covered."""
-        self.send('POST', f'/element/{self.find(css)}/click')
+        self.at(css, 'POST', 'click')
 
     def click_at(self, css, x, y):
         """Clicks so many pixels right of and below the middle of an element."""
@@ -194,6 +209,22 @@ class Browser:
         self.devtools('Browser.grantPermissions', permissions=['geolocation'])
         self.devtools('Emulation.setGeolocationOverride', latitude=latitude, longitude=longitude,
                       accuracy=accuracy)
+
+    def spent(self):
+        """The seconds of a processor that the page took so far."""
+        self.devtools('Performance.enable', timeDomain='threadTicks')
+        told = self.devtools('Performance.getMetrics')['metrics']
+        return next(it['value'] for it in told if it['name'] == 'TaskDuration')
+
+    def cheapest(self, times, work):
+        """The least seconds of a processor that the page took for some work, done so often: neither
+        what else runs on the machine counts, nor what the page does the first time."""
+        found = []
+        for _ in range(times):
+            before = self.spent()
+            work()
+            found.append(self.spent() - before)
+        return min(found)
 
     def paper(self, **told):
         """The page as it is printed, in base64 of PDF; A4 by default."""
@@ -237,8 +268,7 @@ class Line:
         return self
 
     def __exit__(self, *_):
-        self.cut()
-        self.loop.call_soon_threadsafe(self.server.close)
+        self.done(self.end())
         self.loop.call_soon_threadsafe(self.loop.stop)
         self.thread.join(10)
         if not self.loop.is_running():
@@ -247,6 +277,15 @@ class Line:
     def done(self, work):
         """What some work of the line's own thread gives."""
         return asyncio.run_coroutine_threadsafe(work, self.loop).result(10)
+
+    async def end(self):
+        """Ends all that it does."""
+        self.break_all()
+        self.server.close()
+        others = asyncio.all_tasks() - {asyncio.current_task()}
+        for it in others:
+            it.cancel()
+        await asyncio.gather(*others, return_exceptions=True)
 
     async def carry(self, near_reader, near):
         """One connection, both ways."""

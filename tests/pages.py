@@ -4,7 +4,7 @@ import contextlib
 import subprocess
 import sys
 
-from browser import Unmet, until
+from browser import until
 from room import PLAN, TOP
 
 DESKS = TOP / 'examples' / 'desks'
@@ -106,14 +106,14 @@ def weak_texts(browser):
 
 
 def nameless(browser):
-    """The controls without a name for those who hear the page."""
-    found = []
-    for it in browser.all(CONTROLS):
-        with contextlib.suppress(Unmet):
-            shown = browser.send('GET', f'/element/{it}/displayed')
-            if shown and not browser.send('GET', f'/element/{it}/computedlabel').strip():
-                found.append(browser.send('GET', f'/element/{it}/property/outerHTML')[:80])
-    return found
+    """What can have the focus and has no name for those who hear the page, by its role."""
+    def is_focusable(it):
+        return any(one['name'] == 'focusable' and one['value']['value']
+                   for one in it.get('properties', []))
+
+    nodes = browser.devtools('Accessibility.getFullAXTree')['nodes']
+    found = [it for it in nodes if not it['ignored'] and is_focusable(it)]
+    return [it['role']['value'] for it in found if not it.get('name', {}).get('value', '').strip()]
 
 
 def small_targets(browser):

@@ -1,5 +1,6 @@
 """The crew's page in a browser of a phone's size, by taps and keys, over a served room and a line
-that is cut: each press acts once and in order."""
+that is cut: each press acts once and in order. With EVERY_PLACE the line is cut at 30 moments, for
+five seconds each."""
 # needs: chromium chromium-driver sqlite3
 # builds: dispatch_room
 import contextlib
@@ -17,7 +18,7 @@ from pages import PHONE, companion, faults_everywhere, sign_in
 from room import PATIENT, PROGRAM, TOP, TestCase, ask, call, free_port, made, message, sql
 
 EVERY = 'EVERY_PLACE' in os.environ
-CUTS, CUT_FOR = (30, 5.0) if EVERY else (5, 1.5)  # moments, seconds
+CUTS, CUT_FOR = (30, 5.0) if EVERY else (3, 1.5)  # moments, seconds
 REPORT_BYTES = 3000  # a report and its answer with what a browser sends beside them, some
 AGAIN_AFTER = 0.8  # seconds from one press to the next, for the page takes two taps as one
 # A point of the Ordnance Survey's test data for OSTN15 (TP09, in London): degrees of ETRS89, and
@@ -25,6 +26,7 @@ AGAIN_AFTER = 0.8  # seconds from one press to the next, for the page takes two 
 STANDS, STANDS_AT = (51.48936564950, -0.11992557180), (530620, 178380)
 BUTTONS = ['position', 'mobile', 'scene', 'leave', 'hospital', 'return', 'home']
 OUTCOMES = ['normal', 'skipped', 'wrong', 'late', 'stale']
+YEAR_BEGAN = 1767225600  # 2026, from whose seconds a page that knows no number begins
 BROWSER = None
 
 
@@ -143,6 +145,10 @@ class Served(TestCase):
             return shown[0].split('\n') if is_whole else None
         return until(told, seconds)
 
+    def waits(self, words):
+        """Whether the page comes to say so of what is not sent yet."""
+        return until(lambda: BROWSER.text('#waiting').startswith(words), 20)
+
     def is_all_sent(self, seconds=60):
         return until(lambda: not BROWSER.text('#waiting'), seconds)
 
@@ -256,7 +262,6 @@ class Words(Served):
     def test_outcomes(self):
         self.send_out()
         self.sign_in()
-        opened = time.monotonic()
         for button, what, words in [
                 ('scene', 'skipped', 'Taken: you are at scene. A button before it was left out; '
                  'your desk sees that.'),
@@ -267,7 +272,7 @@ class Words(Served):
         first = self.number()
         self.tap('position')
         self.tell()
-        time.sleep(max(0, opened + 8 - time.monotonic()))
+        until(lambda: time.time() > YEAR_BEGAN + first + 4, 60)
         self.report(first + 3)
         self.tap('position')
         self.check('late', self.tell()[1], 'Not taken: a report with a later number came before '
@@ -287,8 +292,8 @@ class Words(Served):
         self.sign_in()
         self.line.cut()
         self.tap('mobile')
-        self.check('it waits, and is not answered',
-                   BROWSER.texts('#reports li')[0].split('\n')[1].startswith('Not sent yet'), True)
+        self.check('it waits, and is not answered', bool(until(
+            lambda: 'Not sent yet' in ''.join(BROWSER.texts('#reports li')[:1]), 20)), True)
         self.ask('deskone1', 'POST /vehicles/A1/standdown')
         self.mobilise()
         self.line.mend()
@@ -324,7 +329,7 @@ class Words(Served):
             until(lambda: BROWSER.text('#trouble') == words, 30)
             self.check('in words', BROWSER.text('#trouble'), words)
             self.tap('mobile')
-            self.check('it waits', BROWSER.text('#waiting').split(' sent')[0], '1 button is not')
+            self.check('it waits', self.waits('1 button is not'), True)
         self.room.enter_context(serving_at(self.file, self.room_port))
         self.check('it is taken', self.tell()[1], 'Taken: you are mobilised.')
         self.check('no trouble is left', until(lambda: not BROWSER.text('#trouble'), 30), True)
@@ -418,7 +423,7 @@ class Network(Served):
         self.line.loses = True
         self.tap('scene')
         self.check('it was done', until(self.is_at_scene, 20), True)
-        self.check('and not heard', BROWSER.text('#waiting').startswith('1 button is not'), True)
+        self.check('and not heard', self.waits('1 button is not'), True)
         self.tap('position')
         time.sleep(2.5)
         ages = [re.search(r'Not sent yet, waits (\d+):(\d\d)\.$', it)
@@ -462,7 +467,7 @@ class Network(Served):
         BROWSER.stand_at(*STANDS)
         self.check('it opens without a network', until(
             lambda: 'Order 1' in BROWSER.text('#order'), 30), True)
-        self.check('both wait', BROWSER.text('#waiting').startswith('2 buttons are not'), True)
+        self.check('both wait', self.waits('2 buttons are not'), True)
         self.check('what is in front is as they will be', shown('front')[0], 'leave')
         until(self.is_placed, 20)
         self.tap('leave')

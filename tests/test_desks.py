@@ -5,7 +5,6 @@ a served room."""
 import contextlib
 import http.client
 import json
-import os
 import re
 import socket
 import ssl
@@ -13,6 +12,7 @@ import subprocess
 import sys
 import time
 
+import nginx
 from pages import DESKS, PLACES, companion
 from room import PLAN, TOP, TestCase, free_port, made, run, serving
 
@@ -181,41 +181,20 @@ class Nginx(Asked):
                        capture_output=True)
         self.port = free_port()
 
-    def written(self, room_port):
-        """The example's file for this test, within a configuration as short as may be."""
-        site = (DESKS / 'nginx.conf').read_text()
-        for one, other in [('8443', f'127.0.0.1:{self.port}'),
-                           ('127.0.0.1:8080', f'127.0.0.1:{room_port}'),
-                           ('/etc/dispatch-room/certificates', str(self.certificates)),
-                           ('/usr/share/doc/dispatch-room/examples', str(TOP / 'examples')),
-                           ('/var/lib/dispatch-desks', str(self.folder / 'state'))]:
-            self.assertIn(one, site)
-            site = site.replace(one, other)
-        (self.folder / 'site').write_text(site)
-        temporary = '\n'.join(f'{it}_temp_path {self.folder}/{it};' for it in (
-            'client_body', 'proxy', 'fastcgi', 'uwsgi', 'scgi'))
-        whole = self.folder / 'nginx.conf'
-        whole.write_text(f"""
-            daemon off; pid {self.folder}/pid; error_log {self.folder}/errors;
-            worker_processes 1; {'user root;' if os.geteuid() == 0 else ''}
-            events {{ }}
-            http {{ include /etc/nginx/mime.types; access_log off; {temporary}
-                    include {self.folder}/site; }}""")
-        return whole
-
     @contextlib.contextmanager
     def over(self, room_port):
-        words = ['nginx', '-p', self.folder, '-e', self.folder / 'errors', '-c',
-                 self.written(room_port)]
+        """The example's file for this test, tried and run."""
+        site = self.folder / 'site'
+        site.write_text(nginx.replaced((DESKS / 'nginx.conf').read_text(), [
+            ('8443', f'127.0.0.1:{self.port}'), ('127.0.0.1:8080', f'127.0.0.1:{room_port}'),
+            ('/etc/dispatch-room/certificates', self.certificates),
+            ('/usr/share/doc/dispatch-room/examples', TOP / 'examples'),
+            ('/var/lib/dispatch-desks', self.folder / 'state')]))
+        words = nginx.command(self.folder, site)
         tried = subprocess.run([*words, '-t'], capture_output=True, timeout=60)
         self.check('nginx -t', [tried.returncode, b'warn' in tried.stderr], [0, False])
-        process = subprocess.Popen(words, stdin=subprocess.DEVNULL, stdout=subprocess.DEVNULL,
-                                   stderr=subprocess.DEVNULL)
-        try:
+        with nginx.running(words):
             yield
-        finally:
-            process.terminate()
-            process.wait(60)
 
     def context(self, certificate='desk1.pem'):
         context = ssl.create_default_context(cafile=self.certificates / 'authority.crt')

@@ -17,13 +17,14 @@ from room import TOP, TestCase, free_port
 
 DOCUMENTS = 'usr/share/doc/dispatch-room'
 UNIT = 'usr/lib/systemd/system/dispatch-room.service'
+PAGES_UNIT = 'usr/lib/systemd/system/dispatch-desks.service'
 PAGE = 'usr/share/man/man1/dispatch_room.1.gz'
 COMPLETION = 'usr/share/bash-completion/completions/dispatch_room'
 OF_DEBIAN = [f'{DOCUMENTS}/copyright', f'{DOCUMENTS}/changelog.Debian.gz']
 EXAMPLES = TOP / 'examples'
 SCRIPTS = ['1992/play.py', 'day.sh', 'desks/desks.py', 'haproxy/certificates.sh',
-           'metrics/metrics.py', 'month/month.sh', 'three/companion.py', 'three/three.py',
-           'wall/wall.py']
+           'metrics/metrics.py', 'month/month.sh', 'three/companion.py', 'three/prepare.py',
+           'three/three.py', 'wall/wall.py']
 
 # What a day in the room calls beside the program.
 TOOLS = ['bash', 'curl', 'date', 'dirname', 'sleep']
@@ -156,7 +157,7 @@ class Package(TestCase):
         documents = [TOP / 'README.md', TOP / 'bench' / 'README.md', *EXAMPLES.glob('*.*'),
                      *EXAMPLES.glob('*/*.*'), *(TOP / 'docs').iterdir()]
         others = {f'{DOCUMENTS}/{it.relative_to(TOP)}' for it in documents}
-        others |= {UNIT, PAGE, COMPLETION, *OF_DEBIAN}
+        others |= {UNIT, PAGES_UNIT, PAGE, COMPLETION, *OF_DEBIAN}
         wanted = dict.fromkeys(programs | others, '-rw-r--r--')
         wanted |= dict.fromkeys(programs, '-rwxr-xr-x')
         self.check('files', modes, wanted)
@@ -238,6 +239,23 @@ class Package(TestCase):
         with subprocess.Popen([self.path(program[1:]), serve, room, address, *more], env={},
                               stdout=subprocess.PIPE) as process:
             self.check('it is served', process.stdout.readline(), b'serving\n')
+            process.kill()
+
+    def test_unit_of_the_pages(self):
+        """What the unit starts serves the pages, out of the package by itself."""
+        unit = self.path(PAGES_UNIT).read_text()
+        self.check('it is the example', unit,
+                   (EXAMPLES / 'desks' / 'dispatch_desks.service').read_text())
+        line = re.search(r'^ExecStart=((?:.*\\\n)*.*)$', unit, re.M)[1].replace('\\\n', '')
+        program, *words = line.split()
+        files = {'%d/plan.csv': 'plan.csv', '%d/places.csv': 'desks/places.csv'}
+        words = [str(self.examples / files[it]) if it in files else it for it in words]
+        words += ['--listen', '127.0.0.1:0']
+        with subprocess.Popen([self.path(program[1:]), *words], cwd=self.root.folder,
+                              stdout=subprocess.PIPE) as process:
+            address = process.stdout.readline().decode().partition(': ')[2].strip()
+            page = output('curl', '--silent', f'{address}desks/allocator.html')
+            self.check('it is served', page, (EXAMPLES / 'desks' / 'allocator.html').read_text())
             process.kill()
 
     def test_manual_page(self):

@@ -86,10 +86,10 @@ def listed(name, words):
 
 
 def select(vehicle):
-    """Goes to a vehicle's line by the arrows."""
-    lines = BROWSER.texts('.vehicles .lines li')
-    at = next(at for at, it in enumerate(lines) if vehicle in it)
-    BROWSER.press('5', 'Home', *at * ['ArrowDown'])
+    """Goes to a vehicle's line by its callsign."""
+    BROWSER.press('/')
+    fill(vehicle)
+    until(lambda: not BROWSER.is_shown('.drawer'), 10)
 
 
 def fill(*values):

@@ -1,5 +1,6 @@
 """The call taker's page in a browser, by keys and clicks, over a served room and a line that is
-cut: each call acts once. Also the modules below all pages: places, words of refusals."""
+cut: each call acts once. Also the modules below all pages: places, words of refusals. With
+EVERY_PLACE the line is cut at 30 moments, for five seconds each, and 2,000 places are read."""
 # needs: chromium chromium-driver proj-bin sqlite3
 # builds: dispatch_room
 import contextlib
@@ -30,6 +31,12 @@ def setUpModule():
         tempfile.TemporaryDirectory(ignore_cleanup_errors=True))
     BROWSER = unittest.enterModuleContext(Browser(folder))
     BROWSER.size(1280, 720)
+
+
+# Whether the page has all that it asks for as it opens.
+IS_LOADED = """const names = performance.getEntriesByType('resource').map((it) => it.name);
+return ['/room/last', '/data/areas.json', '/data/places.json'].every((path) =>
+  names.some((it) => it.endsWith(path)));"""
 
 
 class Keys:
@@ -208,13 +215,12 @@ class Network(Served):
         for nth, after in enumerate([None, 900, 1800]):
             BROWSER.turn_to(first)
             BROWSER.open(f'{self.address}desks/taker.html')
-            BROWSER.find('#place')
-            time.sleep(0.5)
+            until(lambda: BROWSER.run(IS_LOADED), 20)
             self.line.cut(after)
             send_call(f'TQ{300 + 3 * nth}800', '2', f'call {nth}')
-            said = until(lambda: 'not yet answered: 1' in BROWSER.text('#waiting'), 5)
-            self.check(f'{after}: it waits, or was answered',
-                       bool(said) != ('NEW' in answer('NEW', 0)), True)
+            said = until(lambda: 'NEW' in answer('NEW', 0) or self.line.is_cut
+                         and 'not yet answered: 1' in BROWSER.text('#waiting'), 20)
+            self.check(f'{after}: it waits, or was answered', said, True)
             BROWSER.close(first, then=other)
             self.line.mend()
             first = BROWSER.tab(f'{self.address}desks/taker.html')

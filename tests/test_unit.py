@@ -19,6 +19,7 @@ from room import FLEET, PLAN, PROGRAM, TOP, TestCase, ask, call, free_port, made
 
 UNIT = TOP / 'examples' / 'dispatch_room.service'
 OF_METRICS = TOP / 'examples' / 'metrics' / 'dispatch_room_metrics.service'
+OF_PAGES = TOP / 'examples' / 'desks' / 'dispatch_desks.service'
 OPERATING = TOP / 'docs' / 'OPERATING.md'
 INSTALLED = '/usr/bin/dispatch_room'
 # Whose the folder is where root runs the tests: another's, as in a unit with a user of its own.
@@ -53,7 +54,7 @@ class Form(TestCase):
         return analyze('verify', '--man=no', file)
 
     def test_verify(self):
-        for unit in UNIT, OF_METRICS:
+        for unit in UNIT, OF_METRICS, OF_PAGES:
             text = unit.read_text()
             self.check(f'{unit.name} as it is', self.verified(unit, text), (0, ''))
             told = self.verified(unit, text.replace('Restart=', 'Restrat='))[1]
@@ -64,7 +65,8 @@ class Form(TestCase):
     def test_exposure(self):
         """By systemd's own measure, from 0 to 10, little is left to it."""
         words = ['security', '--offline=true', '--threshold=20']
-        self.check('safe', analyze(*words, UNIT)[0], 0)
+        for unit in UNIT, OF_PAGES:
+            self.check(f'{unit.name} is safe', analyze(*words, unit)[0], 0)
         bare = self.folder / 'bare.service'
         bare.write_text('[Service]\nExecStart=/bin/true\n')
         self.check('a bare one', analyze(*words, bare)[0] != 0, True)

@@ -1,6 +1,8 @@
 """The wall with up to nine divisions on two sizes of screens: pages that turn, keys, letters that
-are read from five metres, and what a picture of many costs."""
+are read from five metres, and what a picture of many costs. With EVERY_PLACE each number of
+divisions is tried on both screens, and pages turn by themselves again after they were stopped."""
 # needs: chromium chromium-driver
+import os
 import random
 import tempfile
 import time
@@ -10,7 +12,11 @@ from browser import Browser, until
 from room import TestCase
 from walls import NOW, incident, pictures, plan_of, played, refresh, vehicle, wall
 
-SIZES = [(1366, 768), (1920, 1080)]
+EVERY = 'EVERY_PLACE' in os.environ
+SIZES = SMALL, LARGE = [(1366, 768), (1920, 1080)]
+# Divisions on a screen.
+SCREENS = [(it, size) for it in (1, 2, 4, 9) for size in SIZES] if EVERY else [
+    (1, SMALL), (4, LARGE), (9, SMALL)]
 # A capital has to be a 360th of the distance high (MUTCD 2009, section 2A.13: an inch for 30 feet):
 # 13.9 mm at five metres, of the 934 mm that a screen of 75 inches and 16:9 is high.
 LEAST = 5000 / 360 / 934
@@ -150,7 +156,7 @@ def page():
 
 
 class Walls(TestCase):
-    def show(self, told_of, divisions, size=SIZES[0]):
+    def show(self, told_of, divisions, size=SMALL):
         room = played(self, told_of)
         tokens = [f'desknumber{it}' for it in range(1, divisions + 1)]
         address = self.enterContext(wall(room.port, plan_of(self.folder, divisions), *tokens))
@@ -201,21 +207,21 @@ class Pages(Walls):
         self.check(f'{what}: and on', self.turned('PageDown')['rows'], second['rows'])
 
     def test_pages(self):
-        for divisions in (1, 4, 9):
-            for size in SIZES:
-                self.check_pages(divisions, size)
+        for divisions, size in SCREENS:
+            self.check_pages(divisions, size)
 
     def test_by_themselves(self):
         self.show(wide_room(2), 2)
         BROWSER.press('0')
         first = page()
-        self.check('a page turns', until(lambda: page()['rows'] != first['rows'], 12), True)
+        self.check('a page turns', until(lambda: page()['rows'] != first['rows'], 60), True)
         BROWSER.press('Space')
         second = page()
         time.sleep(9)
         self.check('not while it is stopped', page()['rows'], second['rows'])
-        BROWSER.press('Space')
-        self.check('and then again', until(lambda: page()['rows'] != second['rows'], 12), True)
+        if EVERY:
+            BROWSER.press('Space')
+            self.check('and then again', until(lambda: page()['rows'] != second['rows'], 60), True)
 
     def test_divisions(self):
         """A key or a click shows one division: its queue, its area and its marks."""
@@ -253,15 +259,14 @@ class Pages(Walls):
 class Letters(Walls):
     def test_five_metres(self):
         """200 vehicles, 40 incidents and two points a division."""
-        for divisions in (1, 2, 9):
-            for size in SIZES:
-                what = f'{divisions} divisions at {size}'
-                self.show(wide_room(divisions), divisions, size)
-                wanted = [f'{"ABCDEFGHJ"[division]}{100 + it}' for division in range(divisions)
-                          for it in range(200 // divisions)]
-                self.check(f'{what}: each callsign whole', BROWSER.run(NAMES), wanted)
-                self.check(f'{what}: high enough', self.too_low(LEAST), [])
-                self.check(f"{what}: areas' names", BROWSER.run(COVERED), [])
+        for divisions, size in SCREENS:
+            what = f'{divisions} divisions at {size}'
+            self.show(wide_room(divisions), divisions, size)
+            wanted = [f'{"ABCDEFGHJ"[division]}{100 + it}' for division in range(divisions)
+                      for it in range(200 // divisions)]
+            self.check(f'{what}: each callsign whole', BROWSER.run(NAMES), wanted)
+            self.check(f'{what}: high enough', self.too_low(LEAST), [])
+            self.check(f"{what}: areas' names", BROWSER.run(COVERED), [])
         BROWSER.press('5')
         self.check('a division of nine: twice as high', self.too_low(2 * LEAST), [])
 
@@ -273,30 +278,18 @@ class Letters(Walls):
 
 
 class Many(Walls):
+    """What many cost, to an order of magnitude; bench/desks/run says how much."""
+
     def test_many(self):
         self.show(large_room(), 2, (1280, 720))
-        self.check('a picture costs at most 200 ms of a processor', cheapest(6) < 0.2, True)
+        self.check('a picture costs less than a second of a processor', self.cost() < 1, True)
         for what, css, wanted in [('vehicles', '.vehicle.mark', 500), ('lines', '.sent line', 280),
                                   ('incidents', '.incident.mark', 1000)]:
-            self.check(what, len(BROWSER.run('return [...document.querySelectorAll(arguments[0])]'
-                                             '.map((it) => 1)', css)), wanted)
+            self.check(what, len(BROWSER.all(css)), wanted)
 
     def test_a_busy_day(self):
         self.show(wide_room(9, 200, 300), 9, (1920, 1080))
-        self.check('200 vehicles and 300 incidents cost at most 100 ms', cheapest(4) < 0.1, True)
+        self.check('200 vehicles and 300 incidents cost less than a second', self.cost() < 1, True)
 
-
-def cheapest(times):
-    """The least seconds of a processor that the page took for a picture of so many: neither what
-    else runs on the machine counts, nor what the page does the first time."""
-    def spent():
-        told = BROWSER.devtools('Performance.getMetrics')['metrics']
-        return next(it['value'] for it in told if it['name'] == 'TaskDuration')
-
-    BROWSER.devtools('Performance.enable', timeDomain='threadTicks')
-    found = []
-    for _ in range(times):
-        before, drawn = spent(), pictures(BROWSER)
-        refresh(BROWSER, 1)
-        found.append((spent() - before) / (pictures(BROWSER) - drawn))
-    return min(found)
+    def cost(self):
+        return BROWSER.cheapest(3, lambda: refresh(BROWSER, 1))

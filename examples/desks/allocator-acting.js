@@ -1,7 +1,5 @@
 // Doing what a key asks for: at once, or after a form or a confirmation; and taking it back.
 
-import { askInTurn } from './allocator-reading.js';
-
 const UNANSWERED = 'No answer came. It may have been done, or not: look at the lists before you '
   + 'try again.';
 
@@ -57,7 +55,7 @@ export class Acting {
     const request = action.request(target, values, told);
     if (request.words) return request.words;
     const undo = action.undo?.(target, values, told);
-    const answer = await askInTurn(request.path, request.body);
+    const answer = await this.reading.act(request.path, request.body);
     if (!answer.ok) return refusalWords(answer);
     this.#undone.push({ panel, undo });
     const back = undo ? ` u takes it back: ${undo.words}.` : '';
@@ -73,7 +71,7 @@ export class Acting {
       return;
     }
     for (const { path, body } of undo.requests) {
-      const answer = await askInTurn(path, body);
+      const answer = await this.reading.act(path, body);
       if (!answer.ok) {
         where.say(`Not taken back (${undo.words}): ${refusalWords(answer)}`, true);
         return;

@@ -1,3 +1,7 @@
-// A worker that answers each number of milliseconds once they are over.
+// A worker that answers a number of milliseconds once they are over, or is told another before.
 
-onmessage = ({ data }) => setTimeout(() => postMessage(data), data);
+let timer;
+onmessage = ({ data }) => {
+  clearTimeout(timer);
+  timer = setTimeout(postMessage, data, data);
+};

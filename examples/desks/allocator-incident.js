@@ -1,5 +1,5 @@
-// An incident's own page: its calls with their notes, and its turns with their moments. A room that
-// is served without history tells less: then it shows what the lists know.
+// An incident's own page: its calls with their notes, and its turns with their moments, of a room
+// that has a path for them. Of one that has none it shows what the lists know.
 
 import { askInTurn } from './allocator-reading.js';
 import { refusalWords } from './allocator-acting.js';
@@ -65,7 +65,7 @@ export class IncidentPage {
     this.told = null;
   }
 
-  /** Asks the history, and shows what it tells or what the lists know. */
+  /** Asks the room for it, and shows what it tells or what the lists know. */
   async read(reading) {
     const { number } = this;
     if (number === null) return;
@@ -93,14 +93,14 @@ export class IncidentPage {
       time(one.hospital), time(one.ended), turnWords(one, it)])));
   }
 
-  /** Without history: the incident's line, and the vehicles that are sent to it now. */
+  /** Of a room without such a path: its line, and the vehicles that are sent to it now. */
   #showLists(told) {
     const it = told.incidentOf.get(this.number);
     const words = it ? `Class ${it.class}, ${reference(it.place)}; opened ${clock(it.opened)}, `
       + `${since(it.opened, told.moment)} ago; needs ${vehicles(it.needs)}; calls: ${it.calls}; `
       + `${incidentWhy(told, it)}.` : 'No active incident has this number.';
-    this.head.textContent = 'This room is served without history, so calls, notes and moments can '
-      + `not be shown. ${words}`;
+    this.head.textContent = 'This room does not tell calls, notes and moments of an incident. '
+      + words;
     fill(this.list, table('Vehicles sent now', ['Vehicle', 'Kind', 'Place', ''],
       told.sentTo(this.number).map((one) => [one.vehicle, KINDS[one.kind - 1],
         reference(one.place), vehicleWhy(told, one)])));

@@ -1,18 +1,21 @@
 // What the room tells the desk: its lists, read one after another and over again, and whatever else
-// is asked. Never two requests at once, and a round of the lists at most every two seconds.
+// is asked. Never two requests at once; a round of the lists every two seconds, and once something
+// was done.
 
 import { ask } from './room.js';
 
 export const LISTS = ['queue', 'incidents', 'vehicles', 'points', 'offers', 'loans'];
-export const EVERY = 2000; // milliseconds from the start of a round to the next
+const EVERY = 2000; // milliseconds from the start of a round to the next
 const OLD = 2; // whole seconds, above which a list says how old it is
 
 // A page behind others gets its own timers once a minute only; a worker's are on time.
 const timer = new Worker(new URL('allocator-clock.js', import.meta.url));
+let wake = () => {};
 
+/** Waits so long, or until it is woken. */
 function sleep(milliseconds) {
-  return new Promise((wake) => {
-    timer.onmessage = wake;
+  return new Promise((resolve) => {
+    wake = timer.onmessage = resolve;
     timer.postMessage(milliseconds);
   });
 }
@@ -30,6 +33,8 @@ export class Reading {
   #lists = Object.fromEntries(LISTS.map((it) => [it, []]));
   #asked = {};
   #clock = { moment: Date.now() / 1000, at: performance.now() };
+  #isHurried = false;
+  round = 0; // the number of the last round that began
   fault = ''; // why the last round ended early
   drawFault = ''; // why what it told is not shown
 
@@ -52,8 +57,23 @@ export class Reading {
     return Math.floor(this.#clock.moment + (performance.now() - this.#clock.at) / 1000);
   }
 
+  /** Asks the room to do something; then the lists are read anew, and again where they are being
+      read. The page keeps which round will show what was done. */
+  async act(path, body) {
+    const { dataset } = document.documentElement;
+    dataset.due = Infinity;
+    const answer = await askInTurn(path, body);
+    this.#isHurried = true;
+    dataset.due = this.round + 1;
+    wake();
+    return answer;
+  }
+
   /** Reads each list; what the room does not answer ends the round. */
-  async round() {
+  async read() {
+    this.#isHurried = false;
+    this.round += 1;
+    document.documentElement.dataset.round = this.round;
     for (const name of LISTS) {
       const began = performance.now();
       const answer = await askInTurn(`/${name}`);
@@ -63,6 +83,11 @@ export class Reading {
       this.#asked[name] = began;
       this.#clock = { moment: answer.moment, at: performance.now() };
     }
+  }
+
+  /** Waits until the next round may begin. */
+  async pause(milliseconds) {
+    if (!this.#isHurried) await sleep(Math.max(0, milliseconds));
   }
 
   /** The lists with what is looked up in them, at the moment of now. */
@@ -91,13 +116,13 @@ export async function readOn(reading, show) {
   for (;;) {
     const began = performance.now();
     try {
-      await reading.round();
+      await reading.read();
       await show();
       reading.drawFault = '';
     } catch (fault) {
       reading.drawFault = 'The page can not show what the room tells.';
       console.error(fault);
     }
-    await sleep(Math.max(0, EVERY - (performance.now() - began)));
+    await reading.pause(EVERY - (performance.now() - began));
   }
 }

@@ -46,8 +46,10 @@ const panel = () => (incidentPage.number === null ? current : incidentPage);
 
 // ---- drawing
 
-/** Draws what the lists tell, and keeps how many milliseconds it took until it was shown. */
+/** Draws what the lists tell; keeps of which round it is, and how many milliseconds it took until
+    it was shown. */
 function draw() {
+  const { round } = reading;
   const began = performance.now();
   const told = reading.told();
   for (const [name, linesOf] of Object.entries(LINES)) {
@@ -60,7 +62,7 @@ function draw() {
   requestAnimationFrame(() => setTimeout(() => {
     const { dataset } = document.documentElement;
     dataset.redrawMilliseconds = (performance.now() - began).toFixed(1);
-    dataset.rounds = Number(dataset.rounds ?? 0) + 1;
+    dataset.shown = round;
   }));
 }
 
@@ -175,7 +177,9 @@ const find = () => form('Find', { name: 'text', label: 'Callsign, or number of a
     const where = [panels.vehicles, panels.incidents].find((it) =>
       it.find((line) => line.what === wanted || line.what === `Incident ${wanted}`));
     if (!where) return `Neither a vehicle of this desk nor an active incident is “${text}”.`;
-    current = where;
+    drawer.close(); // which gives the keys back to where it began
+    if (location.hash) leave();
+    turnTo(where);
     return '';
   });
 

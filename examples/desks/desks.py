@@ -9,14 +9,14 @@ The pages are then at http://127.0.0.1:8082/."""
 import argparse
 import csv
 import http.client
-import http.server
-import ipaddress
 import json
 import pathlib
-import socket
 import sys
 
 HERE = pathlib.Path(__file__).resolve().parent
+WALL = HERE.parent / 'wall'
+sys.path.append(str(WALL))
+from page_server import KINDS, Page, PageServer, Refused, area_of, loopback
 
 ANSWER_WITHIN = 3.0  # seconds that the room may be silent for
 LONGEST_ANSWER = 16 << 20  # bytes
@@ -24,21 +24,6 @@ LONGEST_BODY = 64 << 10  # bytes that are handed on; the room itself takes 1024
 LONGEST_READ = 16 << 20  # bytes that are read, so that the refusal of more arrives
 
 # ---- the words of the command line
-
-
-class Refused(Exception):
-    """Why the pages are not served."""
-
-
-def loopback(text):
-    """An address of this machine, written 127.0.0.1:8082 or [::1]:8082."""
-    host, colon, port = text.rpartition(':')
-    try:
-        if colon and ipaddress.ip_address(host.strip('[]')).is_loopback and 0 <= int(port) < 65536:
-            return host.strip('[]'), int(port)
-    except ValueError:
-        pass
-    raise argparse.ArgumentTypeError(f'{text!r} is no address of loopback with a port')
 
 
 def words():
@@ -72,12 +57,6 @@ def rows_of(path, *members):
     return rows
 
 
-def area_of(row):
-    """A rectangle in metres of the National Grid, and whose it is."""
-    sides = {'west': 'a', 'south': 'b', 'east': 'c', 'north': 'd'}
-    return {'division': int(row['number'])} | {it: int(row[at]) for it, at in sides.items()}
-
-
 def areas_of(plan):
     rows = rows_of(plan, 'what', 'number', 'a', 'b', 'c', 'd') if plan else []
     try:
@@ -100,26 +79,14 @@ def write(folder, known):
 
 # ---- files
 
-KINDS = {'.html': 'text/html', '.css': 'text/css', '.js': 'text/javascript'}
 # Modules of the wall that the pages share.
 SHARED = 'ground.js', 'nodes.js', 'words.js'
-
-HEADERS = {
-    'Content-Security-Policy': "default-src 'none'; script-src 'self'; style-src 'self'; "
-                               "connect-src 'self'; base-uri 'none'; form-action 'none'; "
-                               "frame-ancestors 'none'",
-    'Cross-Origin-Opener-Policy': 'same-origin',
-    'Cross-Origin-Resource-Policy': 'same-origin',
-    'Referrer-Policy': 'no-referrer',
-    'X-Content-Type-Options': 'nosniff',
-    'Cache-Control': 'no-store',
-}
 
 
 def files():
     """The pages' files by their paths, which are those below examples/."""
     own = [it for it in HERE.iterdir() if it.suffix in KINDS]
-    shared = [HERE.parent / 'wall' / it for it in SHARED]
+    shared = [WALL / it for it in SHARED]
     return {f'/{it.parent.name}/{it.name}': it for it in [*own, *shared]}
 
 
@@ -154,10 +121,8 @@ def told(name, number):
 # ---- serving
 
 
-class Page(http.server.BaseHTTPRequestHandler):
+class DesksPage(Page):
     """Answers a browser: a file, what the pages know of the service, or what the room says."""
-    timeout = 10
-    server_version, sys_version = 'desks', ''
 
     def handle_one(self):
         if not self.is_own():
@@ -181,8 +146,7 @@ class Page(http.server.BaseHTTPRequestHandler):
         """Whether the request names this server as its host, and is of no other site's page."""
         origin = self.headers.get('Origin')
         site = self.headers.get('Sec-Fetch-Site', 'none')
-        return (self.headers.get('Host') in self.server.hosts
-                and origin in (None, f'http://{self.headers.get("Host")}')
+        return (self.is_named_so() and origin in (None, f'http://{self.headers.get("Host")}')
                 and site in ('none', 'same-origin'))
 
     def hand_on(self):
@@ -199,37 +163,14 @@ class Page(http.server.BaseHTTPRequestHandler):
         status, date, content = ask(self.server.room, self.command, path, token, body)
         return self.answer(status, 'application/json', content, Date=date)
 
-    def answer(self, status, kind, content, **more):
-        self.send_response_only(status)
-        given = {'Date': self.date_time_string(), 'Content-Type': f'{kind}; charset=utf-8',
-                 'Content-Length': str(len(content))} | HEADERS
-        for name, value in (given | {it: more[it] for it in more if more[it]}).items():
-            self.send_header(name, value)
-        self.end_headers()
-        if self.command != 'HEAD':
-            self.wfile.write(content)
 
-    def log_message(self, *_):
-        """Says nothing: a path may have what was typed."""
-
-
-class Desks(http.server.ThreadingHTTPServer):
+class Desks(PageServer):
     """The pages' server."""
-    daemon_threads = True
 
     def __init__(self, address, room, known):
-        self.address_family = socket.AF_INET6 if ':' in address[0] else socket.AF_INET
-        super().__init__(address, Page)
+        super().__init__(address, DesksPage)
         self.room = room
         self.known = {f'/data/{name}': content for name, content in known.items()}
-        host, port = self.server_address[:2]
-        self.name = f'[{host}]:{port}' if ':' in host else f'{host}:{port}'
-        self.hosts = {self.name, f'localhost:{port}'}
-
-    def handle_error(self, request, client_address):
-        """Says nothing of a page that went away."""
-        if not isinstance(sys.exc_info()[1], OSError):
-            super().handle_error(request, client_address)
 
 
 def main():
@@ -242,12 +183,7 @@ def main():
         desks = Desks(found.listen, found.room, known)
     except (Refused, OSError) as told:
         parser.error(str(told))
-    print(f'desks: http://{desks.name}/', flush=True)
-    try:
-        desks.serve_forever()
-    except KeyboardInterrupt:
-        pass
-    return None
+    return desks.serve('desks')
 
 
 if __name__ == '__main__':

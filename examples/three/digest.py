@@ -1,10 +1,13 @@
-"""The digest of a room's file, as docs/FILES.md tells it: SHA-256 of all rows, or in version 1 of all
-but that of the zone. The file is one that no program has open."""
+"""The digest of a room's file, as docs/FILES.md tells it: SHA-256 of all rows, or in version 1 of
+all but that of the zone. The file is one that no program has open.
+
+  python3 digest.py ROOM        prints it"""
 import collections.abc
 import contextlib
 import hashlib
 import pathlib
 import sqlite3
+import sys
 
 # The tables in their order, with their keys.
 TABLES = {'meta': 'id', 'areas': 'n', 'terminals': 'token', 'divisions': 'number',
@@ -41,10 +44,18 @@ def of_tables(room: sqlite3.Connection, version: int) -> collections.abc.Iterato
             yield of_number(len(row)) + b''.join(map(of_value, row))
 
 
+def opened(file: pathlib.Path) -> sqlite3.Connection:
+    """Opens a file to be read. Where it has no log, none is made beside it."""
+    log = file.with_name(f'{file.name}-wal')
+    has_log = log.exists() and log.stat().st_size > 0
+    how = 'mode=ro' if has_log else 'mode=ro&immutable=1'
+    return sqlite3.connect(f'{file.resolve().as_uri()}?{how}', uri=True)
+
+
 def of_file(file: pathlib.Path, version: int = 2) -> str:
     """The digest in hexadecimal digits."""
     found = hashlib.sha256()
-    with contextlib.closing(sqlite3.connect(f'{file.resolve().as_uri()}?mode=ro', uri=True)) as room:
+    with contextlib.closing(opened(file)) as room:
         for part in of_tables(room, version):
             found.update(part)
     return found.hexdigest()
@@ -53,3 +64,7 @@ def of_file(file: pathlib.Path, version: int = 2) -> str:
 def head_of(file: pathlib.Path, version: int = 2) -> str:
     """The head of a list that begins at the file's room."""
     return f'room {version} {of_file(file, version)}\n'
+
+
+if __name__ == '__main__':
+    print(of_file(pathlib.Path(sys.argv[1])))

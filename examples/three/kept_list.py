@@ -1,146 +1,204 @@
-"""The list of one room's messages, as the machines keep it in etcd: one key a record, made only
-where there is none and where the record before it is. Which record stands where, and what is kept,
-is etcd's to say; here it is only asked, over JSON, of one machine's member."""
-import base64
+"""The list of one room's records, as the machines keep it in etcd: one key an entry, and one that
+names the last. An entry is put only where the last is the one that its machine has played to. Which
+entry stands where, and what is kept, is etcd's to say."""
+import collections.abc
 import dataclasses
-import http.client
-import json
+import re
 
-RECORDS = 'room/list/'
-AFTER_RECORDS = 'room/list0'  # the first key behind those of the records
-COPIES = 'room/copies/'
-AFTER_COPIES = 'room/copies0'
-MOST_READ = 500  # records that are read at once
-MOST_KEPT = 100  # records that are kept at once; etcd takes 128, and one and a half megabytes
+from entries import Entry, NoEntry, Place, entry_behind, entry_of
+from etcd import Member, coded, decoded
 
-
-class Unreached(Exception):
-    """The member gave no answer in its time. What was asked of it may still be done, later too."""
+ROOM = 'room/2/'  # by the version of what an entry is
+LIST, AFTER_LIST = f'{ROOM}list/', f'{ROOM}list0'
+HEAD = f'{ROOM}head'  # the place of the last entry
+STOPPED = f'{ROOM}stopped'  # why no machine takes more
+MOST_READ = 100  # entries that are read at once
+HEAD_FORM = re.compile(rb'(0|[1-9][0-9]{0,11}) ([0-9a-f]{64})')
 
 
 class Lost(Exception):
-    """The list is not the one that this machine's copy is of, or has gone on without it."""
+    """The list is not the one that this machine's room has played, or has gone on without it."""
 
 
-@dataclasses.dataclass(frozen=True, slots=True)
-class Record:
-    """A message of the list: by whom it was put there, its moment, and its bytes."""
-    name: str
-    moment: int
-    message: bytes
-
-    def text(self) -> bytes:
-        return f'{self.name} {self.moment}\n'.encode() + self.message
-
-
-def record_of(text: bytes) -> Record:
-    head, _, message = text.partition(b'\n')
-    name, moment = head.decode().split(' ')
-    return Record(name, int(moment), message)
-
-
-Numbered = list[tuple[int, Record]]
-
-
-def coded(text: str | bytes) -> str:
-    return base64.b64encode(text.encode() if isinstance(text, str) else text).decode()
+@dataclasses.dataclass(frozen=True)
+class Found:
+    """What a look at the list gave: the entries behind the place that was known, whether they are
+    all, what stands among them and is none, why no machine takes more, and etcd's revision."""
+    entries: list[Entry]
+    is_all: bool
+    foreign: list[str]
+    stopped: str
+    revision: int
 
 
 def key_of(number: int) -> str:
-    return coded(f'{RECORDS}{number:012}')
+    return f'{LIST}{number:012}'
 
 
-def span_from(number: int) -> dict:
-    """The keys of this record and of all behind it."""
-    return {'key': key_of(number), 'range_end': coded(AFTER_RECORDS)}
+def span(first: str, behind: str = '') -> dict:
+    return {'key': coded(first)} | ({'range_end': coded(behind)} if behind else {})
 
 
-def is_there(number: int) -> dict:
-    """What a transaction of etcd rests on: this record is there."""
-    return {'key': key_of(number), 'target': 'CREATE', 'result': 'GREATER', 'create_revision': 0}
+def under(prefix: str) -> dict:
+    """All keys that begin so."""
+    return span(prefix, prefix[:-1] + chr(ord(prefix[-1]) + 1))
 
 
-def is_end(number: int) -> dict:
-    """What a transaction rests on: neither this record is there nor any behind it."""
-    return span_from(number) | {'target': 'CREATE', 'result': 'EQUAL', 'create_revision': 0}
+def is_value(key: str, value: bytes) -> dict:
+    return span(key) | {'target': 'VALUE', 'result': 'EQUAL', 'value': coded(value)}
 
 
-def read_from(number: int) -> dict:
-    return {'request_range': span_from(number) | {'limit': MOST_READ}}
+def is_none(keys: dict) -> dict:
+    return keys | {'target': 'CREATE', 'result': 'EQUAL', 'create_revision': '0'}
 
 
-def put(number: int, record: Record) -> dict:
-    return {'request_put': {'key': key_of(number), 'value': coded(record.text())}}
+def is_of(key: str, revision: int) -> dict:
+    return span(key) | {'target': 'MOD', 'result': 'EQUAL', 'mod_revision': str(revision)}
 
 
-def pairs(found: dict) -> list[tuple[int, bytes]]:
-    """The numbers at the ends of the keys that were found, and what stands there."""
-    rows = [(base64.b64decode(it['key']), base64.b64decode(it['value']))
+def put(key: str, value: bytes | str) -> dict:
+    return {'request_put': span(key) | {'value': coded(value)}}
+
+
+def delete(keys: dict) -> dict:
+    return {'request_delete_range': keys}
+
+
+def get(keys: dict, **more: object) -> dict:
+    return {'request_range': keys | more}
+
+
+def pairs(found: dict) -> list[tuple[str, bytes]]:
+    """The keys that were found, and what stands there."""
+    return [(decoded(it['key']).decode(errors='replace'), decoded(it.get('value', '')))
             for it in found.get('kvs', [])]
-    return [(int(key.rpartition(b'/')[2]), value) for key, value in rows]
 
 
-def records(found: dict) -> Numbered:
-    return [(number, record_of(text)) for number, text in pairs(found)]
+def head_of(text: bytes) -> Place | None:
+    found = HEAD_FORM.fullmatch(text)
+    return Place(int(found[1]), found[2].decode()) if found else None
+
+
+def linked(known: Place, rows: list[tuple[str, bytes]]) -> tuple[list[Entry], list[str]]:
+    """The entries among rows that follow a place, one behind the other, and the keys of all that
+    is none of them. Every machine finds the same."""
+    entries, foreign = [], []
+    for key, text in rows:
+        try:
+            entry = entry_of(text)
+        except NoEntry:
+            foreign.append(key)
+            continue
+        if key == key_of(entry.number) and entry.follows(known):
+            entries.append(entry)
+            known = entry.place
+        else:
+            foreign.append(key)
+    return entries, foreign
 
 
 class KeptList:
     """The list, by one connection to a member of etcd, which is used by one thread at a time."""
 
-    def __init__(self, member: tuple[str, int], within: float):
-        self.connection = http.client.HTTPConnection(*member, timeout=within)
+    def __init__(self, member: Member):
+        self.member = member
 
-    def ask(self, what: str, asked: dict) -> dict:
-        try:
-            self.connection.request('POST', f'/v3/kv/{what}', json.dumps(asked))
-            with self.connection.getresponse() as answer:
-                content = answer.read()
-            if answer.status != 200:
-                raise Unreached(f'etcd: {answer.status} {content[:200].decode(errors="replace")}')
-            return json.loads(content)
-        except (OSError, http.client.HTTPException, ValueError) as told:
-            self.connection.close()
-            raise Unreached(f'etcd: {told or type(told).__name__}') from None
+    def change(self, holds: list[dict], then: list[dict], otherwise: list[dict] = ()) -> dict:
+        """A transaction of etcd."""
+        asked = {'compare': holds, 'success': then, 'failure': list(otherwise)}
+        return self.member.ask('/v3/kv/txn', asked)
 
-    def read(self, number: int, is_latest: bool = False) -> Numbered:
-        """Records from this number on: those that the member has, or those that any has. What a
-        member has is a first part of the list, whatever became of the others."""
-        asked = span_from(number) | {'limit': MOST_READ, 'serializable': not is_latest}
-        return records(self.ask('range', asked))
+    # ---- reading
 
-    def put_where(self, holds: list[dict], wanted: Numbered) -> Numbered:
-        """Puts records, all or none: only where all of this holds. Gives what stands from the first
-        one's number on now, be it of another machine."""
-        found = self.ask('txn', {'compare': holds, 'success': [put(*it) for it in wanted],
-                                 'failure': [read_from(wanted[0][0])]})
-        if found.get('succeeded'):
-            return wanted
-        return records(found['responses'][0]['response_range'])
+    def looks(self, known: Place, is_serializable: bool) -> list[dict]:
+        how = {'serializable': is_serializable}
+        return [get(span(HEAD), **how), get(span(STOPPED), **how),
+                get(span(key_of(known.number + 1), AFTER_LIST), limit=MOST_READ, **how)]
 
-    def keep(self, number: int, wanted: list[Record]) -> Numbered:
-        """Puts records at the list's end, which this number is where the one before it is there and
-        none is at it or behind it; gives what stands there now. Where that is asked again after
-        Unreached, for the same number, at most one of both is done."""
-        holds = [is_there(number - 1), is_end(number)]
-        found = self.put_where(holds, list(enumerate(wanted, number)))
-        if not found:
-            raise Lost(f'record {number - 1} is gone from the list')
-        return found
+    def found(self, known: Place, told: dict, is_latest: bool = True) -> Found:
+        """What looks gave, of one moment. A place that is known and not in the list is told, where
+        most members were asked: one that was away may have less."""
+        heads, stops, rows = (it['response_range'] for it in told['responses'])
+        stopped = ''.join(value.decode(errors='replace') for _, value in pairs(stops))
+        entries, foreign = linked(known, pairs(rows))
+        last = entries[-1].place if entries else known
+        found = Found(entries, False, foreign, stopped, int(told['header']['revision']))
+        head = head_of(pairs(heads)[0][1]) if heads.get('kvs') else None
+        if head and head.text() == last.text():
+            return dataclasses.replace(found, is_all=True)
+        if rows.get('more') and (head is None or head.number > last.number):
+            return found
+        if is_latest:
+            self.explain(known, last, heads)
+        return dataclasses.replace(found, entries=[])
 
-    def begin(self, first: Record) -> tuple[int, Record]:
-        """Makes record 0 where there is no record at all; gives the first one that is there."""
-        return self.put_where([is_end(0)], [(0, first)])[0]
+    def explain(self, known: Place, last: Place, heads: dict) -> None:
+        """Why the list doesn't end where its entries do. Where its head is foreign, nothing was put
+        since, so the head is mended."""
+        row = (heads.get('kvs') or [{}])[0]
+        head = head_of(decoded(row.get('value', '')))
+        if head and head.number < known.number:
+            raise Lost(f'the list went back: it ends at record {head.number}, and this room has '
+                       f'played {known.number}')
+        if head:
+            raise Lost(f'record {last.number + 1} of the list is not behind record {last.number} '
+                       'of this room')
+        entry = self.entry(last.number)
+        if not entry or entry.place != last:
+            raise Lost(f'the list is gone, and this room has played {known.number}')
+        revision = int(row.get('mod_revision', 0))
+        self.change([is_of(HEAD, revision)], [put(HEAD, last.text())])
 
-    def tell_copy(self, machine: int, number: int) -> None:
-        """Tells that a machine has a copy of the room with the records up to this number."""
-        key, value = coded(f'{COPIES}{machine}'), coded(str(number))
-        self.ask('put', {'key': key, 'value': value})
+    def read(self, known: Place, is_latest: bool = False) -> Found:
+        """Entries behind a place: those that the member has, or those that any has."""
+        told = self.change([], self.looks(known, not is_latest))
+        return self.found(known, told, is_latest)
 
-    def copies(self) -> dict[int, int]:
-        """Up to which number each machine has a copy."""
-        found = self.ask('range', {'key': coded(COPIES), 'range_end': coded(AFTER_COPIES)})
-        return {machine: int(number) for machine, number in pairs(found)}
+    def entry(self, number: int) -> Entry | None:
+        """The entry that ends with a record, where there is one."""
+        found = self.member.ask('/v3/kv/range', span(key_of(number)))
+        for _, text in pairs(found):
+            try:
+                return entry_of(text)
+            except NoEntry:
+                return None
+        return None
 
-    def drop_before(self, number: int) -> None:
-        """Deletes the records before this one."""
-        self.ask('deleterange', {'key': key_of(0), 'range_end': key_of(number)})
+    def ends(self) -> tuple[int, int]:
+        """The numbers of the first entry and of the head."""
+        told = self.change([], [get(span(HEAD)), get(under(LIST), limit=1, keys_only=True)])
+        heads, first = (pairs(it['response_range']) for it in told['responses'])
+        head = head_of(heads[0][1]) if heads else None
+        number = first[0][0].removeprefix(LIST) if first else ''
+        return int(number) if number.isdigit() else 0, head.number if head else 0
+
+    # ---- writing
+
+    def keep(self, known: Place, moment: int, records: list) -> Found:
+        """Puts an entry behind the place that is known, where that is the list's end; gives what
+        stands there now. Where that is asked again after Unreached, for the same place, at most
+        one of both is done."""
+        entry = entry_behind(known, moment, records)
+        holds = [is_value(HEAD, known.text()), is_none(span(STOPPED))]
+        told = self.change(holds, [put(key_of(entry.number), entry.text),
+                                   put(HEAD, entry.place.text())], self.looks(known, False))
+        if told.get('succeeded'):
+            return Found([entry], True, [], '', int(told['header']['revision']))
+        return self.found(known, told)
+
+    def begin(self, first: Entry) -> Entry | None:
+        """Makes the first entry where there is no list; gives the one that is there."""
+        self.change([is_none(span(HEAD)), is_none(under(LIST))],
+                    [put(key_of(0), first.text), put(HEAD, first.place.text())])
+        return self.entry(0)
+
+    def drop_before(self, number: int) -> int:
+        """Deletes the entries before the one that ends with this record; gives the revision."""
+        told = self.change([], [delete(span(key_of(0), key_of(number)))])
+        return int(told['header']['revision'])
+
+    def values(self, prefix: str) -> collections.abc.Iterator[tuple[str, bytes, int]]:
+        """What stands under a prefix: the rest of each key, its value and its revision."""
+        found = self.member.ask('/v3/kv/range', under(prefix))
+        for row, (key, value) in zip(found.get('kvs', []), pairs(found)):
+            yield key.removeprefix(prefix), value, int(row['mod_revision'])

@@ -1,152 +1,145 @@
-"""The room of one machine: the program over a copy of its file, which plays the records of the list
-one after another, and the copies that are made of the file while the program is ended."""
+"""The room of one machine: the program over a copy of its file, which is handed messages by a pipe,
+and gives their answers in the same order."""
 import asyncio
+import collections
 import collections.abc
 import contextlib
-import dataclasses
-import fcntl
-import os
 import pathlib
 import shutil
+import signal
+import sqlite3
+import subprocess
+import sys
 import tempfile
+import time
 
-import digest
-from kept_list import Record
+from copies import Copy
+from entries import Record
 
-OPENS_WITHIN = 120.0  # seconds until the first record is answered: opening reads the whole file
+DIGEST = pathlib.Path(__file__).resolve().parent / 'digest.py'
+OPENS_WITHIN = 120.0  # seconds until the first answer: opening reads the whole file
 ANSWERS_WITHIN = 10.0  # seconds until any other is
-DROPS_WITHIN = 0.5  # seconds that one of no more use may take to end by itself
 ENDS_WITHIN = 30.0  # seconds that the program may take to put its log into its file
-LEAST_LOG = 32 + 24 + 512  # bytes of SQLite's log with one page of the smallest size
+DROPS_WITHIN = 0.5  # seconds that one of no more use may take to end by itself
+READ = 1 << 18  # bytes that are read at once
+
+Taking = collections.abc.Callable[[bytes], None]
 
 
 class Ended(Exception):
-    """The program gave no answer. The record was played or not: the file is of no more use."""
+    """The program gave no answer. What it was handed was played or not: the file is of no more
+    use."""
 
 
-@dataclasses.dataclass(frozen=True)
-class Copy:
-    """A file that holds the room after the record of this number and name."""
-    file: pathlib.Path
-    number: int
-    name: str
+class Changed(Exception):
+    """A copy's file has changed since it was made."""
 
 
-def file_of_copy(folder: pathlib.Path, number: int, name: str) -> Copy:
-    return Copy(folder / f'copy.{number:012}.{name}.db', number, name)
+def digest_of(file: pathlib.Path) -> str:
+    """The digest of a file's room, by a process that leaves this one to its work."""
+    done = subprocess.run([sys.executable, DIGEST, file], capture_output=True, text=True)
+    if done.returncode:
+        raise OSError(f'{file}: {done.stderr.strip()[-200:]}')
+    return done.stdout.strip()
 
 
-def make_folder(folder: pathlib.Path) -> None:
-    folder.mkdir(mode=0o700, parents=True, exist_ok=True)
-
-
-@contextlib.contextmanager
-def alone(folder: pathlib.Path) -> collections.abc.Iterator[None]:
-    """Has a folder for one companion alone."""
-    with (folder / 'lock').open('w') as lock:
-        try:
-            fcntl.flock(lock, fcntl.LOCK_EX | fcntl.LOCK_NB)
-        except BlockingIOError:
-            raise OSError(f'another companion has {folder}') from None
-        yield
-
-
-def drop_runs(folder: pathlib.Path) -> None:
-    """Drops what programs that were killed have left in a folder."""
-    for left in folder.glob('run.*'):
-        shutil.rmtree(left, ignore_errors=True)
-
-
-def newest_copy(folder: pathlib.Path) -> Copy | None:
-    files = sorted(folder.glob('copy.*.db'))
-    if not files:
-        return None
-    _, number, name, _ = files[-1].name.split('.')
-    return Copy(files[-1], int(number), name)
-
-
-def sync(path: pathlib.Path) -> None:
-    opened = os.open(path, os.O_RDONLY)
-    try:
-        os.fsync(opened)
-    finally:
-        os.close(opened)
-
-
-def look_at(file: pathlib.Path) -> None:
-    """Looks whether a file alone is the room, as it is where its log has no page."""
-    log = file.with_name(f'{file.name}-wal')
-    if log.exists() and log.stat().st_size >= LEAST_LOG:
-        raise Ended(f'{file} is not closed: it has a log')
-
-
-def keep_copy(file: pathlib.Path, copy: Copy) -> None:
-    """Makes a copy of a file that no program has open, and drops those before it. It has its name
-    once it is on the disk whole."""
-    look_at(file)
-    folder = copy.file.parent
-    part = folder / 'part'
-    shutil.copyfile(file, part)
-    sync(part)
-    part.rename(copy.file)
-    sync(folder)
-    for older in folder.glob('copy.*.db'):
-        if older.name < copy.file.name:
-            older.unlink()
+def close_room(program: str, file: pathlib.Path) -> str:
+    """Has the program open a file, test all of it, and put its log into it; gives its digest."""
+    digest = digest_of(file)
+    done = subprocess.run([program, 'replay', file], input=f'room 2 {digest}\n'.encode(),
+                          capture_output=True)
+    if done.returncode:
+        raise OSError(f'{file}: {done.stderr.decode(errors="replace").strip()}')
+    return digest
 
 
 class PlayedRoom:
     """A run of the program, in a folder of its own: one that was killed may not have ended yet, and
-    must not meet the files of the next. What it leaves is only used after it has ended well, so
-    its folder may be in memory."""
+    must not meet the files of the next. What it leaves is only used after it has ended well, or
+    while it has nothing to do, so its folder may be in memory."""
 
     def __init__(self, program: str, copy: Copy, work: pathlib.Path):
         self.program, self.copy = program, copy
         self.folder = pathlib.Path(tempfile.mkdtemp(prefix='run.', dir=work))
         self.file = self.folder / 'room.db'
         self.process: asyncio.subprocess.Process | None = None
+        self.reading: asyncio.Task | None = None
+        self.waiting: collections.deque[Taking] = collections.deque()
+        self.heard = time.monotonic()
         self.within = OPENS_WITHIN
+        self.has_ended = False
 
     async def start(self) -> None:
-        await asyncio.to_thread(shutil.copyfile, self.copy.file, self.file)
+        """Starts the program over the copy, or where it was ended well over what it left."""
+        is_copy = not self.file.exists()
+        if is_copy:
+            await asyncio.to_thread(shutil.copyfile, self.copy.file, self.file)
+        digest = await asyncio.to_thread(digest_of, self.file)
+        if is_copy and digest != self.copy.room:
+            raise Changed(f'{self.copy.file} is not what it was')
         pipe = asyncio.subprocess.PIPE
         self.process = await asyncio.create_subprocess_exec(
             self.program, 'replay', self.file, '--answers', stdin=pipe, stdout=pipe,
             start_new_session=True)
-        head = await asyncio.to_thread(digest.head_of, self.copy.file)
-        self.process.stdin.write(head.encode())
+        self.process.stdin.write(f'room 2 {digest}\n'.encode())
+        self.within, self.heard = OPENS_WITHIN, time.monotonic()
+        self.reading = asyncio.create_task(self.read())
 
-    async def play(self, record: Record) -> bytes:
-        """The answer to a record, in the bytes of HTTP."""
-        head = f'message {record.moment} {len(record.message)}\n'.encode()
+    def send(self, moment: int, *messages: tuple[bytes, Taking]) -> None:
+        """Hands the room messages. Their answers are taken in turn, or never where the room ends
+        before."""
+        if not self.waiting:
+            self.heard = time.monotonic()
+        self.waiting.extend(take for _, take in messages)
+        self.process.stdin.write(b''.join(b'message %d %d\n%b\n' % (moment, len(it), it)
+                                          for it, _ in messages))
+
+    async def read(self) -> None:
+        """Takes the answers as they come, until the program ends."""
+        left = b''
         try:
-            async with asyncio.timeout(self.within):
-                self.process.stdin.write(head + record.message + b'\n')
-                await self.process.stdin.drain()
-                told = await self.process.stdout.readuntil(b'\n')
-                word, _, length = told.decode().split(' ')
-                answer = await self.process.stdout.readexactly(int(length) + 1)
-        except TimeoutError:
-            raise Ended('the room is silent') from None
-        except (OSError, EOFError):
-            raise Ended('the room ended') from None
-        except ValueError:
-            raise Ended('the room gave what is no answer') from None
-        if word != 'answer':
-            raise Ended('the room gave what is no answer')
-        self.within = ANSWERS_WITHIN
-        return answer[:-1]
+            while read := await self.process.stdout.read(READ):
+                left = self.take_whole(left + read)
+                self.heard, self.within = time.monotonic(), ANSWERS_WITHIN
+        except (OSError, ValueError, IndexError):
+            self.process.kill()  # what it gave is no answer
+        finally:
+            self.has_ended = True
+
+    def take_whole(self, read: bytes) -> bytes:
+        """Takes the answers that are whole; gives the rest."""
+        at = 0
+        while (end := read.find(b'\n', at)) >= 0:
+            word, _, length = read[at:end].split(b' ')
+            behind = end + 1 + int(length)
+            if word != b'answer':
+                raise ValueError
+            if len(read) <= behind:
+                break
+            self.waiting.popleft()(read[end + 1:behind])
+            at = behind + 1
+        return read[at:]
+
+    def look(self) -> None:
+        """Tells whether the program is there. (What it is given by a clock that stands still while
+        the machine sleeps, as it does itself.)"""
+        if self.has_ended:
+            raise Ended('the room ended')
+        if self.waiting and time.monotonic() - self.heard > self.within:
+            raise Ended('the room is silent')
 
     async def end(self) -> None:
-        """Ends the program, which then has all records in its file alone."""
+        """Ends the program, which then has all that it was handed in its file alone."""
         self.process.stdin.close()
         try:
             async with asyncio.timeout(ENDS_WITHIN):
                 status = await self.process.wait()
+                await self.reading
         except TimeoutError:
             raise Ended('the room does not end') from None
-        if status:
+        if status or self.waiting:
             raise Ended(f'the room ended with status {status}')
+        self.has_ended = False
 
     async def drop(self) -> None:
         """Ends the program if it runs, however it is, and drops its files."""
@@ -156,6 +149,36 @@ class PlayedRoom:
                 async with asyncio.timeout(DROPS_WITHIN):
                     await self.process.wait()
             except TimeoutError:
-                self.process.kill()
+                self.process.send_signal(signal.SIGKILL)
                 await self.process.wait()
+            await asyncio.wait([self.reading])
         shutil.rmtree(self.folder, ignore_errors=True)
+
+    # ---- what the program does only while no room is played
+
+    def enrol(self, fleet: bytes) -> bytes:
+        """Enrols vehicles; gives what the program said of each row that it left out."""
+        rows = self.folder / 'fleet.csv'
+        rows.write_bytes(fleet)
+        done = subprocess.run([self.program, 'import', self.file, rows], capture_output=True)
+        if done.returncode not in (0, 1):
+            raise Ended(f'the room takes no fleet: {done.stderr.decode(errors="replace")}')
+        return done.stdout + (done.stderr if done.returncode else b'')
+
+    def change_token(self, old: str, new: str) -> bytes:
+        """Gives a terminal another token, where that is nobody's. The program tests the file as it
+        opens it."""
+        with contextlib.closing(sqlite3.connect(self.file)) as room:
+            try:
+                told = room.execute('UPDATE terminals SET token = ? WHERE token = ?', (new, old))
+                room.commit()
+            except sqlite3.IntegrityError:
+                return b'refused: the token is given\n'
+            return b'changed\n' if told.rowcount else b'refused: no such terminal\n'
+
+    def perform(self, record: Record) -> bytes:
+        """Does what a record says that is no message; the program is ended."""
+        if record.kind == 'fleet':
+            return self.enrol(record.content)
+        old, new = record.content.decode().split(' ')
+        return self.change_token(old, new)

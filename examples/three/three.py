@@ -1,12 +1,13 @@
 #!/usr/bin/env python3
 """Three machines on one's own, to look at: three members of etcd and three companions on loopback,
 over a folder. It makes a room of the example's plan and fleet there where there is none, serves it
-until it is interrupted, and goes on with it when it is started again.
+until it is interrupted, starts again what ends meanwhile, and goes on with the room when it is
+started again.
 
   three.py FOLDER        terminals come to 127.0.0.1:8081, 8082 and 8083"""
 import argparse
 import contextlib
-import dataclasses
+import os
 import pathlib
 import shutil
 import signal
@@ -14,68 +15,38 @@ import subprocess
 import sys
 import time
 
-HERE = pathlib.Path(__file__).resolve().parent
-COMPANION = HERE / 'companion.py'
+import certificates
+from copies import copies_in
+from members import HERE, Command, Machine, machines
+
 EXAMPLES = HERE.parent
-MACHINES = range(1, 4)
 STARTS_WITHIN, ENDS_WITHIN = 60.0, 40.0  # seconds
+LOOKS_EVERY = 1.0  # seconds between two looks at what has ended
 
 
-@dataclasses.dataclass(frozen=True)
-class Machine:
-    """One of three: its number, its folder, and the ports of etcd's members and of itself."""
-    number: int
-    folder: pathlib.Path
-    ports: int  # the first of three for terminals, three for etcd's clients, three for its members
-
-    @property
-    def terminals(self) -> str:
-        return f'127.0.0.1:{self.ports + self.number}'
-
-    @property
-    def etcd(self) -> str:
-        return f'127.0.0.1:{self.ports + 10 + self.number}'
-
-    def peer(self, number: int) -> str:
-        return f'http://127.0.0.1:{self.ports + 20 + number}'
-
-    def member(self) -> list[str | pathlib.Path]:
-        """The command of its member of etcd."""
-        name, client, peer = f'm{self.number}', f'http://{self.etcd}', self.peer(self.number)
-        members = ','.join(f'm{it}={self.peer(it)}' for it in MACHINES)
-        return ['etcd', '--name', name, '--data-dir', self.folder / 'etcd', '--logger', 'zap',
-                '--log-level', 'error',
-                '--listen-client-urls', client, '--advertise-client-urls', client,
-                '--listen-peer-urls', peer, '--initial-advertise-peer-urls', peer,
-                '--initial-cluster', members, '--pre-vote',
-                '--auto-compaction-mode', 'revision', '--auto-compaction-retention', '100000']
-
-    def begin(self, room: pathlib.Path) -> list[str | pathlib.Path]:
-        """The command that makes a room's file its first copy."""
-        return [sys.executable, COMPANION, 'begin', room, self.folder / 'room', '--etcd', self.etcd]
-
-    def companion(self, *words: str | pathlib.Path) -> list[str | pathlib.Path]:
-        """The command of its companion."""
-        return [sys.executable, COMPANION, 'serve', self.folder / 'room', self.terminals,
-                '--etcd', self.etcd, '--machine', str(self.number), *words]
-
-
-def machines(folder: pathlib.Path, ports: int) -> list[Machine]:
-    return [Machine(it, folder / str(it), ports) for it in MACHINES]
-
-
-def start(command: list[str | pathlib.Path], **named) -> subprocess.Popen:
+def start(command: Command, **named) -> subprocess.Popen:
     """Starts a command that is not interrupted with this one."""
     return subprocess.Popen(command, stdin=subprocess.DEVNULL, start_new_session=True, **named)
 
 
-def begin(machine: Machine, room: pathlib.Path) -> None:
-    """Makes a room's file a machine's first copy, once etcd answers."""
+def until_done(command: Command) -> None:
+    """Runs a command until it succeeds, as it does once etcd answers."""
     until = time.monotonic() + STARTS_WITHIN
-    while subprocess.run(machine.begin(room), capture_output=True).returncode:
+    while subprocess.run(command, capture_output=True).returncode:
         if time.monotonic() > until:
-            subprocess.run(machine.begin(room), check=True)
+            subprocess.run(command, check=True)
         time.sleep(0.5)
+
+
+def begin(machine: Machine, room: pathlib.Path) -> None:
+    """Makes a room's file a machine's first copy."""
+    until_done(machine.begin(room))
+
+
+def secure(three: list[Machine], folder: pathlib.Path) -> None:
+    """Makes certificates where there are none."""
+    if three[0].certificates and not three[0].certificates.exists():
+        certificates.make_all(folder / 'authority', {it.certificates: '127.0.0.1' for it in three})
 
 
 def first_room(program: str, folder: pathlib.Path) -> pathlib.Path:
@@ -88,13 +59,18 @@ def first_room(program: str, folder: pathlib.Path) -> pathlib.Path:
 
 
 @contextlib.contextmanager
-def running(commands: list[list[str | pathlib.Path]]):
-    """Starts commands, and ends them well."""
-    started = []
+def running(commands: list[Command]):
+    """Starts commands, and ends them well. What is given starts those again that have ended."""
+    started = [start(it) for it in commands]
+
+    def mend() -> None:
+        for at, it in enumerate(started):
+            if it.poll() is not None:
+                print(f'three: {it.args[0]} ended with status {it.returncode}, and starts again',
+                      file=sys.stderr)
+                started[at] = start(commands[at])
     try:
-        for it in commands:
-            started.append(start(it))
-        yield
+        yield mend
     finally:
         for it in started:
             it.send_signal(signal.SIGTERM)
@@ -105,6 +81,23 @@ def running(commands: list[list[str | pathlib.Path]]):
             it.wait()
 
 
+def serve(three: list[Machine], words: argparse.Namespace) -> None:
+    """Serves the room until it is interrupted."""
+    with running([it.member() for it in three]) as mend_members:
+        room = first_room(words.program, words.folder)
+        if words.certificates:
+            until_done(three[0].companion_does('user'))
+        for it in three:
+            if not copies_in(it.folder / 'room'):
+                begin(it, room)
+        with running([it.companion('--program', words.program) for it in three]) as mend:
+            print('terminals:', *(it.terminals for it in three), flush=True)
+            while True:
+                time.sleep(LOOKS_EVERY)
+                mend_members()
+                mend()
+
+
 def main() -> int:
     parser = argparse.ArgumentParser(prog='three.py', description=__doc__,
                                      formatter_class=argparse.RawDescriptionHelpFormatter)
@@ -112,21 +105,19 @@ def main() -> int:
     parser.add_argument('--program', default='dispatch_room', help='(%(default)s)')
     parser.add_argument('--ports', type=int, default=8080,
                         help='terminals come to the three behind this one (%(default)s)')
+    parser.add_argument('--certificates', action='store_true',
+                        help='speak TLS to and between the members, by a user of etcd')
     words = parser.parse_args()
-    for it in 'etcd', words.program:
+    for it in 'etcd', words.program, *(['openssl'] if words.certificates else []):
         if not shutil.which(it):
             parser.error(f'{it} is not there')
     signal.signal(signal.SIGTERM, signal.default_int_handler)
+    os.umask(0o077)
     words.folder.mkdir(mode=0o700, parents=True, exist_ok=True)
-    three = machines(words.folder, words.ports)
-    with contextlib.suppress(KeyboardInterrupt), running([it.member() for it in three]):
-        room = first_room(words.program, words.folder)
-        for it in three:
-            if not (it.folder / 'room').exists():
-                begin(it, room)
-        with running([it.companion('--program', words.program) for it in three]):
-            print('terminals:', *(it.terminals for it in three), flush=True)
-            signal.pause()
+    three = machines(words.folder, words.ports, words.certificates)
+    secure(three, words.folder)
+    with contextlib.suppress(KeyboardInterrupt):
+        serve(three, words)
     return 0
 
 

@@ -10,15 +10,13 @@ import argparse
 import csv
 import email.utils
 import http.client
-import http.server
-import ipaddress
 import json
 import os
 import pathlib
-import socket
-import sys
 import threading
 import time
+
+from page_server import KINDS, Page, PageServer, Refused, area_of, loopback
 
 HERE = pathlib.Path(__file__).resolve().parent
 
@@ -29,21 +27,6 @@ LONGEST_ANSWER = 16 << 20  # bytes
 ASKED_OF_A_DESK = 'vehicles', 'incidents', 'points', 'queue'
 
 # ---- the words of the command line
-
-
-class Refused(Exception):
-    """Why the wall is not started."""
-
-
-def loopback(text):
-    """An address of this machine alone, written 127.0.0.1:8081 or [::1]:8081."""
-    host, colon, port = text.rpartition(':')
-    try:
-        if colon and ipaddress.ip_address(host.strip('[]')).is_loopback and 0 <= int(port) < 65536:
-            return host.strip('[]'), int(port)
-    except ValueError:
-        pass
-    raise argparse.ArgumentTypeError(f'{text!r} is no address of loopback with a port')
 
 
 def words():
@@ -65,16 +48,10 @@ class Plan:
             with path.open(encoding='utf-8', newline='') as file:
                 rows = list(csv.DictReader(file))
             self.zone = next(row['a'] for row in rows if row['what'] == 'zone')
-            self.areas = [self.area(row) for row in rows if row['what'] == 'area']
+            self.areas = [area_of(row) for row in rows if row['what'] == 'area']
             self.desks = {row['a']: int(row['number']) for row in rows if row['what'] == 'desk'}
         except (OSError, ValueError, KeyError, TypeError, StopIteration):
             raise Refused(f'{path} is no plan') from None
-
-    @staticmethod
-    def area(row):
-        """A rectangle in metres of the National Grid, and whose it is."""
-        sides = {'west': 'a', 'south': 'b', 'east': 'c', 'north': 'd'}
-        return {'division': int(row['number'])} | {it: int(row[at]) for it, at in sides.items()}
 
     def divisions_of(self, tokens):
         """The token of a desk for each division that is shown."""
@@ -169,34 +146,20 @@ class Reader(threading.Thread):
 
 # ---- serving the page
 
-KINDS = {'.html': 'text/html', '.css': 'text/css', '.js': 'text/javascript'}
 FILES = ['wall.html', 'wall.css', 'wall.js', 'ground.js', 'key.js', 'map.js', 'marks.js',
          'nodes.js', 'pages.js', 'places.js', 'queues.js', 'words.js']
-
-HEADERS = {
-    'Content-Security-Policy': "default-src 'none'; script-src 'self'; style-src 'self'; "
-                               "connect-src 'self'; base-uri 'none'; form-action 'none'; "
-                               "frame-ancestors 'none'",
-    'Cross-Origin-Resource-Policy': 'same-origin',
-    'Referrer-Policy': 'no-referrer',
-    'X-Content-Type-Options': 'nosniff',
-    'Cache-Control': 'no-store',
-}
-
 
 def offset_now():
     """Seconds that the plan's zone, which is this process's, is ahead of UTC."""
     return time.localtime().tm_gmtoff
 
 
-class Page(http.server.BaseHTTPRequestHandler):
+class WallPage(Page):
     """Answers a page: the files of this folder that are named above, and the last picture."""
-    timeout = 10
-    server_version, sys_version = 'wall', ''
 
     def do_GET(self):
-        if self.headers.get('Host') not in self.server.hosts:
-            self.answer(403, 'text/plain', b'This wall is shown on loopback alone.\n')
+        if not self.is_named_so():
+            self.answer(403, 'text/plain', b'This wall is shown on loopback only.\n')
         elif self.path == '/picture':
             told = self.server.reader.latest()
             told |= {'areas': self.server.areas, 'offset': offset_now(), 'now': int(time.time())}
@@ -206,38 +169,16 @@ class Page(http.server.BaseHTTPRequestHandler):
         else:
             self.answer(404, 'text/plain', b'There is no such page.\n')
 
-    def answer(self, status, kind, content):
-        self.send_response(status)
-        for name, value in HEADERS.items():
-            self.send_header(name, value)
-        self.send_header('Content-Type', f'{kind}; charset=utf-8')
-        self.send_header('Content-Length', str(len(content)))
-        self.end_headers()
-        self.wfile.write(content)
 
-    def log_message(self, *_):
-        """Says nothing."""
-
-
-class Wall(http.server.ThreadingHTTPServer):
+class Wall(PageServer):
     """The page's server, which has the picture from the reader."""
-    daemon_threads = True
 
     def __init__(self, address, reader, areas):
-        self.address_family = socket.AF_INET6 if ':' in address[0] else socket.AF_INET
-        super().__init__(address, Page)
+        super().__init__(address, WallPage)
         self.reader, self.areas = reader, areas
         self.files = {f'/{it.name}': (KINDS[it.suffix], it.read_bytes())
                       for it in map(HERE.joinpath, FILES)}
         self.files['/'] = self.files['/wall.html']
-        host, port = self.server_address[:2]
-        self.name = f'[{host}]:{port}' if ':' in host else f'{host}:{port}'
-        self.hosts = {self.name, f'localhost:{port}'}
-
-    def handle_error(self, request, client_address):
-        """Says nothing of a page that went away."""
-        if not isinstance(sys.exc_info()[1], OSError):
-            super().handle_error(request, client_address)
 
 
 def main():
@@ -251,11 +192,7 @@ def main():
     os.environ['TZ'] = plan.zone
     time.tzset()
     reader.start()
-    print(f'wall: http://{wall.name}/', flush=True)
-    try:
-        wall.serve_forever()
-    except KeyboardInterrupt:
-        pass
+    wall.serve('wall')
 
 
 if __name__ == '__main__':

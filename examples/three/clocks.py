@@ -1,0 +1,53 @@
+"""The clocks of a machine: time that passes also while it sleeps, the moment that it tells, and the
+moments that the other machines tell."""
+import dataclasses
+import time
+
+AHEAD = 60  # seconds that a record's moment may be above what the others tell
+LAST_MOMENT = 4_102_444_799  # the end of 2099
+
+
+def passed() -> float:
+    """Seconds of a clock that goes on while the machine is suspended."""
+    return time.clock_gettime(time.CLOCK_BOOTTIME)
+
+
+def moment() -> int:
+    """Seconds of UTC since 1970, as this machine has them."""
+    return int(time.time())
+
+
+@dataclasses.dataclass(frozen=True)
+class Heard:
+    """What a machine told: by the revision of etcd that has it, its moment, and when it was heard
+    first. What stood there already is of unknown age, and tells nothing."""
+    revision: int
+    moment: int
+    at: float
+    is_fresh: bool
+
+
+class OtherClocks:
+    """The clocks of the other machines, as far as they were heard of. Each is known to be at least
+    what it told, and what has passed since."""
+
+    def __init__(self) -> None:
+        self.heard: dict[int, Heard] = {}
+        self.began = passed()
+
+    def hear(self, machine: int, revision: int, told: int) -> None:
+        before = self.heard.get(machine)
+        if before and before.revision == revision:
+            return
+        self.heard[machine] = Heard(revision, told, passed(), before is not None)
+
+    def silent_for(self, machine: int) -> float:
+        """Seconds since a machine was heard of."""
+        heard = self.heard.get(machine)
+        return passed() - (heard.at if heard else self.began)
+
+    def ahead(self, now: int) -> int | None:
+        """By how many seconds a moment of this machine is above the clocks of all others, none
+        where no other was heard."""
+        told = [it.moment + passed() - it.at for it in self.heard.values() if it.is_fresh]
+        return now - int(max(told)) if told else None

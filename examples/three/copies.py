@@ -1,0 +1,107 @@
+"""The copies of a machine's room: files that are named by the record up to which they have played,
+and by the digests of the entry that it ends, of the answers that were given, and of the room."""
+import collections.abc
+import contextlib
+import dataclasses
+import fcntl
+import os
+import pathlib
+import shutil
+
+from entries import Place
+
+KEPT = 5  # copies, for where the list goes back
+LEAST_LOG = 32 + 24 + 512  # bytes of SQLite's log with one page of the smallest size
+NO_ANSWERS = '0' * 64
+
+
+@dataclasses.dataclass(frozen=True)
+class Copy:
+    """A file that holds the room after the entry of this place; and the digests of all answers
+    until then, and of the room."""
+    file: pathlib.Path
+    number: int
+    digest: str
+    answers: str
+    room: str
+
+
+def copy_at(folder: pathlib.Path, place: Place, answers: str, room: str) -> Copy:
+    name = f'copy.{place.number:012}.{place.digest}.{answers}.{room}.db'
+    return Copy(folder / name, place.number, place.digest, answers, room)
+
+
+def copies_in(folder: pathlib.Path) -> list[Copy]:
+    """The newest first."""
+    found = []
+    for file in sorted(folder.glob('copy.*.*.*.*.db'), reverse=True):
+        _, number, *digests, _ = file.name.split('.')
+        found.append(Copy(file, int(number), *digests))
+    return found
+
+
+def make_folder(folder: pathlib.Path) -> None:
+    folder.mkdir(mode=0o700, parents=True, exist_ok=True)
+
+
+@contextlib.contextmanager
+def alone(folder: pathlib.Path) -> collections.abc.Iterator[None]:
+    """Has a folder for one companion alone."""
+    with (folder / 'lock').open('w') as lock:
+        try:
+            fcntl.flock(lock, fcntl.LOCK_EX | fcntl.LOCK_NB)
+        except BlockingIOError:
+            raise OSError(f'another companion has {folder}') from None
+        yield
+
+
+def drop_runs(folder: pathlib.Path) -> None:
+    """Drops what programs that were killed have left in a folder."""
+    for left in [*folder.glob('run.*'), *folder.glob('part.*')]:
+        shutil.rmtree(left, ignore_errors=True)
+
+
+def sync(path: pathlib.Path) -> None:
+    opened = os.open(path, os.O_RDONLY)
+    try:
+        os.fsync(opened)
+    finally:
+        os.close(opened)
+
+
+def log_of(file: pathlib.Path) -> pathlib.Path:
+    return file.with_name(f'{file.name}-wal')
+
+
+def is_alone(file: pathlib.Path) -> bool:
+    """Whether a file without its log is the room, as it is where that has no page."""
+    log = log_of(file)
+    return not log.exists() or log.stat().st_size < LEAST_LOG
+
+
+def take(file: pathlib.Path, into: pathlib.Path) -> None:
+    """Copies a room's file with its log, of a program that writes nothing meanwhile."""
+    make_folder(into)
+    shutil.copyfile(file, into / 'room.db')
+    if not is_alone(file):
+        shutil.copyfile(log_of(file), log_of(into / 'room.db'))
+
+
+def keep(file: pathlib.Path, copy: Copy) -> None:
+    """Gives a file the name of a copy, once it is on the disk whole, and drops the oldest."""
+    if not is_alone(file):
+        raise OSError(f'{file} is not closed: it has a log')
+    sync(file)
+    file.rename(copy.file)
+    sync(copy.file.parent)
+    for older in copies_in(copy.file.parent)[KEPT:]:
+        older.file.unlink()
+
+
+def set_aside(copy: Copy) -> pathlib.Path:
+    """Keeps a copy that is not in the list any more out of the way."""
+    return copy.file.rename(copy.file.with_name(f'lost{copy.file.name.removeprefix("copy")}'))
+
+
+def drop_part(part: pathlib.Path) -> None:
+    shutil.rmtree(part, ignore_errors=True)

@@ -1,0 +1,139 @@
+"""One machine's member of etcd, asked over JSON, by TLS with a certificate and by a user where they
+are told."""
+import base64
+import dataclasses
+import http.client
+import json
+import pathlib
+import re
+import ssl
+
+
+TOKEN_WITHIN = 10.0  # seconds
+
+
+class Unreached(Exception):
+    """The member gave no answer in its time. What was asked of it may still be done, later too."""
+
+
+class NoSpace(Unreached):
+    """etcd's quota is used up."""
+
+
+class NoUser(Unreached):
+    """etcd wants a token of a user, or another one."""
+
+
+@dataclasses.dataclass
+class Reach:
+    """How a member is reached, and the token that its user has at the time."""
+    host: str
+    port: int
+    context: ssl.SSLContext | None = None
+    user: str = ''
+    password: str = ''
+    token: str = ''
+
+
+def context_of(authority: pathlib.Path, certificate: pathlib.Path,
+               key: pathlib.Path) -> ssl.SSLContext:
+    """TLS to a member whose certificate is of this authority, with a certificate of one's own."""
+    context = ssl.create_default_context(cafile=authority)
+    context.load_cert_chain(certificate, key)
+    return context
+
+
+def coded(text: str | bytes) -> str:
+    return base64.b64encode(text.encode() if isinstance(text, str) else text).decode()
+
+
+def decoded(text: str) -> bytes:
+    return base64.b64decode(text)
+
+
+def fault_of(status: int, content: bytes) -> Unreached:
+    told = content[:300].decode(errors='replace').strip()
+    if 'space exceeded' in told:
+        return NoSpace(f'etcd: {told}')
+    if re.search('auth token|user name is empty|revision in header is old', told):
+        return NoUser(f'etcd: {told}')
+    return Unreached(f'etcd: {status} {told}')
+
+
+class Member:
+    """One connection to a member, which is used by one thread at a time."""
+
+    def __init__(self, reach: Reach, within: float):
+        self.reach = reach
+        where = reach.host, reach.port
+        if reach.context:
+            self.connection = http.client.HTTPSConnection(*where, timeout=within,
+                                                          context=reach.context)
+        else:
+            self.connection = http.client.HTTPConnection(*where, timeout=within)
+
+    def ask(self, path: str, asked: dict) -> dict:
+        """Asks, with a new token of the user where the last one is over."""
+        try:
+            return self.ask_once(path, asked)
+        except NoUser:
+            if not self.reach.user:
+                raise
+            self.take_token()
+            return self.ask_once(path, asked)
+
+    def take_token(self) -> None:
+        """Takes a token for all connections. It costs the member a tenth of a second."""
+        self.reach.token = ''
+        asked = {'name': self.reach.user, 'password': self.reach.password}
+        within, self.connection.timeout = self.connection.timeout, TOKEN_WITHIN
+        try:
+            self.connection.close()
+            self.reach.token = self.ask_once('/v3/auth/authenticate', asked)['token']
+        finally:
+            self.connection.timeout = within
+            self.connection.close()
+
+    def ask_once(self, path: str, asked: dict) -> dict:
+        return json.loads(self.exchange('POST', path, json.dumps(asked)))
+
+    def exchange(self, method: str, path: str, body: str | None = None) -> bytes:
+        # Where a request has no Accept, etcd takes its own certificate for the user's.
+        fields = {'Accept': 'application/json'}
+        if self.reach.token:
+            fields['Authorization'] = self.reach.token
+        try:
+            self.connection.request(method, path, body, fields)
+            with self.connection.getresponse() as answer:
+                content = answer.read()
+        except (OSError, http.client.HTTPException) as told:
+            self.connection.close()
+            raise Unreached(f'etcd: {told or type(told).__name__}') from None
+        if answer.status != 200:
+            raise fault_of(answer.status, content)
+        return content
+
+    # ---- how full it is
+
+    def sizes(self) -> tuple[int, int, int]:
+        """Bytes of its file, those of them in use, and the quota."""
+        told = self.exchange('GET', '/metrics').decode()
+        found = dict(re.findall(r'^(etcd_\w+) (\S+)$', told, re.M))
+        names = ('etcd_mvcc_db_total_size_in_bytes', 'etcd_mvcc_db_total_size_in_use_in_bytes',
+                 'etcd_server_quota_backend_bytes')
+        file, used, quota = (int(float(found.get(it, 0))) for it in names)
+        return file, used, quota
+
+    def compact(self, revision: int) -> None:
+        """Lets go of what keys had before a revision."""
+        self.ask('/v3/kv/compaction', {'revision': str(revision), 'physical': True})
+
+    def defragment(self) -> None:
+        """Gives the member's free pages back. It answers nothing meanwhile."""
+        self.ask('/v3/maintenance/defragment', {})
+
+    def alarms(self) -> list[dict]:
+        return self.ask('/v3/maintenance/alarm', {'action': 'GET'}).get('alarms', [])
+
+    def disarm(self, alarm: dict) -> None:
+        self.ask('/v3/maintenance/alarm', {'action': 'DEACTIVATE', **alarm})

@@ -1,0 +1,128 @@
+"""A terminal's request: read whole, refused where it is no whole message of the room's sizes by the
+room's own names and numbers, and written anew, so that every record is a message that the room can
+read."""
+import dataclasses
+import email.utils
+import http
+import json
+import re
+
+LONGEST_HEAD, LONGEST_BODY, MOST_FIELDS = 8192, 1024, 32
+METHOD = re.compile(r'[A-Z]{1,16}')
+# Paths are compared byte by byte, so what has other characters, or is longer, is none.
+PATH = re.compile(r'/[A-Za-z0-9/-]{0,127}')
+TOKEN = re.compile(r'[A-Za-z0-9]{8,32}')
+FIELD = re.compile(r"([!#$%&'*+.^_`|~0-9A-Za-z-]+):[ \t]*([^\x00-\x08\x0a-\x1f\x7f]*?)[ \t]*")
+OWN = '/health', '/metrics'  # what the companion answers by itself
+
+
+def answer_of(status: int, body: str, kind: str = 'application/json') -> bytes:
+    """An answer of this machine itself."""
+    return (f'HTTP/1.1 {status} {http.HTTPStatus(status).phrase}\r\n'
+            f'Date: {email.utils.formatdate(usegmt=True)}\r\nContent-Type: {kind}\r\n'
+            f'Content-Length: {len(body.encode())}\r\n\r\n{body}').encode()
+
+
+def told(status: int, content: dict) -> bytes:
+    return answer_of(status, json.dumps(content, separators=(',', ':'), sort_keys=True))
+
+
+class Refused(Exception):
+    """A request that the room isn't asked. What comes behind it can't be read."""
+
+    def __init__(self, status: int, number: int, name: str, is_last: bool = True):
+        super().__init__(name)
+        self.answer = told(status, {'error': name, 'number': number})
+        self.is_last = is_last
+
+
+@dataclasses.dataclass(frozen=True, slots=True)
+class Request:
+    """What a terminal asks: the message that the room is handed, what it says for the log, and
+    whether the terminal's connection ends with its answer."""
+    message: bytes
+    token: str
+    method: str
+    path: str
+    is_last: bool
+
+    @property
+    def is_question(self) -> bool:
+        """Whether it changes nothing, whatever the room answers: only POST does."""
+        return self.method != 'POST'
+
+
+def bad_message() -> Refused:
+    return Refused(400, 30, 'BadMessage')
+
+
+def one_of(fields: dict[str, list[str]], name: str) -> str | None:
+    """The value of a field that may stand once."""
+    values = fields.get(name, [])
+    if len(values) > 1:
+        raise bad_message()
+    return values[0] if values else None
+
+
+def fields_of(lines: list[str]) -> dict[str, list[str]]:
+    if len(lines) > MOST_FIELDS:
+        raise bad_message()
+    fields: dict[str, list[str]] = {}
+    for line in lines:
+        found = FIELD.fullmatch(line)
+        if not found:
+            raise bad_message()
+        fields.setdefault(found[1].lower(), []).append(found[2])
+    return fields
+
+
+def length_of_body(version: str, fields: dict[str, list[str]]) -> int:
+    length = one_of(fields, 'content-length')
+    if length is not None and not re.fullmatch('[0-9]+', length, re.ASCII):
+        raise bad_message()
+    if 'transfer-encoding' in fields:
+        raise Refused(501, 34, 'Coding')
+    if version == 'HTTP/1.1' and 'expect' in fields:
+        raise Refused(417, 33, 'Expectation')
+    if length is not None and (len(length) > 10 or int(length) > LONGEST_BODY):
+        raise Refused(413, 32, 'BodyTooLong')
+    return int(length or 0)
+
+
+def is_last(version: str, fields: dict[str, list[str]]) -> bool:
+    words = ','.join(fields.get('connection', [])).lower().split(',')
+    return version == 'HTTP/1.0' or 'close' in (it.strip() for it in words)
+
+
+def next_request(read: bytes) -> tuple[Request | Refused, int] | None:
+    """The next request at the front of what was read, and how many bytes it has, with empty lines
+    before it; nothing where it is not whole."""
+    begin = len(read) - len(read.lstrip(b'\r\n'))
+    end = read.find(b'\r\n\r\n', begin)
+    if end < 0 or end + 4 > LONGEST_HEAD:
+        if len(read) > LONGEST_HEAD:
+            raise Refused(431, 31, 'HeadTooLong')
+        return None
+    first, *lines = read[begin:end].decode('latin-1').split('\r\n')
+    method, path, version = (first.split(' ') + ['', '', ''])[:3]
+    fields = fields_of(lines)
+    if first.count(' ') != 2 or version not in ('HTTP/1.0', 'HTTP/1.1') or not path:
+        raise bad_message()
+    if not METHOD.fullmatch(method) or version == 'HTTP/1.1' and len(fields.get('host', [])) != 1:
+        raise bad_message()
+    length = length_of_body(version, fields)
+    behind = end + 4 + length
+    if len(read) < behind:
+        return None
+    ends = is_last(version, fields)
+    if method == 'GET' and path in OWN:
+        return Request(b'', '', method, path, ends), behind
+    tokens = fields.get('x-terminal', [])
+    if not PATH.fullmatch(path):
+        return Refused(404, 36, 'NoPath', ends), behind
+    if len(tokens) != 1 or not TOKEN.fullmatch(tokens[0]):
+        return Refused(403, 38, 'NoTerminal', ends), behind
+    head = (f'{method} {path} HTTP/1.1\r\nHost: room\r\nX-Terminal: {tokens[0]}\r\n'
+            f'Content-Length: {length}\r\n\r\n')
+    message = head.encode() + read[end + 4:behind]
+    return Request(message, tokens[0], method, path, ends), behind

@@ -1,0 +1,221 @@
+"""Plays the list on one machine's room, and asks it the questions of terminals where they belong;
+makes a copy of it at each of so many records, at the same ones on every machine."""
+import asyncio
+import collections
+import collections.abc
+import dataclasses
+import functools
+import hashlib
+import itertools
+import pathlib
+
+import copies
+from clocks import LAST_MOMENT, moment
+from copies import Copy
+from entries import Entry, Place, Record
+from played_room import Ended, PlayedRoom, close_room
+from said import say
+
+MOST_HANDED = 300  # messages that the room may have and not have answered
+TRY_EVERY = 0.2  # seconds until what failed is tried again
+LOOKS_EVERY = 0.2  # seconds between two looks whether the room is there
+NOBODY = (b'GET /queue HTTP/1.1\r\nHost: room\r\nX-Terminal: 00000000\r\n'
+          b'Content-Length: 0\r\n\r\n')
+
+
+@dataclasses.dataclass(frozen=True)
+class Playing:
+    """How the room is played."""
+    program: str
+    folder: pathlib.Path
+    work: pathlib.Path
+    copy_every: int
+
+
+class Tail:
+    """The list from the newest copy on, as far as this machine knows it."""
+
+    def __init__(self, copy: Copy, place: Place):
+        self.copy, self.place = copy, place
+        self.entries: dict[int, Entry] = {}  # by the numbers of their first records
+
+    def add(self, entry: Entry) -> None:
+        self.entries[entry.first] = entry
+        self.place = entry.place
+
+    def begin_at(self, copy: Copy) -> None:
+        """Drops the entries that a new copy holds."""
+        self.copy = copy
+        self.entries = {first: it for first, it in self.entries.items() if it.number > copy.number}
+
+
+class Player:
+    """The room of this machine as it is played, from the newest copy on whenever it has ended."""
+
+    def __init__(self, how: Playing, tail: Tail):
+        self.how, self.tail = how, tail
+        self.played = self.sent = tail.copy.number  # answered, and handed to the room
+        self.answers = b''
+        self.questions: collections.deque = collections.deque()
+        self.changed = asyncio.Event()
+        self.is_stopping = self.wants_copy = self.is_open = False
+        self.copying: asyncio.Task | None = None
+        # What the machine takes: the answer of a record, that the room ended with all questions
+        # that it had, a copy, what became of a record that is no message, and a file that no
+        # program has open.
+        self.give: collections.abc.Callable[[Record, int, bytes], None] = lambda *_: None
+        self.lose: collections.abc.Callable[[], None] = lambda: None
+        self.tell: collections.abc.Callable[[Copy], None] = lambda *_: None
+        self.note: collections.abc.Callable[[int, bytes], None] = lambda *_: None
+        self.look_at: collections.abc.Callable[[pathlib.Path], None] = lambda _: None
+
+    def ask(self, after: int, message: bytes, take: collections.abc.Callable) -> None:
+        """Asks the room once it has played so many records; what it answers is taken with the
+        number of the last that it has played, or lost where it ends before."""
+        self.questions.append((after, message, take))
+        self.changed.set()
+
+    async def play(self) -> None:
+        while not self.is_stopping:
+            try:
+                await self.play_from_copy()
+            except (Ended, OSError) as told:
+                say(told)
+                await asyncio.sleep(TRY_EVERY)
+
+    async def play_from_copy(self) -> None:
+        copy = self.tail.copy
+        self.played = self.sent = copy.number
+        self.answers = bytes.fromhex(copy.answers)
+        room = PlayedRoom(self.how.program, copy, self.how.work)
+        try:
+            await self.start(room)
+            while not self.is_stopping:
+                await self.feed(room)
+            await self.end(room)
+        finally:
+            self.is_open = False
+            self.questions.clear()
+            self.lose()
+            await room.drop()
+
+    async def start(self, room: PlayedRoom) -> None:
+        """Starts the program. Its first answer, to nobody's question, tells that it has opened the
+        room."""
+        self.is_open = False
+        await asyncio.to_thread(self.look_at, room.file if room.file.exists() else room.copy.file)
+        await room.start()
+        room.send(self.moment(), (NOBODY, self.note_open))
+
+    def note_open(self, _: bytes) -> None:
+        self.is_open = True
+        self.changed.set()
+
+    async def feed(self, room: PlayedRoom) -> None:
+        """Hands the room what is next, or waits for it."""
+        room.look()
+        entry = self.tail.entries.get(self.sent + 1)
+        if self.questions and self.questions[0][0] <= self.sent:
+            _, message, take = self.questions.popleft()
+            room.send(self.moment(), (message, functools.partial(take, self.sent)))
+        elif self.wants_copy and not room.waiting and self.played > self.tail.copy.number:
+            await self.copy(room, self.place_played())
+        elif entry and len(room.waiting) < MOST_HANDED:
+            await self.hand(room, entry)
+            if self.is_time_to_copy(entry):
+                await self.copy(room, entry.place)
+        else:
+            await self.wait()
+
+    def moment(self) -> int:
+        """That of a question: it is not before any record's."""
+        return min(max(self.tail.place.moment, moment()), LAST_MOMENT)
+
+    async def wait(self) -> None:
+        """Waits until there may be more to do, or it is time to look at the room."""
+        self.changed.clear()
+        try:
+            async with asyncio.timeout(LOOKS_EVERY):
+                await self.changed.wait()
+        except TimeoutError:
+            pass
+
+    async def hand(self, room: PlayedRoom, entry: Entry) -> None:
+        """Hands the room an entry's records."""
+        for is_message, records in itertools.groupby(entry.records, Record.is_message):
+            if is_message:
+                room.send(entry.moment, *((it.content, functools.partial(self.take, it))
+                                          for it in records))
+            else:
+                for it in records:
+                    await self.perform(room, it)
+        self.sent = entry.number
+
+    async def perform(self, room: PlayedRoom, record: Record) -> None:
+        """Does what a record says that is no message, while no program has the file open."""
+        await self.quiet(room)
+        await room.end()
+        told = await asyncio.to_thread(room.perform, record)
+        self.take(record, told)
+        await asyncio.to_thread(self.note, self.played, told)
+        await self.start(room)
+
+    def take(self, record: Record, answer: bytes) -> None:
+        """Takes the answer of the next record."""
+        self.played += 1
+        self.answers = hashlib.sha256(self.answers + answer).digest()
+        self.give(record, self.played, answer)
+        if self.played == self.sent:
+            self.changed.set()
+
+    async def quiet(self, room: PlayedRoom) -> None:
+        """Waits until the room has answered all that it was handed."""
+        while room.waiting:
+            room.look()
+            await asyncio.sleep(0.001)
+
+    # ---- copies
+
+    def is_time_to_copy(self, entry: Entry) -> bool:
+        """Every machine makes a copy behind the same entries, so that copies can be compared."""
+        every = self.how.copy_every
+        return entry.number // every > (entry.first - 1) // every
+
+    async def copy(self, room: PlayedRoom, place: Place) -> None:
+        """Copies the files of the room while it has nothing to do. What is made of them, with a
+        test of every row, takes its time beside the room."""
+        if self.copying:
+            await asyncio.wait([self.copying])
+        self.wants_copy = False
+        await self.quiet(room)
+        part = self.how.folder / f'part.{place.number}'
+        await asyncio.to_thread(copies.take, room.file, part)
+        self.copying = asyncio.create_task(self.keep_copy(part, place, self.answers.hex()))
+
+    async def keep_copy(self, part: pathlib.Path, place: Place, answers: str) -> None:
+        try:
+            room = await asyncio.to_thread(close_room, self.how.program, part / 'room.db')
+            copy = copies.copy_at(self.how.folder, place, answers, room)
+            await asyncio.to_thread(copies.keep, part / 'room.db', copy)
+        except OSError as told:
+            say(f'no copy of record {place.number}: {told}')
+            return
+        finally:
+            copies.drop_part(part)
+        self.tail.begin_at(copy)
+        await asyncio.to_thread(self.tell, copy)
+
+    async def end(self, room: PlayedRoom) -> None:
+        """Ends the program well, and keeps a copy of what it leaves."""
+        await self.quiet(room)
+        await room.end()
+        if self.copying:
+            await asyncio.wait([self.copying])
+        if self.played > self.tail.copy.number:
+            place = self.place_played()
+            await self.copy(room, place)
+            await asyncio.wait([self.copying])
+
+    def place_played(self) -> Place:
+        """That of the entry that was played last."""
+        return next(it.place for it in self.tail.entries.values() if it.number == self.played)

@@ -1,0 +1,63 @@
+#!/usr/bin/env python3
+"""Makes what three real machines need, by their addresses: certificates, a password, and what the
+units of systemd are told. What is in FOLDER/N goes to machine N, as /etc/dispatch-room-three; the
+authority's key stays where it is.
+
+  prepare.py FOLDER 192.0.2.1 192.0.2.2 192.0.2.3"""
+import argparse
+import ipaddress
+import os
+import pathlib
+import sys
+
+import certificates
+from members import NUMBERS, Machine
+
+AT = pathlib.Path('/etc/dispatch-room-three')
+STATE = pathlib.Path('/var/lib/dispatch-room-three')
+TERMINALS, CLIENTS, PEERS = '127.0.0.1:8080', '127.0.0.1:2379', 2380
+
+
+def machine_at(number: int, addresses: list[str]) -> Machine:
+    """A machine as it is told of in its own files."""
+    peers = tuple(f'{it}:{PEERS}' for it in addresses)
+    return Machine(number, STATE, TERMINALS, CLIENTS, peers, AT)
+
+
+def member_environment(machine: Machine) -> str:
+    """etcd takes each of its words from the environment too."""
+    named = {f'ETCD_{name.upper().replace("-", "_")}': value
+             for name, value in machine.settings().items()}
+    return ''.join(f'{name}={value}\n' for name, value in named.items())
+
+
+def companion_environment(machine: Machine) -> str:
+    return (f'MACHINE={machine.number}\nADDRESS={machine.terminals}\n'
+            f'REACH="{" ".join(map(str, machine.reach()))}"\n')
+
+
+def main() -> int:
+    parser = argparse.ArgumentParser(prog='prepare.py', description=__doc__,
+                                     formatter_class=argparse.RawDescriptionHelpFormatter)
+    parser.add_argument('folder', metavar='FOLDER', type=pathlib.Path)
+    parser.add_argument('addresses', metavar='ADDRESS', nargs=3, type=ipaddress.ip_address,
+                        help='by which the members of etcd reach each other')
+    words = parser.parse_args()
+    addresses = [f'[{it}]' if it.version == 6 else str(it) for it in words.addresses]
+    os.umask(0o077)
+    folders = {words.folder / str(it): str(words.addresses[it - 1]) for it in NUMBERS}
+    try:
+        certificates.make_all(words.folder / 'authority', folders)
+        for number in NUMBERS:
+            machine, folder = machine_at(number, addresses), words.folder / str(number)
+            (folder / 'member.env').write_text(member_environment(machine))
+            (folder / 'companion.env').write_text(companion_environment(machine))
+    except OSError as told:
+        print(f'prepare: {told}', file=sys.stderr)
+        return 1
+    print(f'prepared: {words.folder}/1, {words.folder}/2 and {words.folder}/3')
+    return 0
+
+
+if __name__ == '__main__':
+    sys.exit(main())

@@ -1,0 +1,107 @@
+"""The words of a companion's command line."""
+import argparse
+import ipaddress
+import pathlib
+
+from etcd import Reach, context_of
+
+
+def address(text: str) -> tuple[str, int]:
+    """An address in numbers with a port, written 127.0.0.1:8080 or [::1]:8080."""
+    host, colon, port = text.rpartition(':')
+    host = host.strip('[]')
+    try:
+        if colon and ipaddress.ip_address(host) and 0 <= int(port) < 65536:
+            return host, int(port)
+    except ValueError:
+        pass
+    raise argparse.ArgumentTypeError(f'{text!r} is no address with a port')
+
+
+def loopback(text: str) -> tuple[str, int]:
+    """An address of this machine alone."""
+    host, port = address(text)
+    if not ipaddress.ip_address(host).is_loopback:
+        raise argparse.ArgumentTypeError(f'{text!r} is not of loopback')
+    return host, port
+
+
+def path_words(named: dict) -> dict:
+    return {'type': pathlib.Path, 'metavar': 'FILE'} | named
+
+
+def add_etcd(parser: argparse.ArgumentParser) -> None:
+    """How the machine's member of etcd is reached."""
+    parser.add_argument('--etcd', metavar='ADDRESS', type=address, default='127.0.0.1:2379',
+                        help="the machine's member of etcd (%(default)s)")
+    parser.add_argument('--authority', **path_words({'help': "TLS: of the member's certificate"}))
+    parser.add_argument('--certificate', **path_words({'help': "TLS: the companion's own"}))
+    parser.add_argument('--key', **path_words({'help': 'TLS: the key of that'}))
+    parser.add_argument('--user', default='', help='of etcd')
+    parser.add_argument('--password', **path_words({'help': 'a file that has the password'}))
+
+
+def reach_of(given: argparse.Namespace) -> Reach:
+    """The member that is meant. Without certificates it is one of this machine."""
+    host, port = given.etcd
+    context = None
+    if given.authority:
+        context = context_of(given.authority, given.certificate, given.key)
+    elif not ipaddress.ip_address(host).is_loopback:
+        raise OSError(f'{host} is another machine: that wants --authority, --certificate and --key')
+    password = given.password.read_text().strip() if given.password else ''
+    return Reach(host, port, context, given.user, password)
+
+
+def add_serve(parser: argparse.ArgumentParser) -> None:
+    parser.add_argument('folder', metavar='FOLDER', type=pathlib.Path,
+                        help="the machine's copies")
+    parser.add_argument('listen', metavar='ADDRESS', type=loopback)
+    parser.add_argument('--machine', metavar='N', type=int, required=True,
+                        help="this machine's number, from 1")
+    parser.add_argument('--of', metavar='N', type=int, default=3, help='machines (%(default)s)')
+    parser.add_argument('--program', metavar='PROGRAM', default='dispatch_room',
+                        help='the program that plays (%(default)s)')
+    parser.add_argument('--work', metavar='FOLDER', type=pathlib.Path,
+                        help='where the room is played; one in memory is faster (FOLDER)')
+    parser.add_argument('--deadline', metavar='SECONDS', type=float, default=3.0,
+                        help='until a terminal is told that there is no answer (%(default)s)')
+    parser.add_argument('--copy-every', metavar='RECORDS', type=int, default=30_000,
+                        help='how often a copy of the room is made, the same on all machines '
+                             '(%(default)s)')
+    parser.add_argument('--history', metavar='REVISIONS', type=int, default=1000,
+                        help='that etcd keeps of what was dropped (%(default)s)')
+    parser.add_argument('--away-after', metavar='SECONDS', type=float, default=86_400.0,
+                        help="of another machine's silence, until it is told (%(default)s)")
+    parser.add_argument('--trust-clock', action='store_true',
+                        help='take requests also where no other machine tells its clock')
+    parser.add_argument('--log', action='store_true',
+                        help='write a line for each answer on standard error')
+
+
+def words_of(line: list[str], about: str) -> argparse.Namespace:
+    parser = argparse.ArgumentParser(prog='companion.py', description=about,
+                                     formatter_class=argparse.RawDescriptionHelpFormatter)
+    commands = parser.add_subparsers(required=True, metavar='COMMAND', dest='command')
+    found = {name: commands.add_parser(name, help=told) for name, told in {
+        'begin': "make a room's file this machine's first copy",
+        'serve': 'serve terminals', 'enrol': 'enrol vehicles on all machines',
+        'token': 'give a terminal another token',
+        'leave-out': 'let the list go on without a machine',
+        'go-on': 'let the machines take more, that differed',
+        'user': 'have etcd take nothing without its user'}.items()}
+    for it in found.values():
+        add_etcd(it)
+    found['begin'].add_argument('room', metavar='ROOM', type=pathlib.Path)
+    found['begin'].add_argument('folder', metavar='FOLDER', type=pathlib.Path)
+    add_serve(found['serve'])
+    found['enrol'].add_argument('fleet', metavar='FLEET', type=pathlib.Path)
+    found['token'].add_argument('old', metavar='OLD')
+    found['token'].add_argument('new', metavar='NEW')
+    found['leave-out'].add_argument('number', metavar='N', type=int)
+    given = parser.parse_args(line)
+    if isinstance(given.etcd, str):
+        given.etcd = address(given.etcd)
+    if bool(given.authority) != bool(given.certificate) or bool(given.key) != bool(given.authority):
+        parser.error('TLS wants --authority, --certificate and --key together')
+    return given

@@ -1,0 +1,237 @@
+"""Three machines of examples/three for tests: their processes, which are killed, held and brought
+back, the clocks that they are told, and a witness of all that was ever put in their list."""
+import base64
+import collections
+import contextlib
+import http.client
+import json
+import os
+import pathlib
+import signal
+import socket
+import subprocess
+import sys
+import threading
+import time
+
+from room import PROGRAM, TOP, free_port
+
+THREE = TOP / 'examples' / 'three'
+sys.path.insert(0, str(THREE))
+import etcd  # noqa: E402
+import kept_list  # noqa: E402
+import members  # noqa: E402
+import three  # noqa: E402
+
+COPY_EVERY = 3000
+PATIENCE = 180.0  # seconds that a test waits for what has to come, where other work has the machine
+DEADLINE = 60.0  # seconds that a companion has for an answer, so that none is given up in a test
+SHIFTED = pathlib.Path(__file__).resolve().parent / 'shifted.py'
+
+
+def free_ports():
+    """A port before three tens that are free, and what keeps other tests away while it is open."""
+    while True:
+        first = free_port() // 100 * 100
+        with contextlib.ExitStack() as tried, contextlib.suppress(OSError):
+            held = tried.enter_context(socket.create_server(('127.0.0.1', first)))
+            for it in range(first + 1, first + 30):
+                tried.enter_context(socket.create_server(('127.0.0.1', it))).close()
+            tried.pop_all()
+            return first, held
+
+
+def children_of(pid):
+    tasks = pathlib.Path(f'/proc/{pid}/task')
+    with contextlib.suppress(OSError):
+        return [int(it) for task in tasks.iterdir()
+                for it in (task / 'children').read_text().split()]
+    return []
+
+
+class Machines:
+    """Three machines over a folder: each process is started, killed and held by its kind and its
+    machine's number."""
+
+    KINDS = 'member', 'companion', 'room'
+
+    def __init__(self, folder, first, **named):
+        self.folder, self.first = folder, first
+        self.words = {}  # more words of a machine's companion
+        self.programs = {}  # the programs of machines that have another
+        self.member_words = []
+        self.copy_every, self.deadline = COPY_EVERY, DEADLINE
+        self.has_shifts, self.slept = True, collections.Counter()
+        ports, self.held = free_ports()
+        self.machines = {it.number: it for it in members.machines(folder, ports, **named)}
+        self.processes = {}
+        self.told = (folder / 'told').open('wb')
+
+    def companion(self, number):
+        """The command of a companion, whose clocks the test may set."""
+        machine = self.machines[number]
+        command = [*machine.companion('--program', self.programs.get(number, PROGRAM),
+                                      '--copy-every', str(self.copy_every),
+                                      '--deadline', str(self.deadline)),
+                   *self.words.get(number, [])]
+        if not self.has_shifts:
+            return command
+        return [command[0], SHIFTED, self.shift_file(number), *command[1:]]
+
+    def shift_file(self, number):
+        return self.folder / f'shift{number}'
+
+    def shift(self, number, wall=0, slept=0):
+        """Sets a machine's clock off by seconds, or right; or has it sleep for some."""
+        self.slept[number] += slept
+        part = self.folder / 'shift.part'
+        part.write_text(f'{wall} {self.slept[number]}')
+        part.rename(self.shift_file(number))
+
+    def start(self, kind, number):
+        machine = self.machines[number]
+        command = ([*machine.member(), *self.member_words] if kind == 'member'
+                   else self.companion(number))
+        self.processes[kind, number] = three.start(command, stdout=self.told, stderr=self.told)
+
+    def start_members(self):
+        for it in self.machines:
+            self.start('member', it)
+
+    def start_all(self):
+        self.start_members()
+        for it in self.machines.values():
+            three.begin(it, self.first)
+            self.start('companion', it.number)
+        self.wait_for_all()
+
+    def wait_for(self, number):
+        """Waits until a machine serves."""
+        self.until(lambda: self.health(number).get('refuses') == '', f'machine {number} serves')
+
+    def wait_for_all(self):
+        for it in self.machines:
+            self.wait_for(it)
+
+    def until(self, holds, what):
+        until = time.monotonic() + PATIENCE
+        while not holds():
+            assert time.monotonic() < until, f'not within {PATIENCE} s: {what}\n{self.said()}'
+            time.sleep(0.05)
+
+    def health(self, number):
+        """What a companion tells of itself, or nothing."""
+        with contextlib.suppress(OSError, ValueError, http.client.HTTPException):
+            connection = http.client.HTTPConnection(*self.address(number), timeout=10)
+            with contextlib.closing(connection):
+                connection.request('GET', '/health', headers={'Connection': 'close'})
+                return json.loads(connection.getresponse().read())
+        return {}
+
+    def address(self, number):
+        host, port = self.machines[number].terminals.split(':')
+        return host, int(port)
+
+    def reach(self, number):
+        host, port = self.machines[number].etcd.split(':')
+        return etcd.Reach(host, int(port))
+
+    def list(self, number=1):
+        return kept_list.KeptList(etcd.Member(self.reach(number), PATIENCE))
+
+    def companion_does(self, number, *words):
+        """Runs a command of the companion; gives its status and what it told."""
+        machine = self.machines[number]
+        done = subprocess.run([sys.executable, THREE / 'companion.py', *words, '--etcd',
+                               machine.etcd], capture_output=True, text=True, timeout=PATIENCE)
+        return done.returncode, done.stdout + done.stderr
+
+    def said(self):
+        return (self.folder / 'told').read_text(errors='replace')[-6000:]
+
+    def process_ids(self, kind, number):
+        """Of a room they are those of its companion's children."""
+        pid = self.processes['companion' if kind == 'room' else kind, number].pid
+        return children_of(pid) if kind == 'room' else [pid]
+
+    def signal(self, kind, number, what):
+        for it in self.process_ids(kind, number):
+            with contextlib.suppress(ProcessLookupError):
+                os.kill(it, what)
+
+    def kill(self, kind, number):
+        self.signal(kind, number, signal.SIGKILL)
+        if kind != 'room':
+            self.processes[kind, number].wait()
+
+    def bring_back(self, kind, number):
+        """Starts what was killed. A companion starts its room by itself."""
+        if kind != 'room':
+            self.start(kind, number)
+
+    def stop_companions(self, *numbers):
+        """Ends the companions well; gives their statuses."""
+        numbers = numbers or list(self.machines)
+        for it in numbers:
+            self.signal('companion', it, signal.SIGTERM)
+        return [self.ended(it) for it in numbers]
+
+    def ended(self, number):
+        """The status of a companion that ends."""
+        return self.processes['companion', number].wait(PATIENCE)
+
+    def close(self):
+        for it in self.processes.values():
+            if it.poll() is None:
+                it.kill()
+            it.wait()
+        self.held.close()
+        self.told.close()
+
+
+class Witness(threading.Thread):
+    """Sees all that is put at the list's keys, by whichever member tells it: key, version and
+    value, in the order in which they were put. What is dropped later was seen."""
+
+    def __init__(self, machines):
+        super().__init__(daemon=True)
+        self.machines, self.put, self.next = machines, [], 1
+        self.is_over = False
+        self.fault = ''
+
+    def run(self):
+        at = 0
+        while not self.is_over:
+            at = at % len(self.machines.machines) + 1
+            with contextlib.suppress(OSError, ValueError, http.client.HTTPException):
+                self.watch(self.machines.reach(at))
+
+    def watch(self, reach):
+        span = kept_list.under(kept_list.LIST)
+        asked = {'create_request': span | {'start_revision': str(self.next)}}
+        connection = http.client.HTTPConnection(reach.host, reach.port, timeout=1.5)
+        connection.request('POST', '/v3/watch', json.dumps(asked))
+        with contextlib.closing(connection), connection.getresponse() as answer:
+            while not self.is_over and (line := answer.readline()):
+                self.take(json.loads(line)['result'])
+
+    def take(self, result):
+        if result.get('canceled'):
+            self.fault = str(result)
+        for it in result.get('events', []):
+            kv = it['kv']
+            if int(kv['mod_revision']) < self.next:
+                continue
+            self.next = int(kv['mod_revision']) + 1
+            if it.get('type', 'PUT') == 'PUT':
+                key = base64.b64decode(kv['key']).decode(errors='replace')
+                self.put.append((key, kv['version'], base64.b64decode(kv['value'])))
+
+    def until(self, key):
+        """All that was put, once this key was."""
+        until = time.monotonic() + PATIENCE
+        while not any(it[0] == key for it in reversed(self.put[-50:])):
+            assert time.monotonic() < until, f'{key} was not seen: {self.fault}'
+            time.sleep(0.1)
+        self.is_over = True
+        return list(self.put)

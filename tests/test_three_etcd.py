@@ -1,0 +1,131 @@
+"""etcd's quota on three machines: a list that is kept short by itself, a machine that is away for
+long, and an alarm that is raised nevertheless."""
+# needs: etcd-server sqlite3
+# builds: dispatch_room
+import json
+import re
+
+from listed import ThreeTestCase
+from machines import PATIENCE
+from many_terminals import asked_while, exchange
+from room import message
+
+import etcd
+import kept_list
+
+QUOTA = 16 << 20  # bytes
+SIZE, AT_ONCE = 1 << 14, 32  # bytes of what fills it, and how many are put at once
+QUESTION = message('deskof01', 'GET /queue')
+
+
+def call(serial):
+    body = {'class': 2, 'needs': [1, 0, 0], 'note': 'x' * 100, 'place': 'TQ300800',
+            'serial': serial}
+    return message('takerat01', 'POST /call', json.dumps(body))
+
+
+class Quota(ThreeTestCase):
+    def setUp(self):
+        super().setUp()
+        self.machines.member_words = [f'--quota-backend-bytes={QUOTA}']
+        for it in self.machines.machines:
+            self.machines.words[it] = ['--history', '10', '--away-after', '2']
+
+    def fill(self, part, prefix='stray'):
+        """Puts what is no entry, and is of nobody, until so much of the quota is used."""
+        kept = self.machines.list()
+        for it in range(int(part * QUOTA / SIZE / AT_ONCE)):
+            kept.change([], [kept_list.put(f'{prefix}/{it}/{nth}', bytes(SIZE))
+                             for nth in range(AT_ONCE)])
+
+    def used(self, number=1):
+        return self.machines.health(number).get('etcd', {}).get('used', 0)
+
+    def test_questions(self):
+        """Questions take no place in the list."""
+        self.machines.start_all()
+        number = self.answered(1, call(1))[0]
+        before = self.machines.list().ends()
+        for it in self.machines.machines:
+            self.check('a question', [self.answered(it, QUESTION)[:2] for _ in range(20)],
+                       [(number, 200)] * 20)
+        self.check('the list is as it was', self.machines.list().ends(), before)
+
+    def test_short(self):
+        """Records go once each machine has them in copies, and their space is given back."""
+        self.machines.copy_every = 100
+        self.machines.start_all()
+        asked_while(lambda: self.machines.until(
+            lambda: self.machines.health(1).get('record', 0) > 1000, 'a thousand records'),
+            self.addresses(), 0, self.chance)
+        last = self.level()
+        self.machines.until(lambda: self.machines.list().ends()[0] >= last - 300,
+                            'records go')
+        self.check('little is used', self.used() < QUOTA // 2, True)
+
+    def test_warned(self):
+        """At half of the quota it is warned, and near its end no more is taken, so that space is
+        left for what makes space; then it goes on by itself."""
+        self.machines.start_all()
+        self.check('a call', self.answered(1, call(1))[1], 200)
+        self.fill(0.6)
+        self.machines.until(lambda: self.machines.health(1).get('etcd', {}).get('warned'),
+                            'a warning')
+        self.check('it is told', bool(re.search(r'etcd has \d+ bytes in use and a quota of',
+                                                self.machines.said())), True)
+        self.check('a call', self.answered(1, call(2))[1], 200)
+        self.fill(0.25, 'other')
+        for it in self.machines.machines:
+            self.machines.until(lambda: self.machines.health(it).get('refuses')
+                                == 'etcd is nearly full', 'no more is taken')
+        self.check('no call', exchange(self.machines.address(2), call(3), PATIENCE)[1], 503)
+        self.empty()
+        self.machines.wait_for_all()
+        self.check('it goes on', self.answered(2, call(4))[1], 200)
+
+    def empty(self):
+        """Deletes what was put to fill etcd, as its administrator would."""
+        self.machines.list().change([], [kept_list.delete(kept_list.under(it))
+                                         for it in ('stray/', 'other/')])
+
+    def test_alarm(self):
+        """Where something else fills etcd to the end, its alarm goes by itself once that is
+        deleted: the companions compact, give space back and disarm."""
+        self.machines.start_all()
+        self.check('a call', self.answered(1, call(1))[1], 200)
+        with self.assertRaises(etcd.NoSpace):
+            self.fill(1.5)
+        with self.assertRaises(etcd.NoSpace):
+            self.machines.list().change([], [kept_list.put('stray/0/0', b'')])
+        self.empty()
+        self.machines.until(lambda: not self.machines.list().member.alarms(), 'no alarm is left')
+        self.machines.wait_for_all()
+        self.check('it goes on', self.answered(1, call(2))[1], 200)
+
+    def test_away(self):
+        """A machine that is away keeps records in the list, which is told; once it is left out they
+        go, and it comes back only with a copy of another."""
+        self.machines.copy_every = 20
+        self.machines.start_all()
+        does = self.machines.companion_does
+        self.check('one that is there', does(1, 'leave-out', '2'),
+                   (1, 'companion: machine 2 is not away\n'))
+        self.machines.kill('companion', 3)
+        for it in range(1, 62):
+            self.answered(1, call(it))
+        self.machines.until(lambda: 'machine 3 is away for long' in self.machines.said(), 'told')
+        self.check('records are kept', self.machines.list().ends()[0], 0)
+        self.check('left out', does(1, 'leave-out', '3')[0], 0)
+        for it in range(62, 123):
+            self.answered(1, call(it))
+        self.machines.until(lambda: self.machines.list().ends()[0] >= 60, 'records go')
+        self.machines.start('companion', 3)
+        self.check('it is not played', self.machines.ended(3), 1)
+        self.check('and says so', 'bring a copy of another machine' in self.machines.said(), True)
+        copy, folder = self.newest(1).file, self.machines.machines[3].folder / 'room'
+        (folder / copy.name).write_bytes(copy.read_bytes())
+        self.machines.start('companion', 3)
+        self.machines.wait_for(3)
+        self.check('it answers', self.answered(3, call(200))[1], 200)
+        out = list(self.machines.list().values(f'{kept_list.ROOM}out/'))
+        self.check('it counts again', out, [])

@@ -1,0 +1,212 @@
+"""Three machines as a stranger sets them up: what prepare.py makes for three addresses, and what
+the units of systemd are told, played in three network namespaces with certificates and a user of
+etcd."""
+# needs: etcd-server sqlite3 iproute2 openssl curl systemd
+# builds: dispatch_room
+import json
+import os
+import pathlib
+import re
+import shlex
+import signal
+import subprocess
+import sys
+import time
+import unittest
+
+from machines import PATIENCE, THREE
+from many_terminals import FLEET, PLAN
+from room import PROGRAM, TestCase, dump, run
+
+import copies
+
+NUMBERS = 1, 2, 3
+ADDRESSES = [f'10.99.56.{it}' for it in NUMBERS]
+CALL = json.dumps({'class': 2, 'needs': [1, 0, 0], 'note': '', 'place': 'TQ300800', 'serial': 1})
+
+
+def done(*command, **named):
+    return subprocess.run([str(it) for it in command], capture_output=True, text=True,
+                          timeout=PATIENCE, **named)
+
+
+class Namespaces:
+    """Three network namespaces that see each other over a bridge, which is in a fourth."""
+
+    def __init__(self):
+        self.names = {it: f'three{os.getpid()}m{it}' for it in NUMBERS}
+        self.hub = f'three{os.getpid()}hub'
+
+    def ip(self, *words):
+        told = done('ip', *words)
+        assert told.returncode == 0, f'no network namespace here (ip {words}): {told.stderr}'
+
+    def make(self):
+        self.ip('netns', 'add', self.hub)
+        self.ip('-n', self.hub, 'link', 'add', 'hub', 'type', 'bridge')
+        self.ip('-n', self.hub, 'link', 'set', 'hub', 'up')
+        for number, name in self.names.items():
+            self.ip('netns', 'add', name)
+            self.ip('-n', name, 'link', 'set', 'lo', 'up')
+            self.ip('-n', self.hub, 'link', 'add', f'm{number}', 'type', 'veth', 'peer', 'name',
+                    'eth', 'netns', name)
+            self.ip('-n', self.hub, 'link', 'set', f'm{number}', 'master', 'hub', 'up')
+            self.ip('-n', name, 'addr', 'add', f'{ADDRESSES[number - 1]}/24', 'dev', 'eth')
+            self.ip('-n', name, 'link', 'set', 'eth', 'up')
+
+    def close(self):
+        for it in *self.names.values(), self.hub:
+            done('ip', 'netns', 'del', it)
+
+    def inside(self, number, *command):
+        return ['ip', 'netns', 'exec', self.names[number], *map(str, command)]
+
+    def cut(self, number, is_cut):
+        self.ip('-n', self.hub, 'link', 'set', f'm{number}', 'down' if is_cut else 'up')
+
+
+class Units(unittest.TestCase):
+    def test_units(self):
+        """systemd finds nothing wrong with the units."""
+        for it in sorted(THREE.glob('*.service')):
+            with self.subTest(it.name):
+                told = done('systemd-analyze', 'verify', it)
+                missing = [line for line in told.stderr.splitlines()
+                           if line and 'is not executable' not in line]
+                self.assertEqual(missing, [])
+
+
+class Network(TestCase):
+    def setUp(self):
+        super().setUp()
+        self.spaces, self.processes = Namespaces(), {}
+        self.addCleanup(self.spaces.close)
+        self.addCleanup(self.end)
+        self.spaces.make()
+        self.told = self.enterContext((self.folder / 'told').open('wb'))
+        self.first = self.folder / 'first.db'
+        (self.folder / 'plan.csv').write_text(PLAN)
+        (self.folder / 'fleet.csv').write_text(FLEET)
+        run('init', self.first, self.folder / 'plan.csv')
+        run('import', self.first, self.folder / 'fleet.csv')
+        os.symlink(PROGRAM, self.folder / 'dispatch_room')
+        prepared = done(sys.executable, THREE / 'prepare.py', self.folder / 'prepared', *ADDRESSES)
+        self.check('prepared', (prepared.returncode, prepared.stderr), (0, ''))
+        self.check('nobody else reads it', [it for it in (self.folder / 'prepared').rglob('*')
+                                            if it.stat().st_mode & 0o077], [])
+
+    def end(self):
+        for it in self.processes.values():
+            it.kill()
+            it.wait()
+
+    def here(self, number, text):
+        """A text of the units in the folders of this test in place of the machine's own."""
+        state = self.folder / f'state{number}'
+        return (text.replace('/etc/dispatch-room-three', f'{self.folder}/prepared/{number}')
+                .replace('/var/lib/dispatch-room-three', str(state))
+                .replace('/run/dispatch-room-three', f'{state}/run')
+                .replace('/usr/share/doc/dispatch-room/examples/three', str(THREE))
+                .replace('/usr/bin/python3', sys.executable))
+
+    def environment(self, number, name):
+        text = self.here(number, (self.folder / 'prepared' / str(number) / name).read_text())
+        return dict(it.replace('"', '').split('=', 1) for it in text.splitlines())
+
+    def unit(self, number, name):
+        """The command of a unit, and its environment."""
+        text = self.here(number, (THREE / f'dispatch-room-{name}.service').read_text())
+        command = re.search(r'^ExecStart=((?:.*\\\n)*.*)$', text, re.M)[1].replace('\\\n', ' ')
+        environment = self.environment(number, f'{name}.env')
+        for it, value in environment.items():
+            command = command.replace(f'${it}', value)
+        return shlex.split(command), environment
+
+    def start(self, number, name):
+        command, environment = self.unit(number, name)
+        path = f'{self.folder}:{os.environ["PATH"]}'
+        self.processes[number, name] = subprocess.Popen(
+            self.spaces.inside(number, *command), env=os.environ | environment | {'PATH': path},
+            stdin=subprocess.DEVNULL, stdout=self.told, stderr=self.told)
+
+    def companion_does(self, number, *words):
+        reach = shlex.split(self.environment(number, 'companion.env')['REACH'])
+        command = [sys.executable, THREE / 'companion.py', *words, *reach]
+        return done(*self.spaces.inside(number, *command))
+
+    def until(self, what, holds):
+        until = time.monotonic() + PATIENCE
+        while not holds():
+            told = pathlib.Path(self.told.name).read_text(errors='replace')[-3000:]
+            assert time.monotonic() < until, f'not within {PATIENCE} s: {what}\n{told}'
+            time.sleep(0.5)
+
+    def curl(self, number, path, *words):
+        """What curl gets on a machine: the body, and the status."""
+        told = done(*self.spaces.inside(number, 'curl', '-s', '-m', '30', '-w', ' %{http_code}',
+                                        f'http://127.0.0.1:8080{path}', *words))
+        return told.stdout
+
+    def serves(self, number):
+        return self.curl(number, '/health').endswith(' 200')
+
+    def start_all(self):
+        for it in NUMBERS:
+            self.start(it, 'member')
+        self.until('a user', lambda: self.companion_does(1, 'user').returncode == 0)
+        for it in NUMBERS:
+            room = self.folder / f'state{it}' / 'room'
+            self.until(f'{it} begins', lambda: copies.copies_in(room) or self.companion_does(
+                it, 'begin', self.first, room).returncode == 0)
+            self.start(it, 'companion')
+        for it in NUMBERS:
+            self.until(f'{it} serves', lambda: self.serves(it))
+
+    def answered(self, number, path, *words):
+        found = ['']
+
+        def asks():
+            found[0] = self.curl(number, path, *words)
+            return found[0][-3:] not in ('503', '000')
+        self.until(f'{number} answers', asks)
+        return found[0]
+
+    def test_machines(self):
+        """One room: what one machine takes another tells; one that is cut off answers nothing, and
+        is level with the others afterwards. Who has no certificate or password reads nothing."""
+        self.start_all()
+        post = '-H', 'X-Terminal: takerat01', '-d', CALL
+        ask = '-H', 'X-Terminal: deskof02'
+        told = self.answered(1, '/call', *post)
+        self.check('a call', told[-3:], '200')
+        asked = self.answered(2, '/incidents', *ask)
+        self.check('a question to another', asked, self.answered(3, '/incidents', *ask))
+        self.strangers()
+        self.spaces.cut(3, True)
+        self.until('3 answers nothing', lambda: self.curl(3, '/incidents', *ask)[-3:] == '503')
+        self.check('the others go on', self.answered(2, '/call', *post)[-3:], '200')
+        self.spaces.cut(3, False)
+        self.until('3 is back', lambda: self.serves(3))
+        self.check('it is level', self.answered(3, '/incidents', *ask),
+                   self.answered(1, '/incidents', *ask))
+        for it in NUMBERS:
+            self.processes[it, 'companion'].send_signal(signal.SIGTERM)
+        self.check('all end well', [self.processes[it, 'companion'].wait(PATIENCE)
+                                    for it in NUMBERS], [0, 0, 0])
+        newest = [copies.copies_in(self.folder / f'state{it}' / 'room')[0] for it in NUMBERS]
+        self.check('three equal rooms', len({dump(it.file) for it in newest}), 1)
+
+    def strangers(self):
+        """etcd without a certificate, with one and no password, and from another machine."""
+        folder = self.folder / 'prepared' / '1'
+        url, body = 'https://127.0.0.1:2379/v3/kv/range', ('-d', '{"key":"cm9vbQ=="}')
+        with_authority = '--cacert', folder / 'authority.pem'
+        secured = (*with_authority, '--cert', folder / 'companion.pem', '--key',
+                   folder / 'companion.key')
+        found = [done(*self.spaces.inside(1, 'curl', '-s', '-m', '8', url, *body, *words))
+                 for words in (with_authority, secured)]
+        self.check('without a certificate', found[0].returncode != 0, True)
+        self.check('without a password', 'user name is empty' in found[1].stdout, True)
+        away = done(*self.spaces.inside(2, 'curl', '-s', '-m', '8', '-o', '/dev/null',
+                                        f'https://{ADDRESSES[0]}:2379/version', *secured))
+        self.check('from another machine', away.returncode, 7)
