@@ -154,8 +154,8 @@ class Package(TestCase):
         modes = {row[5].removeprefix('./'): row[0] for row in rows if not row[5].endswith('/')}
         scripts = {f'{DOCUMENTS}/examples/{it}' for it in SCRIPTS}
         programs = scripts | {'usr/bin/dispatch_room'}
-        documents = [TOP / 'README.md', TOP / 'bench' / 'README.md', *EXAMPLES.glob('*.*'),
-                     *EXAMPLES.glob('*/*.*'), *(TOP / 'docs').iterdir()]
+        documents = [TOP / 'README.md', *(TOP / 'bench').glob('**/README.md'),
+                     *EXAMPLES.glob('*.*'), *EXAMPLES.glob('*/*.*'), *(TOP / 'docs').iterdir()]
         others = {f'{DOCUMENTS}/{it.relative_to(TOP)}' for it in documents}
         others |= {UNIT, PAGES_UNIT, PAGE, COMPLETION, *OF_DEBIAN}
         wanted = dict.fromkeys(programs | others, '-rw-r--r--')
