@@ -1,6 +1,7 @@
 """What tests of a board share: something that listens in the place of a room, what it says, and
 the board of which no table could be shown."""
 import contextlib
+import json
 import socket
 import threading
 
@@ -17,10 +18,18 @@ UNHURRIED = ['--patience', '60']
 
 def answer(content, status='200 OK', date=DATE):
     return (f'HTTP/1.1 {status}\r\n{date}Content-Type: application/json\r\n'
-            f'Content-Length: {len(content)}\r\n\r\n{content}').encode()
+            f'Content-Length: {len(content.encode())}\r\n\r\n{content}').encode()
 
 
 EMPTY = [answer(f'{{"{path[1:]}":[]}}') for path in PATHS]
+
+
+def history(calls=(), turns=(), **members):
+    """The answer that has an incident's history, of which some members may be other ones."""
+    told = {'calls': list(calls), 'class': 1, 'first_order': None, 'into': None,
+            'needs': [1, 0, 0], 'number': 1, 'opened': 1795588800, 'place': [530000, 180000],
+            'served': [0, 0, 0], 'state': 0, 'turns': list(turns)} | members
+    return answer(json.dumps(told, ensure_ascii=False))
 
 
 @contextlib.contextmanager

@@ -27,7 +27,7 @@ NEW = {
 
 # A day: desk 2 borrowed A1 and sent it to its incident 1, where it is on its way. It borrowed A2
 # too, which desk 1 wants back. A3 was sent twice, to incidents of division 1: once it was stood
-# down, and once it went through the whole turn; it told of that by reports, and by some that were
+# down, and once it went through the whole turn; it showed that by reports, and by some that were
 # late, wrong and of another order. C1 waits at a point. Incident 2 was merged into incident 1, and
 # incident 3 is closed.
 DAY = NEW | {
@@ -71,7 +71,7 @@ DAY = NEW | {
 
 
 def table_statement(table):
-    """What makes a table: its key is told with its column, or after all where it has two."""
+    """What makes a table: its key is given with its column, or after all where it has two."""
     count, columns = TABLES_BEFORE[table]
     told, key = [], []
     for name, kind, is_never_null, place in columns_of(count, columns):
@@ -113,7 +113,7 @@ def old_room(file, rows=DAY, indexed=True, journal='delete'):
 
 
 def killed_room(file, rows=DAY):
-    """Makes a file of version 1 whose rows stand in its log alone, as a program leaves it that was
+    """Makes a file of version 1 whose rows stand only in its log, as a program leaves it that was
     killed."""
     living = old_room(file.with_suffix('.living'), NEW, journal='wal')
     with opened(living) as room:

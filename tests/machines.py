@@ -120,7 +120,7 @@ class Machines:
             time.sleep(0.05)
 
     def health(self, number):
-        """What a companion tells of itself, or nothing."""
+        """What a companion reports of itself, or nothing."""
         with contextlib.suppress(OSError, ValueError, http.client.HTTPException):
             connection = http.client.HTTPConnection(*self.address(number), timeout=10)
             with contextlib.closing(connection):
@@ -140,7 +140,7 @@ class Machines:
         return kept_list.KeptList(etcd.Member(self.reach(number), PATIENCE))
 
     def companion_does(self, number, *words):
-        """Runs a command of the companion; gives its status and what it told."""
+        """Runs a command of the companion; gives its status and what it reported."""
         machine = self.machines[number]
         done = subprocess.run([sys.executable, THREE / 'companion.py', *words, '--etcd',
                                machine.etcd], capture_output=True, text=True, timeout=PATIENCE)
@@ -190,7 +190,7 @@ class Machines:
 
 
 class Witness(threading.Thread):
-    """Sees all that is put at the list's keys, by whichever member tells it: key, version and
+    """Sees all that is put at the list's keys, by whichever member reports it: key, version and
     value, in the order in which they were put. What is dropped later was seen."""
 
     def __init__(self, machines):

@@ -3,6 +3,7 @@ and what any page has to be for everyone: contrast, names, focus, size."""
 import contextlib
 import subprocess
 import sys
+import time
 
 from browser import until
 from room import PLAN, TOP
@@ -38,6 +39,11 @@ def sign_in(browser, address, kind, token):
     browser.type(token)
     browser.press('Enter')
     return until(lambda: browser.run('return location.pathname').endswith(PAGES[kind]), 10)
+
+
+def time_of(moment):
+    """A moment as a page shows it."""
+    return time.strftime('%H:%M:%S', time.localtime(moment))
 
 
 # ---- what any page has to be

@@ -102,7 +102,7 @@ class Preloaded:
                                 stderr=subprocess.PIPE, env=os.environ | given)
 
     def run(self, switches, *words, given=b''):
-        """Runs the program over what it is given; its status, what it printed, and what it told on
+        """Runs the program over what it is given; its status, what it printed, and what it said on
         standard error."""
         process = self.start(switches, *words, stdin=subprocess.PIPE)
         out, err = process.communicate(given, timeout=60)

@@ -13,17 +13,17 @@ import tempfile
 import unittest
 
 TOP = pathlib.Path(__file__).resolve().parent.parent
-# What the tests make is their own alone, or the program would tell that others can read a room.
+# What the tests make is theirs only, or the program would report that others can read a room.
 os.umask(0o077)
 
 PROGRAM = TOP / 'crates' / 'dispatch_room' / 'out' / 'dispatch_room'
-DRY_RUN = TOP / 'crates' / 'dispatch_room_dry_run' / 'out' / 'dispatch_room_dry_run'
+DRY_RUN = TOP / 'crates' / 'dispatch_room_dry_run_main' / 'out' / 'dispatch_room_dry_run_main'
 PLAN = TOP / 'examples' / 'plan.csv'
 FLEET = TOP / 'examples' / 'fleet.csv'
 
 
 class TestCase(unittest.TestCase):
-    """A test case with a folder. What differs is told whole, and which of it was wanted."""
+    """A test case with a folder. What differs is reported whole, and which of it was wanted."""
 
     def setUp(self):
         self.folder = pathlib.Path(self.enterContext(tempfile.TemporaryDirectory()))
@@ -43,7 +43,7 @@ class TestCase(unittest.TestCase):
 
 
 def run(*words):
-    """Runs a command; gives its status, what it printed, and what it told on standard error."""
+    """Runs a command; gives its status, what it printed, and what it wrote to standard error."""
     done = subprocess.run([PROGRAM, *map(str, words)], stdin=subprocess.DEVNULL,
                           capture_output=True, timeout=120)
     return done.returncode, done.stdout.decode(), done.stderr.decode()
@@ -106,7 +106,7 @@ def dry_run(stdin, stdout=subprocess.PIPE, program=PROGRAM, **named):
     return done.stdout, (done.returncode, done.stderr)
 
 
-# How the dry run ends: its status, and what it tells.
+# How the dry run ends: its status, and what it says.
 WELL = (0, b'')
 CUT = (1, b'refused: connection\n')
 FAULT = (4, b'network\n')
@@ -115,7 +115,7 @@ CLOSE = 'Connection: close\r\n'
 
 
 def answer(status, content, more='', told=None):
-    """An answer of the dry run; of the content is told what is given, or else all."""
+    """An answer of the dry run; of the content gets what is given, or else all."""
     head = (f'HTTP/1.1 {status}\r\nDate: Thu, 01 Jan 1970 00:16:40 GMT\r\n'
             f'Content-Type: application/json\r\nContent-Length: {len(content)}\r\n')
     return f'{head}{more}\r\n{content if told is None else told}'.encode()
@@ -144,7 +144,7 @@ PATIENT = ['--idle', '20000']
 
 @contextlib.contextmanager
 def serving(room, connections, *words):
-    """Serves a room to so many connections, patiently where nothing is told; gives the port, and
+    """Serves a room to so many connections, patiently by default; gives the port, and
     the process."""
     port = free_port()
     command = [PROGRAM, 'serve', room, f'127.0.0.1:{port}', '--connections', str(connections)]

@@ -1,5 +1,5 @@
 #!/usr/bin/env python3
-"""Runs one module of tests by unittest, tells each check that failed, and last the sum 'N passed,
+"""Runs one module of tests by unittest, prints each check that failed, and last the sum 'N passed,
 M failed'.
 Usage: tests/runner.py NAME        runs tests/test_NAME.py, over programs that are built"""
 import importlib
@@ -56,7 +56,7 @@ class Checks(unittest.TestResult):
         self.fail(test, f'skipped: {reason}')
 
     def fail(self, test, told):
-        """Counts what failed and tells it at once, for a later one may end the process."""
+        """Counts what failed and reports it at once, for a later one may end the process."""
         self.failed += 1
         print(f'failed: {test.id()}\n{told}', flush=True)
 

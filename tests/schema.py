@@ -1,8 +1,8 @@
-"""The tables and indexes of a room's file, as sqlite3 tells them, and the rows that stay as they
+"""The tables and indexes of a room's file, as sqlite3 gives them, and the rows that stay as they
 are made of the example's plan and fleet."""
 
 # The tables in the order in which they are made: how many of their first columns are the key, and
-# their columns. A column is a whole number where no type is told; one with a question mark may be
+# their columns. A column is a whole number where no type is given; one with a question mark may be
 # NULL.
 TABLES = {
     'meta': (1, 'id version zone:TEXT'),

@@ -62,7 +62,7 @@ def played(folder, given, rate):
 
 
 def play(*words, **environment):
-    """Runs the command; its status, and what it told on standard error."""
+    """Runs the command; its status, and what it wrote to standard error."""
     done = subprocess.run([sys.executable, FOLDER / 'play.py', *map(str, words)],
                           stdin=subprocess.DEVNULL, capture_output=True, timeout=300,
                           env=os.environ | environment)

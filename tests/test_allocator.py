@@ -16,7 +16,8 @@ import time
 import unittest
 
 from browser import Browser, Unmet, until
-from pages import PHONE, companion, nameless, sign_in, small_targets, unseen_focus, weak_texts
+from pages import (PHONE, companion, nameless, sign_in, small_targets, time_of, unseen_focus,
+                   weak_texts)
 from room import TestCase, ask, made, message, serving, sql
 
 SOON = 20  # seconds within which the page does what is waited for, on a busy machine too
@@ -83,10 +84,6 @@ def cells(number):
     return BROWSER.run("""return [...document.querySelectorAll(
       `#incident table:nth-of-type(${arguments[0]}) tbody tr`)].map((it) =>
       [...it.cells].map((cell) => cell.textContent));""", number)
-
-
-def time_of(moment):
-    return time.strftime('%H:%M:%S', time.localtime(moment))
 
 
 ROWS = """return [...document.querySelectorAll(`.${arguments[0]} .lines li`)].map((it) =>
@@ -196,7 +193,7 @@ def posted(room):
 
 
 def history(number, name, scene=None, note=''):
-    """An incident as the paths of history tell it: a second call made it urgent after the order."""
+    """An incident as the paths of history give it: a second call made it urgent after the order."""
     def call(serial, level, age, **more):
         return {'class': level, 'linked': serial > 1, 'moment': NOW - age, 'needs': [1, 0, 0],
                 'note': note, 'place': [530000, 180000], 'position': 1, 'serial': serial} | more

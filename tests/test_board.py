@@ -8,8 +8,10 @@ import re
 import subprocess
 import time
 
-from boards import DATE, EMPTY, PATHS, TITLES, UNHEARD, UNHURRIED, answer, peer, told_alike
-from room import PROGRAM, TestCase, ask, call, dump, free_port, made, message, run, serving
+from boards import (DATE, EMPTY, PATHS, TITLES, UNHEARD, UNHURRIED, answer, history, peer,
+                    told_alike)
+from room import (PATIENT, PROGRAM, TestCase, ask, call, dump, free_port, made, message, run,
+                  serving)
 
 FLEET = ['A1,1,1,TQ303804,crewofa1', 'A3,1,1,TQ300801,crewofa3', 'C1,1,2,TQ300800,crewofc1']
 FOREIGN = 'not reached: what came is no answer of a room'
@@ -26,7 +28,7 @@ def requests(token, *paths):
 
 
 def board(address, *words, token='deskone1'):
-    """A board, which is patient where nothing is told."""
+    """A board, which is patient by default."""
     return run('board', address, token, *words, *([] if '--patience' in words else UNHURRIED))
 
 
@@ -51,7 +53,7 @@ class Served(TestCase):
         self.lend = message('deskone1', 'POST /vehicles/A1/lend', f'{{"to":2,"until":{LAST}}}')
 
     def test_a_day(self):
-        with serving(self.room, 4) as (port, _):
+        with serving(self.room, 4, *PATIENT, '--history') as (port, _):
             send = message('deskone1', 'POST /incidents/1/mobilise', '{"vehicle":"A3"}')
             point = message('deskone1', 'POST /points/4', '{"cover":2,"place":"TQ310810"}')
             ask(port, *self.duty, call(1), point)
@@ -68,6 +70,16 @@ Queue: 1
 Incidents: 1
    incident class place          needed served        age
           1     2 TQ 30000 80000 1 0 0  0 0 0     0:..:..
+
+Incident 1: active
+ class place          needed served              age first order
+     2 TQ 30000 80000 1 0 0  0 0 0           0:..:..           -
+
+Calls: 1
+ position     serial linked place          class needed        age
+        1          1 -      TQ 30000 80000     2 1 0 0     0:..:..
+
+Turns: 0
 
 Proposals: 1
  vehicle  kind      standby                   metres
@@ -120,13 +132,13 @@ Loans: 0
             ask(port, *self.duty, call(1))
             process.wait(30)
         before = dump(self.room)
-        with serving(self.room, 1) as (port, process):
+        with serving(self.room, 1, *PATIENT, '--history') as (port, process):
             status = board(f'127.0.0.1:{port}', '--incident', 1)[0]
             process.wait(30)
         self.assertEqual((status, dump(self.room)), (0, before))
 
     def test_refused(self):
-        with serving(self.room, 3) as (port, _):
+        with serving(self.room, 3, *PATIENT, '--history') as (port, _):
             for what, token, told in [('unknown', 'nobody123', '38 NoTerminal'),
                                       ('of a crew', 'crewofa1', '39 WrongRole')]:
                 status, out, err = board(f'127.0.0.1:{port}', token=token)
@@ -135,7 +147,17 @@ Loans: 0
             status, out, err = board(f'127.0.0.1:{port}', '--incident', 9)
             told = [it for it in out.split('\n') if 'refused' in it]
             self.check('incident', (status, told, err),
-                       (1, ['Proposals: refused: 1 NoSuchIncident'], ''))
+                       (1, ['Incident: refused: 1 NoSuchIncident',
+                            'Proposals: refused: 1 NoSuchIncident'], ''))
+
+    def test_without_history(self):
+        """A room that serves no history refuses that part, and nothing else."""
+        with serving(self.room, 2) as (port, _):
+            ask(port, *self.duty, call(1))
+            status, out, err = board(f'127.0.0.1:{port}', '--incident', 1)
+        told = [it for it in out.split('\n') if 'refused' in it or 'Proposals' in it]
+        self.check('incident', (status, told, err),
+                   (1, ['Incident: refused: 36 NoPath', 'Proposals: 1'], ''))
 
 
 class Wire(TestCase):
@@ -157,11 +179,12 @@ class Wire(TestCase):
         told, heard = self.spoken(*EMPTY)
         self.check('status', told[0::2], (0, ''))
         self.check('requests', heard, requests('deskone1', *PATHS))
-        told, heard = self.spoken(*EMPTY[:2], answer('{"proposals":[]}'), *EMPTY[2:],
+        told, heard = self.spoken(*EMPTY[:2], history(), answer('{"proposals":[]}'), *EMPTY[2:],
                                   words=['--incident', '2147483647'])
-        self.check('status with proposals', told[0::2], (0, ''))
-        self.check('requests with proposals', heard,
-                   requests('deskone1', *PATHS[:2], '/incidents/2147483647/propose', *PATHS[2:]))
+        self.check('status with an incident', told[0::2], (0, ''))
+        self.check('requests with an incident', heard,
+                   requests('deskone1', *PATHS[:2], '/incidents/2147483647',
+                            '/incidents/2147483647/propose', *PATHS[2:]))
 
     def test_widest_rows(self):
         queue = ('{"queue":[{"number":2147483647,"rank":2,"since":0,"vehicle":"AMB12345"},'
@@ -239,6 +262,84 @@ Loans: 1
         self.check('told', told, (4, told_alike(UNHEARD), 'network\n'))
         told, _ = self.spoken(*(said[at:at + 40] for at in range(0, len(said), 40)), pause=0.01)
         self.check('in pieces', told[0], 0)
+
+    # The board of an incident is given between these lines of one without any.
+    BEFORE = 'Room at Wed, 25 Nov 2026 06:40:00 GMT\n\nQueue: 0\n\nIncidents: 0\n'
+    AFTER = '\nProposals: 0\n\nVehicles: 0\n\nPoints: 0\n\nOffers: 0\n\nLoans: 0\n'
+
+    def incident(self, answered):
+        """How the board of an incident ended, and what it said of it, by this answer."""
+        told = self.spoken(*EMPTY[:2], answered, answer('{"proposals":[]}'), *EMPTY[2:],
+                           words=['--incident', '1'])[0]
+        status, out, err = told
+        self.check('what stands before it', out[:len(self.BEFORE)], self.BEFORE)
+        self.check('what stands behind it', out[-len(self.AFTER):], self.AFTER)
+        return status, out[len(self.BEFORE):-len(self.AFTER)], err
+
+    def test_an_incident(self):
+        """Its calls with their notes, of which each byte that is no printable ASCII is a `?`, in
+        two lines where one is too short; its turns, with each step's time after the order."""
+        now = 1795588800
+        note = 'one two three four five six seven eight nine ten eleven twelve thirteen '
+        calls = [
+            {'class': 2, 'linked': False, 'moment': now - 3725, 'needs': [1, 0, 9],
+             'note': note + '\u001b[2J caf\u00e9', 'place': [400000, 299999], 'position': 99,
+             'serial': 2147483647},
+            {'class': 1, 'linked': True, 'moment': now - 60, 'needs': [0, 1, 0], 'note': '',
+             'place': [530000, 180000], 'position': 1, 'serial': 1}]
+        turns = [
+            {'acknowledged': now - 3540, 'ended': now, 'hospital': now - 60, 'kind': 1,
+             'left': now - 120, 'order': 2147483647, 'ordered': now - 3600, 'scene': now - 3000,
+             'stood_down': False, 'vehicle': 'AMB12345'},
+            {'acknowledged': now, 'ended': None, 'hospital': None, 'kind': 2, 'left': None,
+             'order': 1, 'ordered': now - 36000, 'scene': None, 'stood_down': False,
+             'vehicle': 'C1'},
+            {'acknowledged': None, 'ended': now - 1, 'hospital': None, 'kind': 3, 'left': None,
+             'order': 2, 'ordered': now - 10, 'scene': None, 'stood_down': True, 'vehicle': 'S1'}]
+        told = self.incident(history(
+            calls, turns, needs=[1, 1, 9], served=[10, 1, 0], opened=now - 3725,
+            first_order=now - 3600))
+        self.assertEqual(told, (0, '''
+Incident 1: active
+ class place          needed served              age first order
+     1 TQ 30000 80000 1 1 9  10 1 0          1:02:05     1:00:00
+
+Calls: 2
+ position     serial linked place          class needed        age
+       99 2147483647 -      SP 00000 99999     2 1 0 9     1:02:05
+         one two three four five six seven eight nine ten eleven twelve thirtee
+         n ?[2J caf??
+        1          1 linked TQ 30000 80000     1 0 1 0     0:01:00
+
+Turns: 3
+ vehicle       order    ordered    read   scene    left hospital   ended   by
+ AMB12345 2147483647    1:00:00 0:01:00 0:10:00 0:58:00  0:59:00 1:00:00 crew
+ C1                1   10:00:00 9:59:59       -       -        -       -    -
+ S1                2    0:00:10       -       -       -        - 0:00:09 desk
+''', ''))
+        self.assertLessEqual(max(map(len, told[1].split('\n'))), 80)
+
+    def test_what_became_of_an_incident(self):
+        for members, told in [({'state': 0}, 'active'), ({'state': 1}, 'closed'),
+                              ({'state': 2, 'into': 2147483647}, 'merged into 2147483647'),
+                              ({'state': 3}, 'of another kind')]:
+            status, out, _ = self.incident(history(number=2147483647, **members))
+            self.check(told, (status, out.split('\n')[1]), (0, f'Incident 2147483647: {told}'))
+
+    def test_an_incident_that_is_none(self):
+        call_of = {'class': 2, 'linked': False, 'moment': 0, 'needs': [1, 0, 0], 'note': '',
+                   'place': [530000, 180000], 'position': 1, 'serial': 1}
+        for what, answered in [
+                ('no incident', answer('{"calls":[],"turns":[]}')),
+                ('a call without a note', history([{name: it for name, it in call_of.items()
+                                                    if name != 'note'}])),
+                ('a note of 121 bytes', history([call_of | {'note': 'x' * 121}])),
+                ('a turn that is none', history([call_of], [{}])),
+                ('a state that is none', history(state=None))]:
+            self.check(what, self.incident(answered),
+                       (4, f'\nIncident: {FOREIGN}\n', 'network\n'))
+        whole = self.incident(history([call_of | {'note': 'x' * 120}]))
+        self.check('a note of 120 bytes', whole[0], 0)
 
     def test_no_http(self):
         for what, said in [('another protocol', b'SSH-2.0-OpenSSH_9.6\r\n'),

@@ -1,5 +1,6 @@
-"""What `check` tells of a room's file: how much a healthy room has, and of a broken one the first
-thing that is wrong, with its row. Nothing is written to the file."""
+"""What `check` says of a room's file: how much a healthy room has, and of a broken one the first
+thing that is wrong, with its row. Nothing is written to the file. A file that is no database is
+left as it is by every command, and nothing comes to be beside it."""
 # needs: python3 sqlite3
 # builds: dispatch_room
 import pathlib
@@ -7,7 +8,7 @@ import shutil
 import tempfile
 
 from broken_rooms import BROKEN, WORK, WRONG
-from room import FLEET, TestCase, drop_indexes, dump, made, run, sql
+from room import FLEET, PLAN, TestCase, drop_indexes, dump, free_port, made, run, sql
 
 # The room of WORK, counted by hand: the plan of the example, and the five vehicles of its fleet.
 HEALTHY = """\
@@ -126,6 +127,16 @@ MORE = {
          'call 4 of position 1 is of an incident that was opened later'),
 }
 
+# What is no database: too short for one, a text, a head of one with nothing behind it, and zeros.
+NO_DATABASES = [b'abc', b'no database' * 100, b'SQLite format 3\0' + bytes(5000), bytes(50)]
+
+
+def commands(file):
+    """A command of each kind, on a file."""
+    return [('init', file, PLAN), ('import', file, FLEET), ('migrate', file), ('check', file),
+            ('times', file, 1, '2026-03-29'), ('replay', file),
+            ('serve', file, f'127.0.0.1:{free_port()}')]
+
 
 class Check(TestCase):
     @classmethod
@@ -139,7 +150,7 @@ class Check(TestCase):
         return pathlib.Path(shutil.copy(self.room, self.folder / 'changed.db'))
 
     def check_told(self, what, change, wanted):
-        """What is told of the room after a change, which stays as it is."""
+        """What is reported of the room after a change, which stays as it is."""
         changed = self.copy()
         self.check(f'{what}: the change is made', sql(changed, change), '')
         before = dump(changed)
@@ -194,3 +205,27 @@ class Check(TestCase):
         self.check('a foreign file', run('check', other),
                    (1, f'{OTHER_TABLES}\n', 'refused: file\n'))
         self.check('no file is made', missing.exists(), False)
+
+    def check_left(self, what, file, beside):
+        """Each command fails on a file, and leaves it and what is beside it as they were."""
+        folder = file.resolve().parent
+        for words in commands(file):
+            before = {it.name: it.read_bytes() for it in folder.iterdir()}
+            self.check(f'{what}: {words[0]} fails', run(*words)[0] in (1, 3), True)
+            after = {it.name: it.read_bytes() for it in folder.iterdir()}
+            self.check(f'{what}: {words[0]} leaves all', after == before, True)
+            self.check(f'{what}: what is there', sorted(after), sorted(beside))
+
+    def test_no_database(self):
+        file, link = self.folder / 'no' / 'other.db', self.folder / 'link.db'
+        file.parent.mkdir()
+        link.symlink_to(file)
+        for text in NO_DATABASES:
+            file.write_bytes(text)
+            self.check_left(f'{text[:20]}', file, ['other.db'])
+            self.check_left(f'{text[:20]} by a link', link, ['other.db'])
+        for log in b'', b'no log':
+            file.with_name('other.db-wal').write_bytes(log)
+            self.check_left(f'with {log} as its log', file, ['other.db', 'other.db-wal'])
+        self.check('nothing beside the link', sorted(it.name for it in self.folder.iterdir()),
+                   ['link.db', 'no'])

@@ -66,7 +66,7 @@ class ServedTestCase(TestCase):
         self.room = made(self.folder / 'room.db')
 
     def served(self, *words):
-        """The room is served by its own times, where no others are told; gives the port."""
+        """The room is served by its own times, where no others are given; returns the port."""
         words = words or ['--patience', '2']  # what is served without a word is patient
         port, self.process = self.enterContext(serving(self.room, MANY, *words))
         return port
@@ -336,7 +336,7 @@ ELSEWHERE = ['0.0.0.0:8080', '[::]:8080', '192.168.1.1:8080', '128.0.0.1:8080', 
 
 class Addresses(ServedTestCase):
     def test_elsewhere(self):
-        """It is told why, and nothing is opened."""
+        """It gets why, and nothing is opened."""
         missing = self.folder / 'no.db'
         for address in ELSEWHERE:
             for room in [self.room, missing]:

@@ -1,6 +1,6 @@
 """The dry run from outside: the examples byte by byte, a stream cut at each byte, the refusals
 that its room can give, and what the program says where its input or output fails."""
-# builds: dispatch_room dispatch_room_dry_run
+# builds: dispatch_room dispatch_room_dry_run_main
 import os
 import subprocess
 import time
@@ -42,7 +42,7 @@ class Examples(TestCase):
             self.check(name, dry_run(stream), (answers, WELL))
 
     def test_own_program(self):
-        """The program that is the dry run alone answers and ends as the whole does."""
+        """The program that is only the dry run answers and ends as the whole does."""
         stream, answers = example('first-call')
         self.check('a first call', dry_run(stream, program=DRY_RUN), (answers, WELL))
         self.check('a call that is cut', dry_run(stream[:-1], program=DRY_RUN), (b'', CUT))

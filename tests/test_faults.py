@@ -38,7 +38,7 @@ class Faults(PreloadedTestCase):
         return answers, process.returncode, err
 
     def test_init(self):
-        """What is told to be created stands, also where the file fails as it is closed."""
+        """What is reported as created stands, also where the file fails as it is closed."""
         ends = [(0, CREATED, b''), (3, CREATED, b'storage\n'), (3, b'', b'storage\n')]
         self.check('init', self.program.run(NEVER, 'init', self.fresh(), PLAN), ends[0])
         total, met = self.program.total(), set()

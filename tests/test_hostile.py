@@ -11,7 +11,7 @@ from broken_rooms import BROKEN, WORK, WRONG
 from room import FLEET, TestCase, drop_indexes, dump, index_names, made, run, sql
 
 def opened(room):
-    """What comes of opening the room: its status, and what it tells of a failure."""
+    """What comes of opening the room: its status, and what it says of a failure."""
     status, _, told = run('times', room, 1, '2026-03-29')
     return status, told
 

@@ -57,7 +57,7 @@ def written(found):
 
 
 def replay(room, text, *words):
-    """Replays a list over a room; the status, what was printed, and what was told."""
+    """Replays a list over a room; the status, what was printed, and what was reported."""
     done = subprocess.run([PROGRAM, 'replay', room, *words], input=text, capture_output=True,
                           timeout=300)
     return done.returncode, done.stdout, done.stderr.decode()
@@ -172,7 +172,7 @@ class Unkept(JournalTestCase):
 
 class Cut(JournalTestCase):
     def test_cut(self):
-        """A record that was cut off is told and taken away at the next start."""
+        """A record that was cut off is reported and taken away at the next start."""
         copy = self.copy()
         self.serve([call(1)])
         whole = self.list.read_bytes()
@@ -255,7 +255,7 @@ class Replayed(JournalTestCase):
         self.check('the room', dump(self.again), before)
 
     def of_first_version(self):
-        """The list as of version 1, whose heads tell nothing of the zone."""
+        """The list as of version 1, whose heads say nothing of the zone."""
         rooms = [digest.of_file(self.before, 1), digest.of_file(self.after(2), 1)]
         return [('room', '1', rooms.pop(0)) if it[0] == 'room' else it
                 for it in entries(self.text)]
@@ -441,7 +441,7 @@ class Unsynced(PreloadedTestCase):
         self.list = self.lists / 'room.list'
 
     def served(self, sent, *words, fails=0, synced=None):
-        """Serves the room to one connection; the answers, the status, and what was told."""
+        """Serves the room to one connection; the answers, the status, and what was reported."""
         switches = sync_fault(fails, synced or self.list)
         return self.program.serve(switches, self.file, sent, '--journal', self.list, *words)
 

@@ -1,11 +1,11 @@
-"""Each link in README.md and docs/ leads to a file that is there, and one to a line to the
-function, the clause or the field that it names."""
+"""Each link in README.md, what stands beside it, and docs/ leads to a file that is there, and one
+to a line to the function, the clause or the field that it names."""
 from documents import LINK
 from room import TOP, TestCase
 
 class Links(TestCase):
     def test_links(self):
-        pages = [TOP / 'README.md', *sorted((TOP / 'docs').glob('*.md'))]
+        pages = [*sorted(TOP.glob('*.md')), *sorted((TOP / 'docs').glob('*.md'))]
         links = [(page, *it) for page in pages for it in LINK.findall(page.read_text())]
         for page, name, path, line in links:
             if '://' not in path:

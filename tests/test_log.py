@@ -15,7 +15,11 @@ CREW = 'A1,1,1,TQ303804,crewofa1'
 REPORT = '{"button":"position","number":1,"order":0,"place":"TQ300800"}'
 LINE = re.compile(r'(\d{4}-\d\d-\d\dT\d\d:\d\d:\d\dZ) (.+) (\d+) ms')
 
-# Messages, and what their lines tell between the moment and the time that they took.
+# A body that is refused has a line more, behind its own.
+REFUSED = 'position 1 POST /call 400'
+WRONG = 'POST /call: "serial" is missing'
+
+# Messages, and what their lines say between the moment and the time that they took.
 TOLD = [
     (call(1), 'position 1 POST /call 200'),
     (message('deskone1', 'GET /queue'), 'desk 1 GET /queue 200'),
@@ -24,7 +28,7 @@ TOLD = [
     # refused: after the terminal is known, and before
     (message('deskone1', 'POST /incidents/7/close'), 'desk 1 POST /incidents/7/close 404'),
     (message('deskone1', 'POST /call', '{}'), 'desk 1 POST /call 403'),
-    (message('takerone', 'POST /call', '{}'), 'position 1 POST /call 400'),
+    (message('takerone', 'POST /call', '{}'), REFUSED),
     (message('deskone2', 'GET /queue'), 'none GET /queue 403'),
     (message('deskone1', 'GET /deskone'), 'none GET /deskone 404'),
     (message('deskone1', 'DELETE /queue'), 'none DELETE /queue 405'),
@@ -63,9 +67,12 @@ class LogTestCase(TestCase):
 
 class Lines(LogTestCase):
     def test_lines(self):
-        """Each message has its line, in the order in which they were answered."""
+        """Each message has its line, in the order in which they were answered; a refused body has one
+        more."""
         answers, log = self.logged('--log')
         lines = log.splitlines()
+        refused = [told for _, told in TOLD].index(REFUSED)
+        self.check('what is wrong with the body', lines.pop(refused + 1), WRONG)
         self.assertEqual((len(answers), len(lines)), (len(TOLD), len(TOLD)))
         for (moment, status, _), line, (_, told) in zip(answers, lines, TOLD):
             with self.subTest(told):

@@ -69,7 +69,7 @@ INSERT INTO calls VALUES (1, 1, 1, 1, 1, 0, 530000, 180000, 2, 1, 0, 0, x'', 177
 """
 
 # What comes of a call to a room that is served, and what may come of it where memory is refused:
-# the answers, the status, and what is told.
+# the answers, the status, and what is reported.
 ANSWERED = [(200, '{"division":1,"incident":1,"linked":false}')]
 WANTING = [(503, '{"error":"Memory","number":41}')]
 CALLED = (ANSWERED, 0, b'')
@@ -81,7 +81,7 @@ class MemoryTestCase(PreloadedTestCase):
     """A test case that refuses allocations in turn."""
 
     def numbers(self, most):
-        """Which allocations are refused, once a run with nothing refused has told how many there
+        """Which allocations are refused, once a run with nothing refused has shown how many there
         are: each of the first, then one in so many that there are about so many in all; with --all
         each of them."""
         total = self.program.total()
@@ -138,7 +138,7 @@ class Memory(MemoryTestCase):
             self.check(f'init without {name}, then init', again, ever)
 
     def test_import(self):
-        """The rows that are told are in the file, each a vehicle with its crew, and no other."""
+        """The rows reported are in the file, each a vehicle with its crew, and no other."""
         room = made(self.folder / 'room.db')
         file = self.fresh(room)
         whole = ''.join(f'{it} added\n' for it in CALLSIGNS)
@@ -195,7 +195,7 @@ class Memory(MemoryTestCase):
         self.check('check after all', self.program.run(NOTHING, 'check', room), ever)
 
     def test_migrate(self):
-        """What is told as moved is of version 2. Where memory is wanting, the file is of version 1,
+        """What is reported moved is of version 2. Where memory runs out, the file is of version 1,
         or of version 2 where it was wanting as the file was closed."""
         room = old_room(self.folder / 'old.db')
         file, before, ever = self.fresh(room), all_rows(room), (0, b'migrated\n', b'')
@@ -215,7 +215,7 @@ class Memory(MemoryTestCase):
                 self.check(f'migrate without {name}, then migrate: the room', all_rows(file), after)
 
     def test_board(self):
-        """A board that can't reach its room for want of memory says that it can't."""
+        """A board that can't reach its room for lack of memory says that it can't."""
         def looked(refused):
             with peer(lambda stream: stream.sendall(b''.join(EMPTY))) as (address, _):
                 return self.program.run(refused, 'board', address, 'deskone1', *UNHURRIED)

@@ -174,7 +174,7 @@ OLD_BROKEN = before_offers(BROKEN) | {
     'an index too few': 'DROP INDEX calls_by_incident',
     'a column too many': 'ALTER TABLE loans ADD COLUMN note TEXT',
 }
-# A zone that can't be read is for those to tell who reckon days: nothing of it is moved.
+# A zone that can't be read is for those to report who reckon days: nothing of it is moved.
 OLD_BROKEN.pop('no zone')
 
 
@@ -205,7 +205,7 @@ class NotMoved(TestCase):
         self.check_each(before_offers(WRONG), STORAGE)
 
     def test_version_2(self):
-        """A room of version 2 is told as that, whatever the rest of it holds."""
+        """A room of version 2 is reported as that, whatever the rest of it holds."""
         file = made(self.folder / 'today.db')
         for change in ['', 'DELETE FROM divisions', 'DROP TABLE calls']:
             sql(file, change)

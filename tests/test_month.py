@@ -1,4 +1,4 @@
-"""The month of examples/month over a room with a generated October: its table tells what each day
+"""The month of examples/month over a room with a generated October: its table shows what each day
 was, in the zone of the room's plan, and its picture shows it."""
 # needs: gnuplot-nox
 # builds: dispatch_room
@@ -60,7 +60,7 @@ def room_of(file, incidents):
 
 
 def table_of(incidents):
-    """What is told of an October, as text: of the shares of a hundred the nearest rank."""
+    """What is reported of an October, as text: of the shares of a hundred the nearest rank."""
     days = collections.defaultdict(list)
     for opened, waited in incidents:
         days[day_of(opened)].append(waited)
@@ -107,7 +107,7 @@ class Month(TestCase):
         self.check('February has 28 days', (status, told.count('\n')), (0, 29))
 
     def test_refused(self):
-        """What the program refuses is told in its words, and a table is not."""
+        """What the program refuses is reported in its words, and a table is not."""
         gone = self.folder / 'gone.db'
         for words, wanted in [((gone, 1, '2026-10'), (1, '', 'refused: file\n')),
                               ((self.room, 9, '2026-10'), (1, '', 'refused: division\n'))]:

@@ -32,7 +32,7 @@ def log_of(room):
 
 
 def copied(room, to):
-    """A room's file and its log, copied by the system alone."""
+    """A room's file and its log, copied only by the system."""
     shutil.copy(room, to)
     shutil.copy(log_of(room), log_of(to))
     return to
@@ -82,8 +82,8 @@ class Document(OperatingTestCase):
         self.text = (TOP / 'docs' / 'OPERATING.md').read_text()
 
     def test_faults(self):
-        """Each fault that the program tells is in the table."""
-        endings = TOP / 'crates' / 'dispatch_room_endings' / 'src' / 'endings.rt'
+        """Each fault that the program reports is in the table."""
+        endings = TOP / 'crates' / 'dispatch_room_exit' / 'src' / 'exit_status.rt'
         faults = re.findall(r'#\[error\("(.*)"\)\]', endings.read_text())
         self.check('there are faults', 'storage' in faults, True)
         for fault in faults:
@@ -92,7 +92,8 @@ class Document(OperatingTestCase):
 
     def test_words(self):
         """The words of a unit that is changed are taken."""
-        words = re.search('^ +ExecStart=/usr/bin/dispatch_room (serve .*)$', self.text, re.M)[1]
+        line = r'^ +ExecStart=/usr/bin/dispatch_room ((?:.*\\\n)*.*)$'
+        words = re.search(line, self.text, re.M)[1].replace('\\\n', '')
         serve, _, _, *more = words.split()
         words = [PROGRAM, serve, self.room, f'127.0.0.1:{free_port()}', *more]
         with subprocess.Popen(words, stdout=subprocess.PIPE) as process:

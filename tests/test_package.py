@@ -20,7 +20,7 @@ UNIT = 'usr/lib/systemd/system/dispatch-room.service'
 PAGES_UNIT = 'usr/lib/systemd/system/dispatch-desks.service'
 PAGE = 'usr/share/man/man1/dispatch_room.1.gz'
 COMPLETION = 'usr/share/bash-completion/completions/dispatch_room'
-OF_DEBIAN = [f'{DOCUMENTS}/copyright', f'{DOCUMENTS}/changelog.Debian.gz']
+OF_DEBIAN = [f'{DOCUMENTS}/{it}' for it in ('copyright', 'changelog.gz', 'changelog.Debian.gz')]
 EXAMPLES = TOP / 'examples'
 SCRIPTS = ['1992/play.py', 'day.sh', 'desks/desks.py', 'haproxy/certificates.sh',
            'metrics/metrics.py', 'month/month.sh', 'three/companion.py', 'three/prepare.py',
@@ -46,7 +46,7 @@ TYPED = [
 
 
 def output(*words, **named):
-    """What a command prints; that it fails, or tells anything on standard error, is an error."""
+    """What a command prints; that it fails, or writes anything to standard error, is an error."""
     done = subprocess.run(list(map(str, words)), stdin=subprocess.DEVNULL, capture_output=True,
                           timeout=60, **named)
     assert (done.returncode, done.stderr) == (0, b''), f'{words}: {done}'
@@ -132,6 +132,14 @@ class Package(TestCase):
         self.check('name', field('Package'), 'dispatch-room')
         self.check('architecture', field('Architecture'),
                    output('dpkg', '--print-architecture').strip())
+        version = re.escape(output(self.program, '--version', env={}).split()[-1])
+        with self.subTest('its version is that of the program, and the moment of the tree'):
+            self.assertRegex(field('Version'), rf'^{version}\.\d{{8}}\.\d{{4}}-1~local$')
+        unpacked = lambda name: gzip.decompress(self.path(f'{DOCUMENTS}/{name}').read_bytes())
+        self.check('so says its changelog', unpacked('changelog.Debian.gz').decode().split()[:2],
+                   ['dispatch-room', f'({field("Version")})'])
+        self.check('it has all changes', unpacked('changelog.gz'),
+                   (TOP / 'CHANGELOG.md').read_bytes())
         with self.subTest('the C library is all that it needs'):
             self.assertRegex(field('Depends'), r'^libc6 \(>= [0-9.]+\)$')
         control = self.folder / 'control'
@@ -154,8 +162,9 @@ class Package(TestCase):
         modes = {row[5].removeprefix('./'): row[0] for row in rows if not row[5].endswith('/')}
         scripts = {f'{DOCUMENTS}/examples/{it}' for it in SCRIPTS}
         programs = scripts | {'usr/bin/dispatch_room'}
-        documents = [TOP / 'README.md', *(TOP / 'bench').glob('**/README.md'),
-                     *EXAMPLES.glob('*.*'), *EXAMPLES.glob('*/*.*'), *(TOP / 'docs').iterdir()]
+        documents = [*set(TOP.glob('*.md')) - {TOP / 'CHANGELOG.md'},
+                     *(TOP / 'bench').glob('**/README.md'),
+                     *EXAMPLES.glob('*.*'), *EXAMPLES.glob('*/*.*'), *(TOP / 'docs').glob('*.*')]
         others = {f'{DOCUMENTS}/{it.relative_to(TOP)}' for it in documents}
         others |= {UNIT, PAGES_UNIT, PAGE, COMPLETION, *OF_DEBIAN}
         wanted = dict.fromkeys(programs | others, '-rw-r--r--')
@@ -280,7 +289,7 @@ class Package(TestCase):
         shown = subprocess.run(['groff', '-man', '-Tascii', '-P-cbou'], input=source,
                                capture_output=True, timeout=60).stdout.decode()
         part = ' '.join(shown.partition('DIAGNOSTICS')[2].partition('\nFILES')[0].split())
-        endings = TOP / 'crates' / 'dispatch_room_endings' / 'src' / 'endings.rt'
+        endings = TOP / 'crates' / 'dispatch_room_exit' / 'src' / 'exit_status.rt'
         faults = re.findall(r'#\[error\("(.*)"\)\]', endings.read_text())
         self.check('there are faults', 'storage' in faults, True)
         for fault in faults:

@@ -31,7 +31,7 @@ USAGE_MISTAKES = [
 ]
 
 
-# Mistakes of one word, with what is told of them.
+# Mistakes of one word, with what is reported of them.
 NAMED_MISTAKES = [
     (['bogus'], "unrecognized subcommand 'bogus'"),
     (['init', 'a'], '<PLAN>'),

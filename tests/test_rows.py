@@ -17,7 +17,7 @@ class Rows(PreloadedTestCase):
         run('import', self.room, FLEET)
 
     def play(self, asked):
-        """How the talk of a script ended and what was told of it, and the answers to its
+        """How the talk of a script ended and what was reported of it, and the answers to its
         messages."""
         switches = clock(it.moment for it in asked)
         sent = ''.join(it.text() for it in asked).encode()

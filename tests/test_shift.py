@@ -1,4 +1,4 @@
-"""A day by the three pages at once, by keys and clicks, as examples/day.sh tells it: the tables are
+"""A day by the three pages at once, by keys and clicks, as examples/day.sh shows it: the tables are
 afterwards those of the day by curl, but for moments and for where a crew's numbers begin."""
 # needs: chromium chromium-driver curl sqlite3
 # builds: dispatch_room
@@ -12,8 +12,8 @@ import time
 import unittest
 
 from browser import Browser, Line, until
-from pages import companion, sign_in
-from room import FLEET, PLAN, PROGRAM, TOP, TestCase, free_port, run, serving
+from pages import companion, sign_in, time_of
+from room import (FLEET, PATIENT, PLAN, PROGRAM, TOP, TestCase, free_port, run, serving, sql)
 
 MOMENT = 1_000_000_000  # no other number of a day is as great
 BROWSER = None
@@ -112,7 +112,8 @@ class Shift(TestCase):
         run('init', self.file, PLAN)
         run('import', self.file, FLEET)
         self.stack = self.enterContext(contextlib.ExitStack())
-        room_port, _ = self.stack.enter_context(serving(self.file, 99999))
+        room_port, _ = self.stack.enter_context(
+            serving(self.file, 99999, *PATIENT, '--history'))
         port = free_port()
         self.enterContext(companion(room_port, listen=f'127.0.0.2:{port}'))
         self.line = self.enterContext(Line(('127.0.0.2', port), port))
@@ -128,10 +129,7 @@ class Shift(TestCase):
     def tabs(self):
         """The terminals of the day, each in its tab."""
         self.taker = self.tab(self.one, 'taker', 'takerone')
-        until(lambda: BROWSER.is_shown('#start'), 20)
-        BROWSER.click('#last')
-        BROWSER.type('0')
-        BROWSER.press('Enter')
+        self.check('nobody is asked for the last serial', BROWSER.is_shown('#start'), False)
         self.desk = self.tab(self.one, 'desk', 'deskone1')
         self.other_desk = self.tab(self.two, 'desk', 'desktwo2')
         self.crew = self.tab(self.one, 'crew', 'crewofa3')
@@ -144,13 +142,23 @@ class Shift(TestCase):
         self.send()
         self.lend()
         self.bring_back()
+        history = self.read_history()
         self.stack.close()
+        self.check_history(*history)
         wanted, got = tables(day_by_curl(self.folder)), tables(self.file)
         self.check('the same tables', sorted(got), sorted(wanted))
         for name in wanted:
             self.check(f'as by curl: {name}', got[name], wanted[name])
         self.check('a day was played', [len(wanted[it]) for it in ('calls', 'reports', 'turns')],
                    [2, 4, 1])
+
+    def check_history(self, head, *rows):
+        """An incident's page has its calls with their notes, and its turn, as the tables do."""
+        self.check('it is closed', ', closed; opened' in head, True)
+        for row, note in zip(rows, ['a fall', 'man down'], strict=False):
+            self.check(f'the note of {note}', note in row, True)
+        moments = sql(self.file, 'SELECT ordered, scene, ended FROM turns').split('|')
+        self.check('its turn', [time_of(int(it)) in rows[2] for it in moments], 3 * [True])
 
     def begin_shifts(self):
         """Three vehicles come on duty, for an hour."""
@@ -244,3 +252,12 @@ class Shift(TestCase):
         BROWSER.press('3', 'Home', 'c')
         fill()
         self.check('it is closed', 'Incident 1 is closed.' in said('closed'), True)
+
+    def read_history(self):
+        """What the closed incident's own page says: its head, its calls and its turn."""
+        BROWSER.press('i')
+        fill('1')
+        until(lambda: len(BROWSER.texts('#incident tbody tr')) == 3, 20)
+        found = [BROWSER.text('#incident p'), *BROWSER.texts('#incident tbody tr')]
+        BROWSER.press('Escape')
+        return found

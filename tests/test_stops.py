@@ -53,7 +53,7 @@ MERGE = message('deskone1', 'POST /incidents/2/merge', '{"into":1}')
 
 class Stops(PreloadedTestCase):
     def each(self):
-        """The stops to try, the last one too, once a run without one has told how many calls there
+        """The stops to try, the last one too, once a run without one has shown how many calls there
         are. Beside each its name, and how it is."""
         total = self.program.total()
         self.check('files are changed', total > 0, True)

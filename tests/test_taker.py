@@ -4,20 +4,18 @@ EVERY_PLACE the line is cut at 30 moments, for five seconds each, and 2,000 plac
 # needs: chromium chromium-driver proj-bin sqlite3
 # builds: dispatch_room
 import contextlib
-import http.server
 import json
 import os
 import random
 import re
 import subprocess
 import tempfile
-import threading
 import time
 import unittest
 
 from browser import Browser, Line, until
 from pages import companion, faults_everywhere, sign_in
-from room import TOP, TestCase, ask, call, free_port, made, message, serving, sql
+from room import PATIENT, TOP, TestCase, ask, call, free_port, made, message, serving, sql
 
 EVERY = 'EVERY_PLACE' in os.environ
 CUTS, CUT_FOR = (30, 5.0) if EVERY else (5, 1.2)  # moments, seconds
@@ -266,58 +264,22 @@ class Network(Served):
                    ['1|', '2|', '3|call 0', '4|call 1'])
 
 
-# ---- a room that keeps history
-
-
-class Historian(http.server.ThreadingHTTPServer):
-    """Stands in front of a room and answers `GET /last` as one that keeps history does; all else
-    the room answers."""
-    daemon_threads = True
-
-    def __init__(self, room_port, serial):
-        super().__init__(('127.0.0.1', 0), HistorianAnswer)
-        self.room_port, self.serial = room_port, serial
-        self.asked = []
-        threading.Thread(target=self.serve_forever, daemon=True).start()
-
-
-class HistorianAnswer(http.server.BaseHTTPRequestHandler):
-    def do_GET(self):
-        front, token = self.server, self.headers['X-Terminal']
-        body = self.rfile.read(int(self.headers.get('Content-Length', 0))).decode()
-        front.asked.append(self.path)
-        if self.path == '/last':
-            status, content = 200, f'{{"serial":{front.serial}}}'
-        else:
-            line = f'{self.command} {self.path}'
-            (status, content), = ask(front.room_port, message(token, line, body))
-        self.send_response(status)
-        self.send_header('Content-Length', str(len(content)))
-        self.end_headers()
-        self.wfile.write(content.encode())
-
-    do_POST = do_GET
-
-    def log_message(self, *_):
-        """Says nothing."""
+# ---- a room that is served with history
 
 
 class History(TestCase):
     def test_last(self):
-        """The room tells the last serial: nobody is asked, and a used one is passed over by it."""
+        """The room says the last serial: nobody is asked, and a used one is passed over by it."""
         file = made(self.folder / 'room.db')
-        with serving(file, 99) as (room_port, _):
+        with serving(file, 99999, *PATIENT, '--history') as (room_port, _):
             ask(room_port, *(call(it, 'TQ600800') for it in (1, 2, 3)))
-            front = Historian(room_port, 3)
-            address = self.enterContext(companion(front.server_address[1]))
-            sign_in(BROWSER, address, 'taker', 'takerone')
+            address = self.enterContext(companion(room_port))
+            self.check('signed in', sign_in(BROWSER, address, 'taker', 'takerone'), True)
             BROWSER.find('#place')
-            until(lambda: '/last' in front.asked, 10)
             send_call('TQ300800', '2', 'call 4')
             self.check('a first call', answer('NEW')[:1], ['NEW'])
             self.check('nobody is asked', BROWSER.is_shown('#start'), False)
             ask(room_port, *(call(it, 'TQ600800') for it in (5, 6, 7)))
-            front.serial = 7
             send_call('TQ400800', '2', 'call 8')
             until(lambda: 'call 8' in BROWSER.text('#calls li'), 10)
             self.check('a second call', is_all_answered(), True)

@@ -78,7 +78,7 @@ class Forgetful(threading.Thread):
 
 class Forgotten(ThreeTestCase):
     def test_answers_of_etcd_that_are_lost(self):
-        """What was done and not told is not done again."""
+        """What was done and not reported is not done again."""
         before = [Forgetful(self.machines.reach(it), random.Random(it))
                   for it in self.machines.machines]
         for number, it in enumerate(before, 1):

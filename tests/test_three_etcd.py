@@ -71,8 +71,8 @@ class Quota(ThreeTestCase):
         self.fill(0.6)
         self.machines.until(lambda: self.machines.health(1).get('etcd', {}).get('warned'),
                             'a warning')
-        self.check('it is told', bool(re.search(r'etcd has \d+ bytes in use and a quota of',
-                                                self.machines.said())), True)
+        self.machines.until(lambda: re.search(r'etcd has \d+ bytes in use and a quota of',
+                                              self.machines.said()), 'the words of the warning')
         self.check('a call', self.answered(1, call(2))[1], 200)
         self.fill(0.25, 'other')
         for it in self.machines.machines:
@@ -103,7 +103,7 @@ class Quota(ThreeTestCase):
         self.check('it goes on', self.answered(1, call(2))[1], 200)
 
     def test_away(self):
-        """A machine that is away keeps records in the list, which is told; once it is left out they
+        """A machine that is away keeps records in the list, which is shown; once it's left out they
         go, and it comes back only with a copy of another."""
         self.machines.copy_every = 20
         self.machines.start_all()

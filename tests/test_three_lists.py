@@ -104,7 +104,7 @@ class Lists(ThreeTestCase):
                    (found.entries, found.stopped), ([], 'why'))
 
     def test_foreign(self):
-        """What is no entry is told and left out by each machine, wherever it stands."""
+        """What is no entry is reported and left out by each machine, wherever it stands."""
         self.machines.start_all()
         kept = self.machines.list()
         number, status, _ = self.answered(1, call(1))

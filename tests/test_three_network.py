@@ -172,7 +172,7 @@ class Network(TestCase):
         return found[0]
 
     def test_machines(self):
-        """One room: what one machine takes another tells; one that is cut off answers nothing, and
+        """One room: what one machine takes another shows; one that is cut off answers nothing, and
         is level with the others afterwards. Who has no certificate or password reads nothing."""
         self.start_all()
         post = '-H', 'X-Terminal: takerat01', '-d', CALL

@@ -39,7 +39,7 @@ def report_of(number, button, order):
 
 
 LEND = posted(DESK, '/vehicles/V6/lend', {'to': 2, 'until': UNTIL})
-# What is sent to one machine and done, and what the same is told that is sent to another: a
+# What is sent to one machine and done, and what the same gets when it is sent to another: a
 # refusal's number, or none where it is done again.
 SENT_TWICE = [
     (posted(DESK, '/vehicles/V6/duty', {'place': 'TQ300800', 'until': UNTIL}), 5),
@@ -85,7 +85,7 @@ def talk(address, sent):
 
 class Undisturbed(ThreeTestCase):
     def test_sent_twice(self):
-        """What examples/three/README.md tells of what is sent again to another machine."""
+        """What examples/three/README.md says of what is sent again to another machine."""
         self.machines.start_all()
         for sent, number in SENT_TWICE:
             line = sent.split(b' HTTP')[0].decode()

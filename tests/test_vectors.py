@@ -97,7 +97,7 @@ REFUSED = [
     (BAD_MESSAGE, b'GET /queue HTTP/2.0\r\nHost: room\r\n\r\n'),
     # RFC 9112, section 3: a target with a byte that is of no text.
     (BAD_MESSAGE, b'GET /vehicles/\xff/off HTTP/1.1\r\nHost: room\r\n\r\n'),
-    # RFC 9110, section 8.6: lengths that aren't digits alone, and one of 2^64 + 5.
+    # RFC 9110, section 8.6: lengths that aren't only digits, and one of 2^64 + 5.
     (BAD_MESSAGE, b'POST /call HTTP/1.1\r\nHost: room\r\nContent-Length: 5, 5\r\n\r\nabcde'),
     (BAD_MESSAGE, b'POST /call HTTP/1.1\r\nHost: room\r\nContent-Length: 0x5\r\n\r\nabcde'),
     (BAD_MESSAGE, b'POST /call HTTP/1.1\r\nHost: room\r\nContent-Length:\r\n\r\n'),
@@ -230,7 +230,7 @@ class Bodies(TestCase):
 
 
 def no_incidents(begin, end):
-    """What a desk is told of a day on which nothing was opened."""
+    """What a desk is shown of a day on which nothing was opened."""
     return f'{{"activated":0,"from":{begin},"incidents":[],"to":{end},"within":0}}'
 
 
@@ -310,7 +310,7 @@ class Days(TestCase):
         return room, run('init', room, plan)
 
     def times(self, rule, days):
-        """What the desk of a room with this zone is told of days."""
+        """What the desk of a room with this zone is shown of days."""
         room, _ = self.init(rule)
         with serving(room, 1) as (port, _):
             return ask(port, *[message('deskone1', f'GET /times/{day}') for day in days])
@@ -396,7 +396,7 @@ ORDER = '{"class":2,"division":1,"incident":1,"order":1,"place":[530000,180000]}
 LEND = '{"to":2,"until":9000}'
 
 TALKS = {
-    'what a crew is told': [
+    'what is sent to a crew': [
         (message('deskone1', 'POST /vehicles/A1/duty', DUTY), DONE),
         (message('deskone1', 'POST /vehicles/A2/duty', DUTY), DONE),
         (message('deskone1', 'POST /points/4', '{"cover":1,"place":"TQ300800"}'), DONE),
@@ -512,7 +512,7 @@ def listening(process):
 
 
 def grow_to(process, size):
-    """Lets the files of a process grow to this size, where nothing is told without bound."""
+    """Lets the files of a process grow to this size, by default without bound."""
     _, most = resource.prlimit(process.pid, resource.RLIMIT_FSIZE)
     limits = (most if size is None else size, most)
     resource.prlimit(process.pid, resource.RLIMIT_FSIZE, limits)

@@ -160,7 +160,7 @@ class Served(TestCase):
             BROWSER.close(other, then=tab)
 
     def other_pages(self):
-        """Two more pages that get nothing new from now on, each with what it has to tell."""
+        """Two more pages that get nothing new from now on, each with what it has to say."""
         with wall(played(self, small_room).port, self.plan, 'deskone1') as address:
             left = BROWSER.tab(address)
             until(pictures, 20)

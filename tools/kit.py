@@ -47,7 +47,7 @@ def rt():
     loader = importlib.machinery.SourceFileLoader('rt', os.path.realpath(command))
     module = importlib.util.module_from_spec(importlib.util.spec_from_loader('rt', loader))
     loader.exec_module(module)
-    # What it starts ends when this program does, and of a library the statements alone are kept.
+    # What it starts ends when this program does, and of a library only the statements are kept.
     module.rtlib.guarded()
     stamp_once(module.Crate)
     module.rtlib.Crate = module.Crate
@@ -81,7 +81,7 @@ def quietly(crate, work):
 
 
 def is_proved(crate, work):
-    """Does a crate's work, and tells what it said where it fails."""
+    """Does a crate's work, and reports what it said where it fails."""
     status, said = quietly(crate, work)
     if status:
         say(f'{crate.name} is not proved:')
@@ -93,7 +93,7 @@ def judged(crate, edit, kept=None):
     """Whether the prover refuses an edit of a crate for what it means, by the toolchain's own judge, and what is said of
     it. What was proved of the crate as it stands may be kept in a folder."""
     outcome, told = rt().must_fail(crate, str(edit), ['--jobs', '1'], kept)
-    # some kits name the outcome, others tell whether the edit was refused
+    # some kits name the outcome, others say whether the edit was refused
     is_refused = outcome in [getattr(rt(), it, True) for it in ('REFUSED', 'AT_LIMIT')]
     return is_refused and 'only because a proof file names' not in told, told
 
@@ -122,7 +122,7 @@ def in_lanes(wanted, work):
 
 
 def build_all(libraries):
-    """Proves, side by side, the libraries that are not kept, and tells how far it is. Gives whether all are proved."""
+    """Proves, side by side, the libraries that are not kept, and shows how far it is. Gives whether all are proved."""
     left = [it for it in libraries if not it.is_built()]
     began, done = time.monotonic(), len(libraries) - len(left)
 

@@ -17,7 +17,7 @@ from table_files.rows import TABLES
 from table_files.writes import writes
 
 WRITTEN = '(Written by tools/tables.py.)'
-KEPT = "Where one table alone changed, the tables stand for the room with that table's rows."
+KEPT = "Where only one table changed, the tables stand for the room with that table's rows."
 LAWS = 'What the statements on the table {} say, and what they make of a room.'
 
 
@@ -29,7 +29,7 @@ def proofs(about, parts):
 
 def files():
     """The place of each file among the crates, and its text."""
-    yield 'room_tables_schema/src/tables.rt', ''.join(forms(WRITTEN))
+    yield 'room_tables_schema/src/schema_tables.rt', ''.join(forms(WRITTEN))
     folder = 'room_tables_rows/proofs'
     yield f'{folder}/Kept.antt', proofs(KEPT, kept())
     for table in TABLES:

@@ -81,7 +81,7 @@ class Day:
     # ---- calls
 
     def draw_calls(self, calls):
-        """Divisions have better and worse days. One incident in seven is told of by a second
+        """Divisions have better and worse days. One incident in seven is reported by a second
         caller."""
         shares = [weight * self.random.uniform(0.75, 1.35) for weight in WEIGHTS]
         for _ in range(calls * 7 // 8):

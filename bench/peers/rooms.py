@@ -76,7 +76,7 @@ def put_waiting(room, now, waiting):
 
 
 def make(path, now, waiting):
-    """Makes a room's file in which so many incidents wait, for its owner alone, with the pages that
+    """Makes a room's file in which so many incidents wait, for its owner only, with the pages that
     `init` gives it."""
     path.touch(mode=0o600)
     room = sqlite3.connect(path)

@@ -77,7 +77,7 @@ class Emergency:
     care: int  # seconds at the scene
     hospital: Place | None
     handover: int  # seconds at the hospital
-    callers: list[tuple[int, Place]]  # after how many seconds, and what place they tell
+    callers: list[tuple[int, Place]]  # after how many seconds, and what place they give
     ordered: int | None = None  # the moment of its first order
     reached: int | None = None  # the moment of its first crew
     incidents: int = 0  # that a system has made of it

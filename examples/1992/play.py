@@ -79,7 +79,7 @@ def played_in_room(settings, days: int, program: str, folder: pathlib.Path) -> W
 
 
 def run_room(values, rate: float, days: int, program: str, keep: pathlib.Path | None) -> dict:
-    """What comes of days in the room at a rate; its files are kept in a folder if one is told."""
+    """What comes of days in the room at a rate; its files are kept in a folder if one is given."""
     with tempfile.TemporaryDirectory(dir=MEMORY if MEMORY.is_dir() else None) as name:
         folder = pathlib.Path(name)
         settings = parameters.at_rate(values, rate)

@@ -35,11 +35,12 @@ METHODS = {'GET', 'POST', 'HEAD', '-'}
 # The paths of the room, with N, C and DAY for numbers, callsigns and days. What else a client
 # makes up is 'other', so that nobody outside decides how much there is to keep.
 PATHS = """
-    - /call /report /order /queue /queue/C/N/clear /loans /offers /points /points/N /times/DAY
-    /incidents /incidents/N/propose /incidents/N/mobilise /incidents/N/needs /incidents/N/merge
-    /incidents/N/close /vehicles /vehicles/C/duty /vehicles/C/off /vehicles/C/standdown
-    /vehicles/C/standby /vehicles/C/lend /vehicles/C/withdraw /vehicles/C/decline
-    /vehicles/C/accept /vehicles/C/recall /vehicles/C/giveback
+    - /call /report /order /last /queue /queue/C/N/clear /loans /offers /points /points/N
+    /times/DAY /incidents /incidents/N /incidents/N/propose /incidents/N/mobilise
+    /incidents/N/needs /incidents/N/merge /incidents/N/close /vehicles /vehicles/C/duty
+    /vehicles/C/off /vehicles/C/standdown /vehicles/C/standby /vehicles/C/lend
+    /vehicles/C/withdraw /vehicles/C/decline /vehicles/C/accept /vehicles/C/recall
+    /vehicles/C/giveback
     """.split()
 OTHER = 'other'
 FORMS = {r'\bN\b': r'\\d{1,10}', r'\bC\b': '[A-Z0-9]{1,8}', r'\bDAY\b': r'\\d{4}-\\d\\d-\\d\\d'}
@@ -240,7 +241,7 @@ class Page(http.server.BaseHTTPRequestHandler):
 
 
 def serve(port, log, room):
-    """Serves from now on, at loopback alone."""
+    """Serves from now on, on loopback only."""
     server = http.server.ThreadingHTTPServer(('127.0.0.1', port), Page)
     server.daemon_threads, server.log, server.room = True, log, room
     threading.Thread(target=server.serve_forever, daemon=True).start()

@@ -1,4 +1,4 @@
-"""A terminal's request while it waits, and what it is told where there is no answer."""
+"""A terminal's request while it waits, and what it gets where there is no answer."""
 import dataclasses
 
 import messages

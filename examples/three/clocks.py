@@ -1,9 +1,9 @@
-"""The clocks of a machine: time that passes also while it sleeps, the moment that it tells, and the
+"""The clocks of a machine: time that passes also while it sleeps, the moment that it gives, and the
 moments that the other machines tell."""
 import dataclasses
 import time
 
-AHEAD = 60  # seconds that a record's moment may be above what the others tell
+AHEAD = 60  # seconds that a record's moment may be above what the others report
 LAST_MOMENT = 4_102_444_799  # the end of 2099
 
 
@@ -19,7 +19,7 @@ def moment() -> int:
 
 @dataclasses.dataclass(frozen=True)
 class Heard:
-    """What a machine told: by the revision of etcd that has it, its moment, and when it was heard
+    """What a machine gave: by the revision of etcd that has it, its moment, and when it was heard
     first. What stood there already is of unknown age, and tells nothing."""
     revision: int
     moment: int

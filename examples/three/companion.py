@@ -34,7 +34,7 @@ from said import say
 from upkeep import OUT, OUTCOMES, WORDS, Upkeep, difference, digests_told, last_agreed
 
 WAITS = 60.0  # seconds that a command waits for the machines
-HEARS = 10.0  # seconds in which a machine that runs tells of itself
+HEARS = 10.0  # seconds in which a machine that runs reports on itself
 LOST = 3  # the status where another start finds a copy that is whole and in the list
 
 
@@ -82,7 +82,7 @@ def last_place(kept: KeptList) -> Place:
 
 
 def put_record(given: argparse.Namespace, record: Record) -> None:
-    """Puts a record at the list's end, and tells what the machines made of it."""
+    """Puts a record at the list's end, and reports what the machines made of it."""
     kept, until = kept_list(given), time.monotonic() + WAITS
     while True:
         place = last_place(kept)
@@ -115,7 +115,7 @@ def token(given: argparse.Namespace) -> None:
 
 
 def word_of(kept: KeptList, machine: int) -> list:
-    """What a machine told of itself last."""
+    """What a machine last reported of itself."""
     return [it for it in kept.values(WORDS) if it[0] == str(machine)]
 
 

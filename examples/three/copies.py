@@ -46,7 +46,7 @@ def make_folder(folder: pathlib.Path) -> None:
 
 @contextlib.contextmanager
 def alone(folder: pathlib.Path) -> collections.abc.Iterator[None]:
-    """Has a folder for one companion alone."""
+    """Has a folder for one companion only."""
     with (folder / 'lock').open('w') as lock:
         try:
             fcntl.flock(lock, fcntl.LOCK_EX | fcntl.LOCK_NB)

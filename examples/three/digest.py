@@ -1,4 +1,4 @@
-"""The digest of a room's file, as docs/FILES.md tells it: SHA-256 of all rows, or in version 1 of
+"""The digest of a room's file, as docs/FILES.md defines it: SHA-256 of all rows, or in version 1 of
 all but that of the zone. The file is one that no program has open.
 
   python3 digest.py ROOM        prints it"""

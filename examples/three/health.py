@@ -20,7 +20,7 @@ ROLES = 'desk', 'position'
 
 
 class Health:
-    """What is told of a machine."""
+    """What is reported of a machine."""
 
     def __init__(self, machine: Machine, upkeep: Upkeep):
         self.machine, self.upkeep = machine, upkeep

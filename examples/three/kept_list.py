@@ -116,7 +116,7 @@ class KeptList:
                 get(span(key_of(known.number + 1), AFTER_LIST), limit=MOST_READ, **how)]
 
     def found(self, known: Place, told: dict, is_latest: bool = True) -> Found:
-        """What looks gave, of one moment. A place that is known and not in the list is told, where
+        """What looks gave, of one moment. A place that is known and not in the list is shown, where
         most members were asked: one that was away may have less."""
         heads, stops, rows = (it['response_range'] for it in told['responses'])
         stopped = ''.join(value.decode(errors='replace') for _, value in pairs(stops))

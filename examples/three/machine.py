@@ -26,12 +26,12 @@ TRY_EVERY = 0.2  # seconds until what failed is tried again
 MOST_BEHIND = 2000  # records that the room may be behind by while more are kept
 MOST_WAITING = 1000  # requests
 BEATS_EVERY = 0.1  # seconds between two looks at the clock
-HELD = 1.0  # seconds: a look that comes so late tells that this process was held
+HELD = 1.0  # seconds: a look that comes so late shows that this process was held
 
 
 @dataclasses.dataclass(frozen=True)
 class Settings:
-    """What a machine is told."""
+    """What a machine is given."""
     machine: int
     of: int
     listen: tuple[str, int]
@@ -39,7 +39,7 @@ class Settings:
     trusts_clock: bool
     log: bool
     history: int  # revisions that etcd keeps behind the newest
-    away_after: float  # seconds of another machine's silence, after which it is told
+    away_after: float  # seconds of another machine's silence, after which it is reported
 
 
 class Machine:

@@ -1,4 +1,4 @@
-"""What each of three machines is told: its member of etcd, and its companion. On one's own all
+"""What each of three machines is given: its member of etcd, and its companion. On one's own all
 three are on loopback; else each has an address."""
 import dataclasses
 import pathlib
@@ -28,7 +28,7 @@ class Machine:
         return f'{"https" if self.certificates else "http"}://{address}'
 
     def settings(self) -> dict[str, str]:
-        """What its member of etcd is told, by the names of etcd's words."""
+        """What its member of etcd is given, by the names of etcd's words."""
         client, peer = self.url(self.etcd), self.url(self.peers[self.number - 1])
         members = (f'm{at}={self.url(it)}' for at, it in enumerate(self.peers, 1))
         return {'name': f'm{self.number}', 'data-dir': f'{self.folder}/etcd', 'logger': 'zap',

@@ -129,7 +129,7 @@ class PlayedRoom:
             raise Ended('the room is silent')
 
     async def end(self) -> None:
-        """Ends the program, which then has all that it was handed in its file alone."""
+        """Ends the program, which then has all that it was handed in its file only."""
         self.process.stdin.close()
         try:
             async with asyncio.timeout(ENDS_WITHIN):

@@ -100,7 +100,7 @@ class Player:
             await room.drop()
 
     async def start(self, room: PlayedRoom) -> None:
-        """Starts the program. Its first answer, to nobody's question, tells that it has opened the
+        """Starts the program. Its first answer, to nobody's question, says that it has opened the
         room."""
         self.is_open = False
         await asyncio.to_thread(self.look_at, room.file if room.file.exists() else room.copy.file)

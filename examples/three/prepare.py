@@ -19,7 +19,7 @@ TERMINALS, CLIENTS, PEERS = '127.0.0.1:8080', '127.0.0.1:2379', 2380
 
 
 def machine_at(number: int, addresses: list[str]) -> Machine:
-    """A machine as it is told of in its own files."""
+    """A machine as its own files describe it."""
     peers = tuple(f'{it}:{PEERS}' for it in addresses)
     return Machine(number, STATE, TERMINALS, CLIENTS, peers, AT)
 

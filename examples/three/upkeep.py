@@ -1,4 +1,4 @@
-"""What a machine does beside serving: it tells the others its clock and its copies, compares
+"""What a machine does beside serving: it gives the others its clock and its copies, compares
 copies, and keeps the list short and etcd within its quota."""
 import asyncio
 import collections
@@ -13,7 +13,7 @@ from kept_list import ROOM, STOPPED, KeptList, delete, is_none, put, span
 from machine import Machine
 from said import say
 
-WORDS = f'{ROOM}machines/'  # what each machine tells of itself
+WORDS = f'{ROOM}machines/'  # what each machine reports of itself
 COPIES = f'{ROOM}copies/'  # up to which record each machine has a copy
 DIGESTS = f'{ROOM}digests/'  # of copies, by the number of their last record and the machine
 OUT = f'{ROOM}out/'  # machines that are not counted
@@ -21,14 +21,14 @@ OUTCOMES = f'{ROOM}outcomes/'  # of records that are no messages
 TELLS_EVERY, TELLS_WITHIN = 1.0, 5.0  # seconds
 MEASURES_EVERY = 5.0  # seconds between two looks at etcd's quota
 COPIES_APART = 10.0  # seconds between copies of a machine whose etcd is half full
-COMPACTS_EVERY = 300.0  # seconds: what machines tell of themselves each second is let go
-SLOT = 5  # seconds in which one machine alone may give its member's free pages back
-WARNED, FULL = 0.5, 0.8  # parts of the quota: it is told, and no more is taken
+COMPACTS_EVERY = 300.0  # seconds: what machines report of themselves each second is let go
+SLOT = 5  # seconds in which only one machine may give its member's free pages back
+WARNED, FULL = 0.5, 0.8  # parts of the quota: it is reported, and no more is taken
 WASTED = 0.5  # the part of a member's file in use, below which it is made anew
 
 
 def digests_told(kept: KeptList) -> dict[int, dict[int, str]]:
-    """The digests that machines have told, by the record and the machine."""
+    """The digests that machines have reported, by the record and the machine."""
     found: dict[int, dict[int, str]] = collections.defaultdict(dict)
     for key, value, _ in kept.values(DIGESTS):
         number, _, machine = key.partition('/')
@@ -38,7 +38,7 @@ def digests_told(kept: KeptList) -> dict[int, dict[int, str]]:
 
 
 def difference(told: dict[int, dict[int, str]]) -> str:
-    """What two machines tell otherwise of one record, or nothing."""
+    """What two machines report differently of one record, or nothing."""
     for number, by in sorted(told.items()):
         one = min(by)
         for other in sorted(by):
@@ -73,7 +73,7 @@ class Upkeep:
         self.machine, self.kept = machine, machine.tending
         self.me = machine.settings.machine
         self.others = [it for it in range(1, machine.settings.of + 1) if it != self.me]
-        self.words: dict[int, dict] = {}  # what the other machines told last
+        self.words: dict[int, dict] = {}  # what the other machines last reported
         self.sizes = 0, 0, 0  # of etcd's file, what of it is in use, and the quota
         self.measured, self.compacted = float('-inf'), passed()
         self.copied = passed()
@@ -145,7 +145,7 @@ class Upkeep:
             else:
                 self.drop(telling)
         except Unreached as reason:
-            say(reason)  # it is told with the next copy
+            say(reason)  # it is given with the next copy
 
     def drop(self, kept: KeptList, is_urgent: bool = False) -> None:
         """Lets go of what each machine that counts has in two copies, or where space is short in

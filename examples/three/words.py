@@ -19,7 +19,7 @@ def address(text: str) -> tuple[str, int]:
 
 
 def loopback(text: str) -> tuple[str, int]:
-    """An address of this machine alone."""
+    """An address of this machine only."""
     host, port = address(text)
     if not ipaddress.ip_address(host).is_loopback:
         raise argparse.ArgumentTypeError(f'{text!r} is not of loopback')

@@ -4,7 +4,7 @@ import re
 
 from .rows import CHANGED, TABLES
 
-SQL = 'Rattle.room_tables_sql'
+LAWS = 'Rattle.room_tables_laws'
 ROWS = 'Rattle.room_tables_rows'
 TYPES = 'Rattle.room_types.specs'
 SCHEMA = 'Rattle.room_tables_schema.specs'
@@ -25,17 +25,17 @@ OF_ALL = {
     'Rattle.sqlite.specs.Effect': 'Database',
     'Rattle.sqlite.specs.Listing': 'understood',
     'Rattle.sqlite.specs.State': 'State Executes',
-    f'{SQL}.specs.Outcomes': 'Inside Only',
-    f'{SQL}.specs.Statements':
+    f'{LAWS}.specs.Outcomes': 'Inside Only',
+    f'{LAWS}.specs.Statements':
         'Selects StandsAlone Inserts Upserts Overwrites Deletes Stores Covers equals '
         'equals_by_value at_least below row_values row_update rowid_values rowid_update',
-    f'{SQL}.specs.Typed': 'number',
-    f'{SQL}.proofs.ColumnValues': 'AreKept cast-Int cast-Null cast-number_or_null',
-    f'{SQL}.proofs.Comparisons':
+    f'{LAWS}.specs.TypedRows': 'number',
+    f'{LAWS}.proofs.ColumnValues': 'AreKept cast-Int cast-Null cast-number_or_null',
+    f'{LAWS}.proofs.Comparisons':
         'and_then and_last equal-by_value equal-numbers tie-numbers tie-texts tie_of_one '
         'tie_of_two conflict_of_one conflict_of_two is_eq-then compare_by',
-    f'{SQL}.proofs.Standing': 'holds_still holds_none',
-    f'{SQL}.proofs.StoredRows': 'stores_row covers_row stores_rowid',
+    f'{LAWS}.proofs.Standing': 'holds_still holds_none',
+    f'{LAWS}.proofs.StoredRows': 'stores_row covers_row stores_rowid',
     'Rattle.room_place.specs.declared.plans.Area': 'Area',
     'Rattle.room_types_keyed.specs.Keyed': 'put_row row_at',
     f'{TYPES}.Codes': 'outcome_number state_number is_active',
@@ -48,11 +48,11 @@ OF_ALL = {
     'Rattle.room_model.specs.Enrol': 'token_cmp terminal_key',
     f'{SCHEMA}.Definitions': 'IsBlank',
     f'{SCHEMA}.Schema': 'room_schema',
-    f'{ROWS}.specs.Columns': 'truth outcome_code',
-    f'{ROWS}.specs.Keys': 'number_cells text_cells pair_cells numbered_cells',
-    f'{ROWS}.specs.Meta': 'meta_key',
-    f'{ROWS}.specs.Areas': 'area_key',
-    f'{ROWS}.specs.Stands': 'House Stands StandsFor numbered empty_room',
+    f'{ROWS}.specs.ColumnValues': 'truth outcome_code',
+    f'{ROWS}.specs.KeyColumns': 'number_cells text_cells pair_cells numbered_cells',
+    f'{ROWS}.specs.MetaColumns': 'meta_key',
+    f'{ROWS}.specs.AreaColumns': 'area_key',
+    f'{ROWS}.specs.Stands': 'Configuration Stands StandsFor numbered empty_room',
     f'{ROWS}.specs.Tables':
         'IsHeld SelectsChosen InsertsRow PutsRow IsTable IsDropped IsOverwritten',
     f'{ROWS}.specs.Writes': 'Changes',
@@ -75,8 +75,8 @@ def statements(table):
 
 def homes_of(table):
     """The modules of what a table brings, each with its names."""
-    yield f'{ROWS}.specs.declared.{table.name}.TheConstants', ' '.join(statements(table))
-    yield f'{ROWS}.specs.{table.name.capitalize()}', f'{table.row}_row'
+    yield f'{ROWS}.specs.declared.{table.row}_columns.TheConstants', ' '.join(statements(table))
+    yield f'{ROWS}.specs.{table.row.capitalize()}Columns', f'{table.row}_row'
     yield f'{ROWS}.proofs.RowLaws', f'{table.row}_faithful'
     yield f'{ROWS}.proofs.Kept', f'with_{table.name}'
     yield f'{SCHEMA}.Schema', f'{table.name}_table'

@@ -3,8 +3,8 @@ from .antt import Text
 from .rows import META, TABLES
 
 MODULE = Text(r"""
-module _ (old new : Database) (house : House) (room : Room) \
-    (h : Stands old.trees house room) where
+module _ (old new : Database) (config : Configuration) (room : Room) \
+    (h : Stands old.trees config room) where
 """.rstrip())
 
 WITH = Text(r"""
@@ -55,7 +55,7 @@ def with_rows(table):
     record = f'(record {table.of} {{ {field} = {field} }})'
     return WITH.substitute(
         table.names, field=field, field_type=field_type, value=table.made.format(field),
-        changed=f'{record} room' if table.of == 'house' else f'house {record}',
+        changed=f'{record} room' if table.of == 'config' else f'config {record}',
         fields=fields(table, still, ' ' * 8))
 
 

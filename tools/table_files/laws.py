@@ -3,8 +3,8 @@ from .antt import Text
 from .rows import CHANGED, KEYED, TERMINALS
 
 HELD = Text(r"""
-abbrev all_of : House → Room → List $element
-all_of house room = $rows
+abbrev all_of : Configuration → Room → List $element
+all_of config room = $rows
 
 pub ${table}_alone : StandsAlone room_schema $number ${table}_table
 ${table}_alone = record { is_there = refl; unreferenced = λ olds news. refl; uncounted = refl }
@@ -12,7 +12,7 @@ ${table}_alone = record { is_there = refl; unreferenced = λ olds news. refl; un
 abbrev pub ${table}_held : IsHeld $typed ${table}_table all_of
 ${table}_held = record { faithful = ${row}_faithful; others = $other_places; \
     places_are = refl; at = $number; alone = ${table}_alone; \
-    held = λ trees house room h. h.$table }
+    held = λ trees config room h. h.$table }
 """)
 
 MEANS = Text(r"""
@@ -35,14 +35,14 @@ ${name}_chooses $variables = \
 
 SHOWS = Text(r"""
 pub ${name}_are : $arguments → Shows ${row}_row $text.now ($parameters) \
-    (λ found house room. found ≡ filter ($chosen) $rows)
+    (λ found config room. found ≡ filter ($chosen) $rows)
 ${name}_are $variables = \
     chosen_rows ${table}_held $text.now ($parameters) ($chosen) (${name}_chooses $variables)
 """)
 
 SHOWS_ROW = Text(r"""
 pub ${name}_is : $arguments → ShowsRow ${row}_row $text.now ($parameters) \
-    (λ found house room. found ≡ row_at $order ${row}_key $rows $key)
+    (λ found config room. found ≡ row_at $order ${row}_key $rows $key)
 ${name}_is $variables = \
     row_of_key ${table}_held $text.now ($parameters) $key (${name}_chooses $variables)
 """)

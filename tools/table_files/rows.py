@@ -19,7 +19,7 @@ class Table:
     inserts: bool = False
     overwrites: bool = False
     drops: bool = False
-    # The rows are a field of the room or of the house, or are made of it. It has the table's name
+    # The rows are a field of the room or of the config, or are made of it. It has the table's name
     # and is a list of rows where nothing else is said.
     of: str = 'room'
     field: str = ''
@@ -73,7 +73,7 @@ class Table:
             'update': f'{layout}_update {len(columns)}',
             'order': self.key.order, 'cells': self.key.cells,
             'typed': f'{self.key.order} {self.row}_key {self.row}_row',
-            'after': f'with_{self.name} old new house room h only _ is',
+            'after': f'with_{self.name} old new config room h only _ is',
         }
 
 
@@ -89,11 +89,11 @@ HAS_OUTCOME = Condition('outcome', 'outcome_code o',
                         'outcome_number x.outcome == outcome_number o')
 IS_UNCLEARED = Condition('cleared', 'truth false', 'equal-false x.cleared', 'not x.cleared')
 
-META = Table('meta', 'meta', 'List ℕ', ('1',), of='house', field='zone', field_type='List ℕ',
+META = Table('meta', 'meta', 'List ℕ', ('1',), of='config', field='zone', field_type='List ℕ',
              made='({} ∷ [])')
 AREAS = Table('areas', 'area', 'ℕ × Area', ('x.0',), field='plan', field_type='List Area',
               made='(numbered 1 {})')
-TERMINALS = Table('terminals', 'terminal', 'Terminal', ('x.token',), of='house', key_is=keys.TOKEN)
+TERMINALS = Table('terminals', 'terminal', 'Terminal', ('x.token',), of='config', key_is=keys.TOKEN)
 
 # The tables whose rows the changes of a room put.
 CHANGED = (
@@ -106,6 +106,7 @@ CHANGED = (
     ), inserts=True, overwrites=True),
     Table('calls', 'call', 'Call', ('x.position', 'x.serial'), loads=(
         load('calls_of', *OF_INCIDENT),
+        load('calls_by', {'p': 'ℕ'}, equal_number('position', 'p')),
     ), inserts=True),
     Table('vehicles', 'vehicle', 'Vehicle', ('x.callsign',), overwrites=True),
     Table('turns', 'turn', 'Turn', ('x.callsign', 'x.order'), loads=(

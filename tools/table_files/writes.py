@@ -42,10 +42,10 @@ pub put_${row}_makes : (x : $type) (old new : State) (count : ℕ) → \
     Executes PUT_$ROW.now (${row}_row x) old new (Ok count)
     → Changes old new ($made) (λ room. room)
 put_${row}_makes x = put_changes ${table}_held PUT_$ROW.now ${row}_puts x ($made) (λ room. room) \
-    (λ old new house room h only is. $after)
+    (λ old new config room h only is. $after)
 """)
 
-MADE = Text('λ house. record house { $table = put_row $order ${row}_key house.$table x }')
+MADE = Text('λ config. record config { $table = put_row $order ${row}_key config.$table x }')
 
 IS_TABLE = Text(r"""
 pub ${table}_are : IsTable $typed $cells ${table}_table (λ room. $rows) Put$type \
@@ -55,7 +55,7 @@ ${table}_are = record {
   selects_all = all_${table}_means;
   selects_at = λ k. ${row}_at_chooses $parts_of_k;
   puts = ${row}_puts;
-  leads = λ old new house room x h only is. $after;
+  leads = λ old new config room x h only is. $after;
 }
 """)
 
@@ -87,7 +87,7 @@ pub ${table}_overwritten : \
     IsOverwritten ${table}_table ${row}_row (λ room. $rows) OVERWRITE_$ROW.now
 ${table}_overwritten = record { at = $number; alone = ${table}_alone; columns = $width; \
     overwrites = overwrite_${row}_means; covers = ${row}_covers; \
-    stays = λ old new house room h only is. $after }
+    stays = λ old new config room h only is. $after }
 """)
 
 DROPS = Text(r"""
@@ -101,7 +101,7 @@ ${table}_dropped = record {
   at = $number;
   alone = ${table}_alone;
   deletes = λ k. record { terms = $terms; deletes = drop_${row}_means; chooses = $chooses };
-  leads = λ old new house room k h only is. $after;
+  leads = λ old new config room k h only is. $after;
 }
 """)
 

@@ -4,8 +4,8 @@
 #![tactic(auto)]
 
 use dispatch_room_commands::commands::{USAGE, command};
-use dispatch_room_endings::endings::{Failure, end};
-use dispatch_room_example::streams::run;
+use dispatch_room_dry_run::standard_streams::run;
+use dispatch_room_exit::exit_status::{Failure, end};
 use std::process::ExitCode;
 use std::{env, io};
 

@@ -7,11 +7,11 @@ use Rattle.httpdate.proofs.Theorems.{IsDateText_unique}
 use Rattle.httpdate.specs.Date.{IsDateText, unix_secs}
 use Rattle.httpdate.specs.Valid.{parts_secs}
 use Rattle.httpdate.specs.declared.date.HttpDate.{HttpDate}
-use Rattle.room_http_messages.specs.Fields.{only_value}
+use Rattle.room_http_messages.specs.HeadFields.{only_value}
 use Rattle.room_http_messages.specs.Rules.{is_numeral}
-use Rattle.dispatch_room_board.specs.declared.messages.TheConstants.{TOO_LONG}
+use Rattle.dispatch_room_board.specs.declared.heard_answers.TheConstants.{TOO_LONG}
 use Rattle.dispatch_room_board.specs.Members.{IsRead, last_moment}
-use Rattle.dispatch_room_board.specs.Messages.{Announces, IsDateOf, IsDated}
+use Rattle.dispatch_room_board.specs.HeardAnswers.{Announces, IsDateOf, IsDated}
 
 pub none_announced : (values : List (List ℕ)) → None ≡ only_value values
     → IsRead (Announces values) None

@@ -11,16 +11,16 @@ use Rattle.httparse.specs.Grammar.{HasNoResponse, MayBecomeResponse, ReadsRespon
 use Rattle.httparse.specs.Spans.{IsResponseOf, ResponseOverflows, header_bytes}
 use Rattle.httparse.specs.declared.spans.ResponseSpans.{ResponseSpans}
 use Rattle.httparse.specs.declared.spans.HeaderSpan.{HeaderSpan}
-use Rattle.room_http_messages.specs.Fields.{Fields, values_of}
+use Rattle.room_http_messages.specs.HeadFields.{Fields, values_of}
 use Rattle.room_http_messages.specs.declared.limits.TheConstants.{FIELD_LIMIT}
-use Rattle.dispatch_room_board.specs.declared.messages.Message.{Message}
-use Rattle.dispatch_room_board.specs.declared.troubles.Trouble.{Trouble}
-use Rattle.dispatch_room_board.specs.declared.troubles.Trouble.TheVariants.{Unheard, Foreign, Refused}
-use Rattle.dispatch_room_board.specs.Boards.{Befalls, IsDatedAnswer, IsHeardAt, IsListed}
-use Rattle.dispatch_room_board.specs.Listed.{IsJson, IsList, IsNoAnswer}
-use Rattle.dispatch_room_board.specs.Members.{HasMember, IsRead}
-use Rattle.dispatch_room_board.specs.Messages.{Announces, HasNoMessage, IsDated, IsMessage, IsNoMessage, fields_in}
-use Rattle.dispatch_room_board.specs.Troubles.{IsTold}
+use Rattle.dispatch_room_board.specs.declared.heard_answers.HeardAnswer.{HeardAnswer}
+use Rattle.dispatch_room_board.specs.declared.board_errors.BoardError.{BoardError}
+use Rattle.dispatch_room_board.specs.declared.board_errors.BoardError.TheVariants.{Unheard, Foreign, Refused}
+use Rattle.dispatch_room_board.specs.Boards.{Befalls, IsDatedAnswer, IsHeardAt, IsNext}
+use Rattle.dispatch_room_board.specs.AnswerRows.{IsJson, IsNoAnswer}
+use Rattle.dispatch_room_board.specs.Members.{IsRead}
+use Rattle.dispatch_room_board.specs.HeardAnswers.{Announces, HasNoMessage, IsDated, IsMessage, IsNoMessage, fields_in}
+use Rattle.dispatch_room_board.specs.BoardErrors.{IsTold}
 
 pub no_head : (bytes : List ℕ) → HasNoResponse bytes → MayBecomeResponse bytes
     → IsNoMessage bytes Unheard
@@ -31,7 +31,7 @@ never_head bytes over more m rest is = omega (arith, is.few, over more is.head _
 
 -- a head that is read, and as many bytes behind it as it announces
 pub message_read : (bytes rest : List ℕ) (spans : List HeaderSpan) (head : ResponseSpans)
-    (m : Message) (size : ℕ) → IsResponseOf bytes spans head
+    (m : HeardAnswer) (size : ℕ) → IsResponseOf bytes spans head
     → length spans ≤ FIELD_LIMIT → m.code ≡ head.code
     → IsSplitAt (take (length bytes - head.len) (drop head.len bytes)) size m.content.now rest
     → IsRead (Announces (values_of (codes "content-length")
@@ -80,16 +80,16 @@ cut_short bytes rest h fields size reads are announces less =
         omega (arith, less, long, ap length same.1, length-append m.content.now back)
 
 -- why there is none now
-pub no_message : (bytes : List ℕ) (t : Trouble) → IsNoMessage bytes t → HasNoMessage bytes
+pub no_message : (bytes : List ℕ) (t : BoardError) → IsNoMessage bytes t → HasNoMessage bytes
 no_message bytes Unheard h = h.0
 no_message bytes Foreign h = rw append-nil at (h [])
 no_message bytes (Refused number name) h = absurd h
 
-pub nothing_heard : (bytes : List ℕ) (t : Trouble) → IsNoMessage bytes t
+pub nothing_heard : (bytes : List ℕ) (t : BoardError) → IsNoMessage bytes t
     → IsRead (IsHeardAt bytes) None
 nothing_heard bytes t none = record { is = λ moment h. no_message bytes t none h.0 h.1 h.2 }
 
-pub heard_at : (bytes rest : List ℕ) (m : Message) (moment : Option ℕ) → moment ≡ m.moment
+pub heard_at : (bytes rest : List ℕ) (m : HeardAnswer) (moment : Option ℕ) → moment ≡ m.moment
     → IsMessage bytes m rest → IsRead (IsHeardAt bytes) moment
 heard_at bytes rest m None same is = record { is = not }
   where
@@ -103,32 +103,30 @@ heard_at bytes rest m (Some moment) same is = record { is = (m, rest, is, sym sa
 same_json : (bytes : List ℕ) (d e : Data) → IsJson bytes d → IsJson bytes e → d ≡ e
 same_json bytes d e x y = same_Some d e (sym x.1 ∙ y.1)
 
--- an answer that is no refusal lists what is found in it, if it has a date
-pub listed_or_not : {T : Type 0} (says : Data → T → Type 0) (name : List ℕ) (m : Message)
-    (d : Data) (r : Result (List T × ℕ) Trouble) (o : Option (List T))
-    → r ≡ ok_or (option_zip o m.moment) Foreign → m.code ≡ 200 → IsJson m.content.now d
-    → IsRead (HasMember (IsList says) name d) o
-    → MatchResult r (IsDatedAnswer says name m) (IsNoAnswer (IsDatedAnswer says name m) m)
-listed_or_not {T} says name m d r o is ok json found = rw is (either o m.moment refl found)
+-- an answer that is no refusal gives what is found in it, if it has a date
+pub given_or_not : {T : Type 0} (gives : Data → T → Type 0) (m : HeardAnswer) (d : Data)
+    (r : Result (T × ℕ) BoardError) (o : Option T) → r ≡ ok_or (option_zip o m.moment) Foreign
+    → m.code ≡ 200 → IsJson m.content.now d → IsRead (gives d) o
+    → MatchResult r (IsDatedAnswer gives m) (IsNoAnswer (IsDatedAnswer gives m) m)
+given_or_not {T} gives m d r o is ok json found = rw is (either o m.moment refl found)
   where
-    either : (o : Option (List T)) (moment : Option ℕ) → moment ≡ m.moment
-        → IsRead (HasMember (IsList says) name d) o
-        → MatchResult (ok_or (option_zip o moment) Foreign) (IsDatedAnswer says name m)
-        (IsNoAnswer (IsDatedAnswer says name m) m)
+    either : (o : Option T) (moment : Option ℕ) → moment ≡ m.moment → IsRead (gives d) o
+        → MatchResult (ok_or (option_zip o moment) Foreign) (IsDatedAnswer gives m)
+        (IsNoAnswer (IsDatedAnswer gives m) m)
     either None moment same found =
         (record { is = λ x h. found.is x.0 (rw (same_json _ d h.0.0 json h.0.2) h.0.3) }, record { is = λ t h. h.1 ok })
-    either (Some rows) None same found = (record { is = λ x h. none-some x.1 (same ∙ h.1) }, record { is = λ t h. h.1 ok })
-    either (Some rows) (Some moment) same found = ((d, ok, json, found.is), sym same)
+    either (Some it) None same found = (record { is = λ x h. none-some x.1 (same ∙ h.1) }, record { is = λ t h. h.1 ok })
+    either (Some it) (Some moment) same found = ((d, ok, json, found.is), sym same)
 
--- any other refuses as is told in it
-pub refused_or_not : {T : Type 0} (says : Data → T → Type 0) (name : List ℕ) (m : Message)
-    (d : Data) (t : Trouble) (o : Option Trouble)
+-- any other refuses as it says
+pub refused_or_not : {T : Type 0} (gives : Data → T → Type 0) (m : HeardAnswer) (d : Data)
+    (t : BoardError) (o : Option BoardError)
     → t ≡ unwrap_or o Foreign → m.code ≢ 200 → IsJson m.content.now d → IsRead (IsTold d) o
-    → IsNoAnswer (IsDatedAnswer says name m) m t
-refused_or_not says name m d t o is bad json found = rw is (either o found)
+    → IsNoAnswer (IsDatedAnswer gives m) m t
+refused_or_not gives m d t o is bad json found = rw is (either o found)
   where
-    either : (o : Option Trouble) → IsRead (IsTold d) o
-        → IsNoAnswer (IsDatedAnswer says name m) m (unwrap_or o Foreign)
+    either : (o : Option BoardError) → IsRead (IsTold d) o
+        → IsNoAnswer (IsDatedAnswer gives m) m (unwrap_or o Foreign)
     either None found =
         (record { is = λ x h. bad h.0.1 }, record { is = λ t h. found.is t (rw (same_json _ d h.0 json h.2) h.3) })
     either (Some Unheard) found = absurd found.is
@@ -136,9 +134,9 @@ refused_or_not says name m d t o is bad json found = rw is (either o found)
     either (Some (Refused number error)) found = (d, bad, json, found.is)
 
 -- what the next answer gives
-pub next_listed : {T : Type 0} (says : Data → T → Type 0) (name heard rest : List ℕ) (m : Message)
-    (found : Result (List T × ℕ) Trouble) → IsMessage heard m rest
-    → MatchResult found (IsDatedAnswer says name m) (IsNoAnswer (IsDatedAnswer says name m) m)
-    → MatchResult found (IsListed says name heard rest) (Befalls says name heard rest)
-next_listed says name heard rest m (Ok rows) is h = (m, is, h)
-next_listed says name heard rest m (Err t) is h = inr (m, is, h)
+pub next_given : {T : Type 0} (gives : Data → T → Type 0) (heard rest : List ℕ) (m : HeardAnswer)
+    (found : Result (T × ℕ) BoardError) → IsMessage heard m rest
+    → MatchResult found (IsDatedAnswer gives m) (IsNoAnswer (IsDatedAnswer gives m) m)
+    → MatchResult found (IsNext gives heard rest) (Befalls gives heard rest)
+next_given gives heard rest m (Ok it) is h = (m, is, h)
+next_given gives heard rest m (Err t) is h = inr (m, is, h)

@@ -6,3 +6,6 @@ pub mod Readings
 pub mod Heard
 pub mod Answered
 pub mod Shown
+pub mod Notes
+pub mod HistoryLines
+pub mod Growing

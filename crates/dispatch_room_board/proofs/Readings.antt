@@ -5,11 +5,11 @@ use Rattle.std.specs.Option.{option_zip}
 use Rattle.std.proofs.lemmas.Option.{same_Some}
 use Rattle.serde_json.specs.Data.{Data}
 use Rattle.serde_json.specs.Find.{as_str}
-use Rattle.dispatch_room_board.specs.declared.troubles.Trouble.{Trouble}
-use Rattle.dispatch_room_board.specs.declared.troubles.Trouble.TheVariants.{Unheard, Foreign, Refused}
-use Rattle.dispatch_room_board.specs.declared.troubles.Name.{Name}
+use Rattle.dispatch_room_board.specs.declared.board_errors.BoardError.{BoardError}
+use Rattle.dispatch_room_board.specs.declared.board_errors.BoardError.TheVariants.{Unheard, Foreign, Refused}
+use Rattle.dispatch_room_board.specs.declared.board_errors.Name.{Name}
 use Rattle.dispatch_room_board.specs.Members.{HasMember, IsByte, IsRead}
-use Rattle.dispatch_room_board.specs.Troubles.{IsName, IsNameOf, IsTold}
+use Rattle.dispatch_room_board.specs.BoardErrors.{IsName, IsNameOf, IsTold}
 
 -- two are read where each is
 pub read_both : {A B : Type 0} {P : A → Type 0} {Q : B → Type 0} {r : Option A} {s : Option B}
@@ -35,13 +35,13 @@ pub read_name : (d : Data) (text : List ℕ) (r : Option Name) → Some text ≡
 read_name d text None is read = record { is = λ name h. let e = same_Some text h.0 (is ∙ h.1) in read.is name (rw e h.2) }
 read_name d text (Some name) is read = record { is = (text, sym is, read.is) }
 
--- nothing is told where there is no number with a name
+-- nothing is reported where there is no number with a name
 pub none_told : (d : Data) → IsRead {T = ℕ × Name}
     (λ x. HasMember IsByte (codes "number") d x.0 × HasMember IsName (codes "error") d x.1) None
     → IsRead (IsTold d) None
 none_told d none = record { is = not }
   where
-    not : (t : Trouble) → ¬ IsTold d t
+    not : (t : BoardError) → ¬ IsTold d t
     not Unheard h = h
     not Foreign h = h
     not (Refused number name) h = none.is (number, name) (h.0, h.1)

@@ -6,7 +6,7 @@ use Rattle.serde_json.specs.Data.{Data}
 use Rattle.serde_json.specs.Find.{as_array, get}
 use Rattle.serde_json.specs.declared.value.Value.{Value}
 use Rattle.serde_json.specs.View.{view, items_view}
-use Rattle.dispatch_room_board.specs.Listed.{AreRows, IsList}
+use Rattle.dispatch_room_board.specs.AnswerRows.{AreRows, IsList}
 use Rattle.dispatch_room_board.specs.Members.{HasMember, IsRead}
 
 more_at_end : {T : Type 0} (says : Data → T → Type 0) (vs : List Value) (rows : List T) (v : Value)

@@ -5,7 +5,7 @@ use Rattle.std.proofs.lemmas.List.{append-nil, take_more}
 use Rattle.dispatch_room_board.specs.declared.pages.Page.{Page}
 use Rattle.dispatch_room_board.specs.declared.pages.Paint.TheVariants.{Plain, Title}
 use Rattle.dispatch_room_board.specs.Pages.{Adds, spaced_line, text_line}
-use Rattle.dispatch_room_board.specs.Tables.{Table, row_line, row_lines, table_lines, titles_line}
+use Rattle.dispatch_room_board.specs.BoardTables.{Table, row_line, row_lines, table_lines, titles_line}
 
 lines_end : {T : Type 0} (table : Table T) (colour : Bool) (now : ℕ) (rows : List T) (row : T)
     → row_lines table colour now (rows ++ row ∷ []) ≡ row_lines table colour now rows

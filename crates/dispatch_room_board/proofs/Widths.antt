@@ -1,9 +1,9 @@
 -- No row is wider than its columns.
-use Rattle.std.proofs.Common.{◌≡◌, ℕ, ◌+◌, ◌-◌, ◌≤◌, List, [], ◌∷◌, ◌++◌, length, take, min, replicate, length-append, length-take, arith}
+use Rattle.std.proofs.Common.{◌≡◌, ℕ, ◌+◌, ◌-◌, ◌≤◌, List, [], ◌∷◌, length, take, replicate, length-append, length-take, arith}
 use Rattle.std.proofs.lemmas.List.{length-replicate}
-use Rattle.dispatch_room_board.specs.declared.columns.Column.{Column}
-use Rattle.dispatch_room_board.specs.declared.columns.Column.TheVariants.{Left, Right}
-use Rattle.dispatch_room_board.specs.Columns.{filled, in_column, places_of, row_of, width_of}
+use Rattle.dispatch_room_board.specs.declared.board_columns.Column.{Column}
+use Rattle.dispatch_room_board.specs.declared.board_columns.Column.TheVariants.{Left, Right}
+use Rattle.dispatch_room_board.specs.BoardColumns.{filled, in_column, places_of, row_of, width_of}
 
 length-filled : (column : Column) (shown : List ℕ)
     → length (filled column shown) ≡ places_of column - length shown + length shown

@@ -6,22 +6,23 @@ use Rattle.httpdate.specs.declared.date.HttpDate.{HttpDate}
 use Rattle.dispatch_room_board.specs.declared.boards.Board.{Board}
 use Rattle.dispatch_room_board.specs.declared.boards.Reached.{Reached}
 use Rattle.dispatch_room_board.specs.declared.boards.Reached.TheVariants.{All, AllButRefused, Less}
-use Rattle.dispatch_room_board.specs.declared.messages.Message.{Message}
+use Rattle.dispatch_room_board.specs.declared.heard_answers.HeardAnswer.{HeardAnswer}
 use Rattle.dispatch_room_board.specs.declared.pages.Paint.TheVariants.{Plain, Alarm}
-use Rattle.dispatch_room_board.specs.declared.sheets.Sheet.{Sheet}
-use Rattle.dispatch_room_board.specs.declared.troubles.Trouble.{Trouble}
-use Rattle.dispatch_room_board.specs.declared.troubles.Trouble.TheVariants.{Unheard, Foreign, Refused}
-use Rattle.dispatch_room_board.specs.Listed.{IsAnswered, IsNoAnswer}
-use Rattle.dispatch_room_board.specs.Members.{IsRead}
-use Rattle.dispatch_room_board.specs.Messages.{IsMessage, IsNoMessage}
+use Rattle.dispatch_room_board.specs.declared.renderer.Renderer.{Renderer}
+use Rattle.dispatch_room_board.specs.declared.board_errors.BoardError.{BoardError}
+use Rattle.dispatch_room_board.specs.declared.board_errors.BoardError.TheVariants.{Unheard, Foreign, Refused}
+use Rattle.dispatch_room_board.specs.Histories.{IsHistory, history_lines, history_title}
+use Rattle.dispatch_room_board.specs.AnswerRows.{IsAnswered, IsList, IsNoAnswer}
+use Rattle.dispatch_room_board.specs.Members.{HasMember, IsRead}
+use Rattle.dispatch_room_board.specs.HeardAnswers.{IsMessage, IsNoMessage}
 use Rattle.dispatch_room_board.specs.Pages.{Adds, spaced_line, text_line}
-use Rattle.dispatch_room_board.specs.Rows.{IsEntry, IsIncidentLine, IsLoan, IsOffer, IsPointLine, IsProposal, IsVehicleLine}
-use Rattle.dispatch_room_board.specs.Tables.{Table, entry_table, incident_table, loan_table, offer_table, point_table, proposal_table, table_lines, vehicle_table}
-use Rattle.dispatch_room_board.specs.Troubles.{told}
+use Rattle.dispatch_room_board.specs.BoardRows.{IsEntry, IsIncidentLine, IsLoan, IsOffer, IsPointLine, IsProposal, IsVehicleLine}
+use Rattle.dispatch_room_board.specs.BoardTables.{Table, entry_table, incident_table, loan_table, offer_table, point_table, proposal_table, table_lines, vehicle_table}
+use Rattle.dispatch_room_board.specs.BoardErrors.{told}
 
--- what is reached where one trouble more is met: the worst of all
-abbrev pub reached_with : Reached → Trouble → Reached
-reached_with Less trouble = Less
+-- what is reached where one error more is met: the worst of all
+abbrev pub reached_with : Reached → BoardError → Reached
+reached_with Less board_error = Less
 reached_with All Unheard = Less
 reached_with All Foreign = Less
 reached_with All (Refused number name) = AllButRefused
@@ -30,68 +31,76 @@ reached_with AllButRefused Foreign = Less
 reached_with AllButRefused (Refused number name) = AllButRefused
 
 -- a sheet has these bytes more, and nothing else is other
-abbrev pub Puts : Sheet → Sheet → List ℕ → Type 0
+abbrev pub Puts : Renderer → Renderer → List ℕ → Type 0
 Puts old new bytes =
     Adds old.page new.page bytes × (new.rest ≡ old.rest) × (new.reached ≡ old.reached)
 
--- the answer lists these rows, and was given at this moment
-abbrev pub IsDatedAnswer : {T : Type 0} → (Data → T → Type 0) → List ℕ → Message → List T × ℕ
-    → Type 0
-IsDatedAnswer says name message found =
-    IsAnswered says message name found.0 × (message.moment ≡ Some found.1)
+-- the answer gives this, and was given at this moment
+abbrev pub IsDatedAnswer : {T : Type 0} → (Data → T → Type 0) → HeardAnswer → T × ℕ → Type 0
+IsDatedAnswer gives message found =
+    IsAnswered gives message found.0 × (message.moment ≡ Some found.1)
 
 -- what was heard begins with such an answer, and the rest follows
-abbrev pub IsListed : {T : Type 0} → (Data → T → Type 0) → List ℕ → List ℕ → List ℕ → List T × ℕ
-    → Type 0
-IsListed says name heard rest found =
-    (message : Message) × IsMessage heard message rest × IsDatedAnswer says name message found
+abbrev pub IsNext : {T : Type 0} → (Data → T → Type 0) → List ℕ → List ℕ → T × ℕ → Type 0
+IsNext gives heard rest found =
+    (message : HeardAnswer) × IsMessage heard message rest × IsDatedAnswer gives message found
 
--- why no such rows were heard: no answer comes next, and nothing is taken, or the next one does not
--- list them
-abbrev pub Befalls : {T : Type 0} → (Data → T → Type 0) → List ℕ → List ℕ → List ℕ → Trouble
-    → Type 0
-Befalls says name heard rest trouble =
-    (IsNoMessage heard trouble × (rest ≡ heard))
-    ⊎ ((message : Message) × IsMessage heard message rest
-    × IsNoAnswer (IsDatedAnswer says name message) message trouble)
+-- why nothing of the kind was heard: no answer comes next, and nothing is taken, or the next one
+-- does not give it
+abbrev pub Befalls : {T : Type 0} → (Data → T → Type 0) → List ℕ → List ℕ → BoardError → Type 0
+Befalls gives heard rest board_error =
+    (IsNoMessage heard board_error × (rest ≡ heard))
+    ⊎ ((message : HeardAnswer) × IsMessage heard message rest
+    × IsNoAnswer (IsDatedAnswer gives message) message board_error)
 
--- what stands in place of a table
-abbrev pub trouble_lines : Bool → List ℕ → Trouble → List ℕ
-trouble_lines colour title trouble = spaced_line colour Alarm (told title trouble)
+-- what stands in place of a part
+abbrev pub board_error_lines : Bool → List ℕ → BoardError → List ℕ
+board_error_lines colour title board_error = spaced_line colour Alarm (told title board_error)
 
--- the rows of the next answer are shown as they were at its moment
-pub record ShowsRows {T : Type 0} (says : Data → T → Type 0) (table : Table T)
-    (old new : Sheet) : Type 0 where
-  pub rows : List T
+-- what the next answer gives is shown in these lines as it was at its moment
+pub record Shows {T : Type 0} (gives : Data → T → Type 0) (lines : Bool → ℕ → T → List ℕ)
+    (old new : Renderer) : Type 0 where
+  pub given : T
   pub now : ℕ
-  pub listed : IsListed says table.name old.rest.now new.rest.now (rows, now)
-  pub page : Adds old.page new.page (table_lines table old.page.colour now rows)
+  pub next : IsNext gives old.rest.now new.rest.now (given, now)
+  pub page : Adds old.page new.page (lines old.page.colour now given)
   pub reached : new.reached ≡ old.reached
 
--- it is told why there are none
-pub record TellsWhy {T : Type 0} (says : Data → T → Type 0) (table : Table T)
-    (old new : Sheet) : Type 0 where
-  pub trouble : Trouble
-  pub befalls : Befalls says table.name old.rest.now new.rest.now trouble
-  pub page : Adds old.page new.page (trouble_lines old.page.colour table.title trouble)
-  pub reached : new.reached ≡ reached_with old.reached trouble
+-- it is reported why it gives nothing of the kind
+pub record TellsWhy {T : Type 0} (gives : Data → T → Type 0) (title : List ℕ)
+    (old new : Renderer) : Type 0 where
+  pub board_error : BoardError
+  pub befalls : Befalls gives old.rest.now new.rest.now board_error
+  pub page : Adds old.page new.page (board_error_lines old.page.colour title board_error)
+  pub reached : new.reached ≡ reached_with old.reached board_error
+
+-- a part of the board is shown, or why it is not there
+abbrev pub IsPart : {T : Type 0} → (Data → T → Type 0) → List ℕ → (Bool → ℕ → T → List ℕ) → Renderer
+    → Renderer → Type 0
+IsPart gives title lines old new = Shows gives lines old new ⊎ TellsWhy gives title old new
 
 -- a table is shown: its rows, or why there are none
-abbrev pub IsShown : {T : Type 0} → (Data → T → Type 0) → Table T → Sheet → Sheet → Type 0
-IsShown says table old new = ShowsRows says table old new ⊎ TellsWhy says table old new
+abbrev pub IsShown : {T : Type 0} → (Data → T → Type 0) → Table T → Renderer → Renderer → Type 0
+IsShown says table = IsPart (HasMember (IsList says) table.name) table.title (table_lines table)
 
--- the proposals are shown where they were asked for
-abbrev pub ShowsProposals : Bool → Sheet → Sheet → Type 0
-ShowsProposals true old new = IsShown IsProposal proposal_table old new
-ShowsProposals false old new = new ≡ old
+-- it is shown what came of an incident, and whom to send to it
+pub record ShowsIncident (old new : Renderer) : Type 0 where
+  pub history : Renderer
+  pub is_history : IsPart IsHistory history_title history_lines old history
+  pub is_proposals : IsShown IsProposal proposal_table history new
+
+-- the incident is shown where one was named
+abbrev pub ShowsNamed : Bool → Renderer → Renderer → Type 0
+ShowsNamed true old new = ShowsIncident old new
+ShowsNamed false old new = new ≡ old
 
 -- the first answer that was heard was given at this moment
 abbrev pub IsHeardAt : List ℕ → ℕ → Type 0
-IsHeardAt heard moment = (message : Message) × (rest : List ℕ) × IsMessage heard message rest
+IsHeardAt heard moment = (message : HeardAnswer) × (rest : List ℕ) × IsMessage heard message rest
     × (message.moment ≡ Some moment)
 
 -- the first line: the moment of the first answer, or that there is none
-abbrev pub IsHead : Sheet → Sheet → Type 0
+abbrev pub IsHead : Renderer → Renderer → Type 0
 IsHead old new =
     ((date : HttpDate) × IsHeardAt old.rest.now (unix_secs date)
     × Puts old new (text_line old.page.colour Plain (codes "Room at " ++ date_text date)))
@@ -100,31 +109,31 @@ IsHead old new =
     (codes "Room at no moment: nothing was heard")))
 
 -- nothing is written yet
-pub record IsEmpty (heard : List ℕ) (painted : Bool) (sheet : Sheet) : Type 0 where
-  pub rest : sheet.rest.now ≡ heard
-  pub page : sheet.page.text.items ≡ []
-  pub colour : sheet.page.colour ≡ painted
-  pub reached : sheet.reached ≡ All
+pub record IsEmpty (heard : List ℕ) (painted : Bool) (renderer : Renderer) : Type 0 where
+  pub rest : renderer.rest.now ≡ heard
+  pub page : renderer.page.text.items ≡ []
+  pub colour : renderer.page.colour ≡ painted
+  pub reached : renderer.reached ≡ All
 
--- the board of what was heard: its first line, and below it each table, of one answer after another
-pub record IsBoard (heard : List ℕ) (proposes colour : Bool) (board : Board) : Type 0 where
-  pub empty : Sheet
+-- the board of what was heard: its first line, and below it each part, of one answer after another
+pub record IsBoard (heard : List ℕ) (named colour : Bool) (board : Board) : Type 0 where
+  pub empty : Renderer
   pub is_empty : IsEmpty heard colour empty
-  pub head : Sheet
+  pub head : Renderer
   pub is_head : IsHead empty head
-  pub queue : Sheet
+  pub queue : Renderer
   pub is_queue : IsShown IsEntry entry_table head queue
-  pub incidents : Sheet
+  pub incidents : Renderer
   pub is_incidents : IsShown IsIncidentLine incident_table queue incidents
-  pub proposals : Sheet
-  pub is_proposals : ShowsProposals proposes incidents proposals
-  pub vehicles : Sheet
-  pub is_vehicles : IsShown IsVehicleLine vehicle_table proposals vehicles
-  pub points : Sheet
+  pub incident : Renderer
+  pub is_incident : ShowsNamed named incidents incident
+  pub vehicles : Renderer
+  pub is_vehicles : IsShown IsVehicleLine vehicle_table incident vehicles
+  pub points : Renderer
   pub is_points : IsShown IsPointLine point_table vehicles points
-  pub offers : Sheet
+  pub offers : Renderer
   pub is_offers : IsShown IsOffer offer_table points offers
-  pub loans : Sheet
+  pub loans : Renderer
   pub is_loans : IsShown IsLoan loan_table offers loans
   pub page : board.page ≡ loans.page
   pub reached : board.reached ≡ loans.reached

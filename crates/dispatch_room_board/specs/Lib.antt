@@ -3,20 +3,22 @@ pub mod Requests
 -- what values of JSON say
 pub mod Members
 -- what rows say
-pub mod Rows
+pub mod BoardRows
 -- the answers in what was heard
-pub mod Messages
--- the rows of one answer
-pub mod Listed
+pub mod HeardAnswers
+-- what one answer gives
+pub mod AnswerRows
 -- what stands in a column
-pub mod Cells
+pub mod BoardCells
 -- the columns of a table
-pub mod Columns
+pub mod BoardColumns
 -- lines, and the page that they make
 pub mod Pages
 -- what stands in the rows of each table
-pub mod Tables
+pub mod BoardTables
+-- what came of an incident
+pub mod Histories
 -- why a part is not there
-pub mod Troubles
+pub mod BoardErrors
 -- what a board shows, and how much could be reached
 pub mod Boards

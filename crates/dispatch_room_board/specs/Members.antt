@@ -1,5 +1,5 @@
 -- What the values of an answer's JSON say.
-use Rattle.std.specs.Prelude.{◌≡◌, ◌≤◌, ℕ, List, [], Bool, true, Option, Some, None, MatchOption, option_and_then}
+use Rattle.std.specs.Prelude.{◌≡◌, ◌≤◌, ℕ, List, [], length, Bool, true, Option, Some, None, MatchOption, option_and_then}
 use Rattle.serde_json.specs.Data.{Data}
 use Rattle.serde_json.specs.Find.{as_bool, as_null, as_number, as_str, as_u64, at, get}
 use Rattle.room_place.specs.declared.places.Place.{Place}
@@ -8,6 +8,7 @@ use Rattle.room_types.specs.Needs.{is_some_need}
 use Rattle.room_types.specs.Texts.{is_callsign}
 use Rattle.room_types.specs.declared.codes.Kind.{Kind}
 use Rattle.room_types.specs.declared.codes.Status.{Status}
+use Rattle.room_types.specs.declared.answers.Served.{Served}
 use Rattle.room_types.specs.declared.needs.Counts.{Counts}
 
 -- what is read: the one of which this holds, or none where it holds of none
@@ -29,12 +30,16 @@ IsByte = IsFrom 0 255
 abbrev pub IsWord : Data → ℕ → Type 0
 IsWord = IsFrom 0 4294967295
 
--- the number of an incident, a division or a standby point
+-- the number of an incident or an order, or a call's serial
 abbrev pub IsNumber : Data → ℕ → Type 0
 IsNumber = IsFrom 1 2147483647
 
+-- the number of a division, a standby point or a call taker's position
 abbrev pub IsDivision : Data → ℕ → Type 0
 IsDivision = IsFrom 1 9
+
+abbrev pub IsPosition : Data → ℕ → Type 0
+IsPosition = IsFrom 1 99
 
 abbrev pub IsPoint : Data → ℕ → Type 0
 IsPoint = IsFrom 1 99
@@ -61,6 +66,10 @@ IsText d text = as_str d ≡ Some text
 -- it is this text, a callsign
 abbrev pub IsCallsign : Data → List ℕ → Type 0
 IsCallsign d text = IsText d text × (is_callsign text ≡ true)
+
+-- it is this text, short enough for a call's note
+abbrev pub IsNote : Data → List ℕ → Type 0
+IsNote d text = IsText d text × (length text ≤ 120)
 
 abbrev pub IsBool : Data → Bool → Type 0
 IsBool d b = as_bool d ≡ Some b
@@ -92,6 +101,11 @@ IsCounts d c =
 -- such a list, with at least one vehicle
 abbrev pub IsNeeds : Data → Counts → Type 0
 IsNeeds d c = IsCounts d c × (is_some_need c ≡ true)
+
+-- a list of whole numbers: ambulances, cars and support
+abbrev pub IsServed : Data → Served → Type 0
+IsServed d s =
+    HasItem IsWhole 0 d s.ambulances × HasItem IsWhole 1 d s.cars × HasItem IsWhole 2 d s.support
 
 -- a list of metres of easting and northing, of a place in the squares
 abbrev pub IsPlace : Data → Place → Type 0

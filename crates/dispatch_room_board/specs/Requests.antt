@@ -14,21 +14,25 @@ get path fields = codes "GET " ++ (path ++ (fields ++ codes "\r\n"))
 unfoldable pub last_get : List ℕ → List ℕ → List ℕ
 last_get path fields = codes "GET " ++ (path ++ (fields ++ codes "Connection: close\r\n\r\n"))
 
--- where the vehicles to send to an incident are asked for
+-- where it is asked what came of an incident
+abbrev pub history_path : ℕ → List ℕ
+history_path n = codes "/incidents/" ++ decimal n
+
+-- where the vehicles to send to it are asked for
 abbrev pub proposals_path : ℕ → List ℕ
 proposals_path n = codes "/incidents/" ++ (decimal n ++ codes "/propose")
 
--- the request for them, where an incident is named
-abbrev pub proposals_of : Option ℕ → List ℕ → List ℕ
-proposals_of None fields = []
-proposals_of (Some n) fields = get (proposals_path n) fields
+-- the requests for both, where an incident is named
+abbrev pub incident_of : Option ℕ → List ℕ → List ℕ
+incident_of None fields = []
+incident_of (Some n) fields = get (history_path n) fields ++ get (proposals_path n) fields
 
 -- all requests of a desk, one after another, with these fields
 unfoldable pub requests_with : List ℕ → Option ℕ → List ℕ
 requests_with fields incident =
     get (codes "/queue") fields
     ++ get (codes "/incidents") fields
-    ++ proposals_of incident fields
+    ++ incident_of incident fields
     ++ get (codes "/vehicles") fields
     ++ get (codes "/points") fields
     ++ get (codes "/offers") fields

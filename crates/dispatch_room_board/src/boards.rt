@@ -2,9 +2,9 @@
 ghost use Rattle.std.specs.Prelude.{◌≡◌, ℕ, Bool, IfOk, List, OnOk};
 ghost use Rattle.dispatch_room_board.specs.Boards.{IsBoard, IsEmpty, reached_with};
 
+use crate::board_errors::BoardError;
 use crate::pages::Page;
-use crate::sheets::Sheet;
-use crate::troubles::Trouble;
+use crate::renderer::Renderer;
 use room_types::answers::{Entry, IncidentLine, PointLine, VehicleLine};
 use room_types::tables::{Loan, Offer};
 use std::alloc::{AllocError, Global};
@@ -21,13 +21,13 @@ pub enum Reached {
 }
 
 impl Reached {
-    /// What is reached where this trouble is met too.
-    pub(crate) fn with(self, trouble: &Trouble) -> Reached
-        ensures { result ≡ reached_with self trouble.now }
+    /// What is reached where this error is met too.
+    pub(crate) fn with(self, board_error: &BoardError) -> Reached
+        ensures { result ≡ reached_with self board_error.now }
     {
-        match (self, trouble) {
-            (Reached::Less, _) | (_, Trouble::Unheard | Trouble::Foreign) => Reached::Less,
-            (_, Trouble::Refused(_, _)) => Reached::AllButRefused,
+        match (self, board_error) {
+            (Reached::Less, _) | (_, BoardError::Unheard | BoardError::Foreign) => Reached::Less,
+            (_, BoardError::Refused(_, _)) => Reached::AllButRefused,
         }
     }
 }
@@ -39,33 +39,27 @@ pub struct Board {
     pub reached: Reached,
 }
 
-/// The board of what was heard after the requests of a desk, with the proposals where they were
-/// asked for.
-pub fn board_of(
-    alloc: Global,
-    heard: &[u8],
-    proposes: bool,
-    colour: bool,
-) -> Result<Board, AllocError>
-    ensures { IfOk result (IsBoard heard.now proposes colour) }
+/// The board of what was heard after the requests of a desk, with an incident where one was named.
+pub fn board_of(alloc: Global, heard: &[u8], named: bool, colour: bool) -> Result<Board, AllocError>
+    ensures { IfOk result (IsBoard heard.now named colour) }
 {
-    let mut sheet = Sheet::new(alloc, heard, colour);
-    put_all(&mut sheet, proposes)?;
-    Ok(sheet.board())
+    let mut renderer = Renderer::new(alloc, heard, colour);
+    put_all(&mut renderer, named)?;
+    Ok(renderer.board())
 }
 
 // Adds all of a board to an empty sheet.
-fn put_all(sheet: &mut Sheet<'_>, proposes: bool) -> Result<(), AllocError>
-    ensures { OnOk result ((heard : List ℕ) (colour : Bool) → IsEmpty heard colour sheet.old
-        → IsBoard heard proposes colour
-        (record { page = sheet.new.page; reached = sheet.new.reached })) }
+fn put_all(renderer: &mut Renderer<'_>, named: bool) -> Result<(), AllocError>
+    ensures { OnOk result ((heard : List ℕ) (colour : Bool) → IsEmpty heard colour renderer.old
+        → IsBoard heard named colour
+        (record { page = renderer.new.page; reached = renderer.new.reached })) }
 {
-    sheet.put_moment()?;
-    sheet.put_table::<Entry>()?;
-    sheet.put_table::<IncidentLine>()?;
-    sheet.put_proposals(proposes)?;
-    sheet.put_table::<VehicleLine>()?;
-    sheet.put_table::<PointLine>()?;
-    sheet.put_table::<Offer>()?;
-    sheet.put_table::<Loan>()
+    renderer.put_moment()?;
+    renderer.put_table::<Entry>()?;
+    renderer.put_table::<IncidentLine>()?;
+    renderer.put_incident(named)?;
+    renderer.put_table::<VehicleLine>()?;
+    renderer.put_table::<PointLine>()?;
+    renderer.put_table::<Offer>()?;
+    renderer.put_table::<Loan>()
 }

@@ -2,22 +2,27 @@
 //! laid out in lines of at most 80 columns. It only gets.
 #![tactic(auto)]
 
-pub mod asking;
+mod answer_contents;
+mod answer_rows;
+mod board_cells;
+mod board_columns;
+mod board_errors;
+mod board_tables;
 pub mod boards;
-mod cells;
-mod columns;
-mod entries;
-mod incidents;
-mod listed;
-mod loans;
+mod call_lines;
+mod cell_texts;
+pub mod exchange;
+mod heard_answers;
+mod history_lines;
+mod incident_lines;
+mod loan_lines;
 mod members;
-mod messages;
 pub mod pages;
-mod points;
-mod proposals;
+mod point_lines;
+mod proposal_lines;
+mod queue_lines;
+mod renderer;
 pub mod requests;
-mod sheets;
-mod tables;
-mod texts;
-mod troubles;
-mod vehicles;
+mod subject_lines;
+mod turn_lines;
+mod vehicle_lines;

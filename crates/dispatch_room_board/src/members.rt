@@ -1,13 +1,15 @@
 //! What the members of an answer's JSON say.
 ghost use Rattle.serde_json.specs.Data.{Data};
 ghost use Rattle.serde_json.specs.View.{view};
-ghost use Rattle.dispatch_room_board.specs.Members.{HasItem, HasMember, IsBool, IsByte, IsCallsign, IsCounts, IsFrom, IsKind, IsNeeds, IsOrNull, IsPlace, IsRead, IsStatus, IsWhole, IsWord};
+ghost use Rattle.dispatch_room_board.specs.Members.{HasItem, HasMember, IsBool, IsByte, IsCallsign, IsCounts, IsFrom, IsKind, IsNeeds, IsNote, IsOrNull, IsPlace, IsRead, IsServed, IsStatus, IsWhole, IsWord};
 
-use room_place::bounded::Bounded;
+use room_place::bounded_numbers::Bounded;
 use room_place::places::Place;
+use room_types::answers::Served;
 use room_types::callsign::Callsign;
 use room_types::codes::{Kind, Status};
 use room_types::needs::{Counts, Needs};
+use room_types::note::Note;
 use serde_json::Value;
 
 /// What an answer can say.
@@ -115,6 +117,17 @@ impl FromJson for Callsign {
     }
 }
 
+impl FromJson for Note {
+    ghost says = { IsNote };
+
+    fn from_json(value: &Value) -> Option<Note> {
+        match value.as_str() {
+            Some(text) => Note::new(text),
+            None => None,
+        }
+    }
+}
+
 impl FromJson for Kind {
     ghost says = { IsKind };
 
@@ -159,6 +172,22 @@ impl FromJson for Needs {
     fn from_json(value: &Value) -> Option<Needs> {
         match Counts::from_json(value) {
             Some(counts) => Needs::new(counts),
+            None => None,
+        }
+    }
+}
+
+impl FromJson for Served {
+    ghost says = { IsServed };
+
+    fn from_json(value: &Value) -> Option<Served> {
+        let served = item(value, 0).zip(item(value, 1)).zip(item(value, 2));
+        match served {
+            Some(((ambulances, cars), support)) => Some(Served {
+                ambulances,
+                cars,
+                support,
+            }),
             None => None,
         }
     }

@@ -1,9 +1,9 @@
 //! A page: lines of at most 80 columns, with or without colour.
 ghost use Rattle.std.specs.Prelude.{◌≡◌};
-ghost use Rattle.dispatch_room_board.specs.Pages.{closing_of, opening_of};
+ghost use Rattle.dispatch_room_board.specs.Pages.{closing_of, opening_of, visible};
 
-use crate::cells::Cell;
-use crate::columns::{Column, cut, put_cells};
+use crate::board_cells::BoardCell;
+use crate::board_columns::{Column, cut, put_cells, rest};
 use std::alloc::{AllocError, Global};
 
 /// How a line is shown where colours are wanted.
@@ -26,11 +26,14 @@ pub struct Page {
 /// How many columns a line has at most.
 pub const WIDEST: usize = 80;
 
+/// How many bytes of a note a line has at most.
+pub const NOTED: usize = 70;
+
 impl Page {
     ghost use Rattle.std.specs.Prelude.{◌≡◌, ◌≤◌, [], length, map, OnOk};
-    ghost use Rattle.dispatch_room_board.specs.Cells.{text_of};
-    ghost use Rattle.dispatch_room_board.specs.Columns.{row_of, width_of};
-    ghost use Rattle.dispatch_room_board.specs.Pages.{Adds, closing_of, line_of, opening_of, spaced_line, text_line};
+    ghost use Rattle.dispatch_room_board.specs.BoardCells.{text_of};
+    ghost use Rattle.dispatch_room_board.specs.BoardColumns.{row_of, width_of};
+    ghost use Rattle.dispatch_room_board.specs.Pages.{Adds, closing_of, line_of, note_line, note_lines, noted, opening_of, spaced_line, text_line, visible};
 
     /// A page without lines.
     pub fn new(alloc: Global, colour: bool) -> Page
@@ -76,7 +79,7 @@ impl Page {
         alloc: Global,
         paint: Paint,
         columns: &[Column],
-        cells: &[Cell<'_>],
+        cells: &[BoardCell<'_>],
     ) -> Result<(), AllocError>
         requires { width_of columns.now ≤ WIDEST }
         ensures line { OnOk result (Adds self.old self.new
@@ -86,6 +89,39 @@ impl Page {
         self.begin(paint)?;
         put_cells(alloc, &mut self.text, columns, cells)?;
         self.end(paint)
+    }
+
+    /// Adds a note below a row, in one line or two. What is no printable ASCII is shown as `?`, so
+    /// that nothing else of a caller's words reaches a terminal.
+    pub fn put_note(&mut self, note: &str) -> Result<(), AllocError>
+        ensures { OnOk result (Adds self.old self.new (note_lines self.old.colour note.now)) }
+    {
+        let note = note.as_bytes();
+        self.put_noted(note)?;
+        self.put_noted(rest(note, NOTED))
+    }
+
+    // Adds a line of the first bytes of a note, where there are any.
+    fn put_noted(&mut self, note: &[u8]) -> Result<(), AllocError>
+        ensures line { OnOk result (Adds self.old self.new (note_line self.old.colour note.now)) }
+        ensures fits { length (noted note.now) ≤ WIDEST }
+    {
+        if note.is_empty() {
+            return Ok(());
+        }
+        self.begin(Paint::Plain)?;
+        self.text.extend_from_slice(b"         ")?;
+        self.put_visible(cut(note, NOTED))?;
+        self.end(Paint::Plain)
+    }
+
+    fn put_visible(&mut self, text: &[u8]) -> Result<(), AllocError>
+        ensures { OnOk result (Adds self.old self.new (map visible text.now)) }
+    {
+        for byte in text {
+            self.text.push(visible(*byte))?;
+        }
+        Ok(())
     }
 
     fn begin(&mut self, paint: Paint) -> Result<(), AllocError>
@@ -103,7 +139,7 @@ impl Page {
     }
 }
 
-// What a terminal is told before a line.
+// What a terminal is sent before a line.
 fn opening(colour: bool, paint: Paint) -> &'static [u8]
     ensures { result.now ≡ opening_of colour paint }
 {
@@ -114,12 +150,23 @@ fn opening(colour: bool, paint: Paint) -> &'static [u8]
     }
 }
 
-// What a terminal is told after a line, and the line's end.
+// What a terminal is sent after a line, and the line's end.
 fn closing(colour: bool, paint: Paint) -> &'static [u8]
     ensures { result.now ≡ closing_of colour paint }
 {
     match paint {
         Paint::Title | Paint::Alarm if colour => b"\x1b[0m\n",
         _ => b"\n",
+    }
+}
+
+// The byte, where it is printable ASCII.
+fn visible(byte: u8) -> u8
+    ensures { result ≡ visible byte }
+{
+    if matches!(byte, b' '..=b'~') {
+        byte
+    } else {
+        b'?'
     }
 }

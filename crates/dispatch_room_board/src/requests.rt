@@ -1,12 +1,12 @@
-//! What a board asks a room for: GETs alone.
+//! What a board asks a room for: only GETs.
 ghost use Rattle.std.specs.Prelude.{◌≡◌, ◌++◌, IfOk, OnOk, string_bytes};
-ghost use Rattle.dispatch_room_board.specs.Requests.{get, proposals_of, requests, requests_with};
+ghost use Rattle.dispatch_room_board.specs.Requests.{get, history_path, incident_of, proposals_path, requests, requests_with};
 
 use room_types::numbers::Number;
 use room_types::token::Token;
 use std::alloc::{AllocError, Global};
 
-/// Which desk asks, and for which incident it wants to see the vehicles to send.
+/// Which desk asks, and of which incident it wants to see what came of it and whom to send.
 #[derive(Clone, Copy)]
 pub struct Asker {
     pub token: Token,
@@ -14,7 +14,7 @@ pub struct Asker {
 }
 
 /// The bytes of all requests, one after another, of which the last asks that the connection is
-/// closed. A token has letters and digits alone, so it can't end a field.
+/// closed. A token has letters and only digits, so it can't end a field.
 pub fn requests(alloc: Global, asker: &Asker) -> Result<String, AllocError>
     ensures { IfOk result (λ text. string_bytes text ≡
         requests asker.now.token asker.now.incident) }
@@ -33,7 +33,7 @@ fn put_requests(text: &mut String, incident: Option<Number>, fields: &str) -> Re
 {
     put_get(text, "/queue", fields)?;
     put_get(text, "/incidents", fields)?;
-    put_proposals(text, incident, fields)?;
+    put_incident(text, incident, fields)?;
     put_get(text, "/vehicles", fields)?;
     put_get(text, "/points", fields)?;
     put_get(text, "/offers", fields)?;
@@ -49,20 +49,32 @@ fn put_get(text: &mut String, path: &str, fields: &str) -> Result<(), AllocError
     write!(text, "GET {path}{fields}\r\n")
 }
 
-// Adds the request for the proposals, where they are wanted.
-fn put_proposals(
-    text: &mut String,
-    incident: Option<Number>,
-    fields: &str,
-) -> Result<(), AllocError>
+// Adds the requests of an incident, where one is named: what came of it, and whom to send.
+fn put_incident(text: &mut String, incident: Option<Number>, fields: &str) -> Result<(), AllocError>
     ensures { OnOk result (string_bytes text.new ≡ string_bytes text.old ++
-        proposals_of incident fields.now) }
+        incident_of incident fields.now) }
 {
     match incident {
         Some(number) => {
-            let number = number.get();
-            write!(text, "GET /incidents/{number}/propose{fields}\r\n")
+            put_history(text, number, fields)?;
+            put_proposals(text, number, fields)
         }
         None => Ok(()),
     }
+}
+
+fn put_history(text: &mut String, incident: Number, fields: &str) -> Result<(), AllocError>
+    ensures { OnOk result (string_bytes text.new ≡ string_bytes text.old ++
+        get (history_path incident) fields.now) }
+{
+    let number = incident.get();
+    write!(text, "GET /incidents/{number}{fields}\r\n")
+}
+
+fn put_proposals(text: &mut String, incident: Number, fields: &str) -> Result<(), AllocError>
+    ensures { OnOk result (string_bytes text.new ≡ string_bytes text.old ++
+        get (proposals_path incident) fields.now) }
+{
+    let number = incident.get();
+    write!(text, "GET /incidents/{number}/propose{fields}\r\n")
 }

@@ -1,9 +1,9 @@
 -- How those are parted from who called where something listens.
 use Rattle.std.proofs.Common.{◌≡◌, [], ◌∷◌, Bool, List, Option}
 use Rattle.std.specs.declared.time.Duration.{Duration}
-use Rattle.dispatch_room_serving.specs.Calls.{Grows}
-use Rattle.dispatch_room_sockets.specs.Partings.{Does, IsParted, Step, drains_until}
-use Rattle.dispatch_room_commands.specs.Listening.{PartsFrom}
+use Rattle.dispatch_room_serving.specs.Callers.{Grows}
+use Rattle.dispatch_room_sockets.specs.LingeringClose.{Does, IsParted, Step, drains_until}
+use Rattle.dispatch_room_commands.specs.Listeners.{PartsFrom}
 
 -- a peer that was made of two sides is parted from, and then let go
 pub parts_from : {P : Type 0} (done : P → Option (List Step)) (is_open : P → Bool)

@@ -1,8 +1,8 @@
 -- how a command ends
-pub mod Ends
+pub mod CommandEnds
 -- how those are parted from who called where something listens
-pub mod Listening
+pub mod Listeners
 -- what each command does in a database
-pub mod Works
+pub mod RoomTasks
 -- what a task comes to
-pub mod Tasks
+pub mod DoneTasks

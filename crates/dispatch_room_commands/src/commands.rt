@@ -2,27 +2,29 @@
 ghost use Rattle.std.specs.Prelude.{◌≡◌, IfErr, IfOk, Result};
 ghost use Rattle.clap.specs.Words.{kind_of};
 ghost use Rattle.clap.specs.declared.error.Error.{Error as Mistake};
-ghost use Rattle.dispatch_room_commands.specs.Ends.{IsHelpDone, IsWordsStatus, is_mistake};
-ghost use Rattle.dispatch_room_commands.specs.Tasks.{FailsTask, IsExit, IsTask};
-ghost use Rattle.dispatch_room_words.specs.Tasks.{IsServedHere};
-ghost use Rattle.dispatch_room_words.specs.declared.tasks.Task.{Task as Asked};
+ghost use Rattle.dispatch_room_commands.specs.CommandEnds.{IsHelpDone, IsWordsStatus, is_mistake};
+ghost use Rattle.dispatch_room_commands.specs.DoneTasks.{FailsTask, IsExit, IsTask};
+ghost use Rattle.dispatch_room_cli.specs.Tasks.{IsServedHere};
+ghost use Rattle.dispatch_room_cli.specs.declared.tasks.Task.{Task as Asked};
 
-use crate::boarding::board;
-use crate::checking::check;
-use crate::creating::init;
+use crate::board::board;
+use crate::check::check;
 use crate::files::is_open_to_others;
-use crate::importing::import;
-use crate::migrating::migrate;
-use crate::replaying::replay;
-use crate::serving::serve_file;
-use crate::timing::times;
+use crate::import::import;
+use crate::init::init;
+use crate::migrate::migrate;
+use crate::replay::replay;
+use crate::serve::serve_file;
+use crate::task_causes::explain;
+use crate::times::times;
 use clap::Error;
 use clap::error::ErrorKind;
-use dispatch_room_endings::endings::{Done, Failure, end};
-use dispatch_room_words::tasks::Task;
-use dispatch_room_words::words;
+use dispatch_room_cli::argument_parser;
+use dispatch_room_cli::tasks::Task;
+use dispatch_room_exit::exit_status::{Done, Failure, end};
+use dispatch_room_exit::explainer::Explainer;
 use std::alloc::Global;
-use std::io::Write;
+use std::io::{IsTerminal, Write};
 
 /// The exit status of a mistake in the words of the command line.
 pub const USAGE: u8 = 2;
@@ -35,6 +37,9 @@ pub trait Asks<'a> {
     /// What they ask for: a task, or help. Else they have a mistake, or memory is wanting.
     fn read(self, alloc: Global) -> Result<Task<'a>, Error>
         ensures { reads self result };
+
+    /// Whether they ask that a failure be explained.
+    fn explains(&self) -> bool;
 }
 
 // What words are to clap no contract says. Whatever is served by them, is served to this machine.
@@ -42,13 +47,18 @@ impl<'a> Asks<'a> for &'a [String] {
     ghost reads = { λ _ asked. IfOk asked IsServedHere };
 
     fn read(self, alloc: Global) -> Result<Task<'a>, Error> {
-        words::read(alloc, self)
+        argument_parser::read(alloc, self)
+    }
+
+    fn explains(&self) -> bool {
+        argument_parser::explains(self)
     }
 }
 
 /// Does what the words of a command line ask for, the program's name first. What a command gives
 /// goes to `out`, and to `err` why it fails, that others can read the room's file, and the log of
-/// what is served. Gives the exit status: 0 done, or help asked for; 1 refused input; 2 usage; 3
+/// what is served. On a terminal, and where the words ask for it, a failure is explained before it
+/// is named. Gives the exit status: 0 done, or help asked for; 1 refused input; 2 usage; 3
 /// storage; 4 network; 5 memory; 6 journal.
 pub fn command<'a, W: Asks<'a>, O: Write, E: Write>(
     rt: &HostRuntime,
@@ -60,12 +70,19 @@ pub fn command<'a, W: Asks<'a>, O: Write, E: Write>(
     ensures { (asked : Result Asked Mistake) × W.reads words asked
         × IsExit asked (O.contents out.old) (O.contents out.new) result }
 {
-    exit(rt, alloc, words.read(alloc), out, err)
+    let explainer = explainer_of(rt, words.explains());
+    exit(rt, explainer, alloc, words.read(alloc), out, err)
 }
 
-// Does a task, or tells what the words are in its place, and gives the exit status.
+// Who explains failures: on a terminal they are explained, and where that is asked for.
+fn explainer_of(rt: &HostRuntime, is_asked_for: bool) -> Explainer<'_> {
+    Explainer::new(rt, is_asked_for || rt.stderr().is_terminal())
+}
+
+// Does a task, or reports what the words are in its place, and returns the exit status.
 fn exit<O: Write, E: Write>(
     rt: &HostRuntime,
+    explainer: Explainer<'_>,
     alloc: Global,
     asked: Result<Task<'_>, Error>,
     out: &mut O,
@@ -78,7 +95,8 @@ fn exit<O: Write, E: Write>(
             if let Some(file) = task.file() {
                 warn(rt, file, err);
             }
-            let done = perform(rt, alloc, &task, out, err);
+            let done = perform(rt, explainer, alloc, &task, out, err);
+            explain(explainer, &task, &done);
             end(done, err)
         }
         Err(error) => refuse(&error, out, err),
@@ -98,6 +116,7 @@ fn warn<E: Write>(rt: &HostRuntime, file: &str, err: &mut E) {
 
 fn perform<O: Write, E: Write>(
     rt: &HostRuntime,
+    explainer: Explainer<'_>,
     alloc: Global,
     task: &Task<'_>,
     out: &mut O,
@@ -109,21 +128,21 @@ fn perform<O: Write, E: Write>(
         FailsTask (O.contents out.old) (O.contents out.new) fault task.now) }
 {
     match *task {
-        Task::Init { file, plan } => init(rt, alloc, file, plan, out),
-        Task::Import { file, fleet } => import(rt, alloc, file, fleet, out),
-        Task::Migrate { file } => migrate(rt, alloc, file, out),
-        Task::Check { file } => check(rt, alloc, file, out),
-        Task::Serve { file, service } => serve_file(rt, alloc, file, service, out, err),
+        Task::Init { file, plan } => init(rt, explainer, alloc, file, plan, out),
+        Task::Import { file, fleet } => import(rt, explainer, alloc, file, fleet, out),
+        Task::Migrate { file } => migrate(rt, explainer, alloc, file, out),
+        Task::Check { file } => check(rt, explainer, alloc, file, out),
+        Task::Serve { file, service } => serve_file(rt, explainer, alloc, file, service, out, err),
         Task::Replay {
             file,
             replay: ref how,
-        } => replay(rt, alloc, file, how, out, err),
-        Task::Board { ref look } => board(rt, alloc, look, out),
+        } => replay(rt, explainer, alloc, file, how, out, err),
+        Task::Board { ref look } => board(rt, explainer, alloc, look, out),
         Task::Times {
             file,
             division,
             day,
-        } => times(rt, alloc, file, division, day, out),
+        } => times(rt, explainer, alloc, file, division, day, out),
     }
 }
 
@@ -139,7 +158,7 @@ fn refuse<O: Write, E: Write>(error: &Error, out: &mut O, err: &mut E) -> u8
 }
 
 // Whether an error of the words is a mistake in them, and neither help that was asked for nor
-// want of memory.
+// lack of memory.
 fn is_mistake(kind: ErrorKind) -> bool
     ensures { result ≡ is_mistake kind }
 {

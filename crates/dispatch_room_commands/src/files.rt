@@ -1,20 +1,24 @@
 //! Files that commands name: text files read whole, and who may read a file.
 ghost use Rattle.std.specs.Prelude.{◌≡◌, ◌⊎◌, IfErr};
-ghost use Rattle.dispatch_room_endings.specs.declared.endings.Failure.TheVariants as failure;
+ghost use Rattle.dispatch_room_exit.specs.declared.exit_status.Failure.TheVariants as failure;
 
-use dispatch_room_endings::endings::Failure;
+use dispatch_room_exit::exit_status::Failure;
+use dispatch_room_exit::explainer::Explainer;
 use std::fs;
 use std::io::ErrorKind;
 use std::os::unix::fs::PermissionsExt;
 
-/// The bytes of a text file.
-pub fn read_text(rt: &HostRuntime, path: &str) -> Result<Vec<u8>, Failure>
+/// The bytes of a text file. Where it can't be read, it is explained why.
+pub fn read_text(rt: &HostRuntime, explainer: Explainer<'_>, path: &str) -> Result<Vec<u8>, Failure>
     ensures { IfErr result (λ fault. (fault ≡ failure.Memory) ⊎ (fault ≡ failure.Input)) }
 {
     match fs::read(rt, path) {
         Ok(text) => Ok(text),
         Err(error) if error.kind() == ErrorKind::OutOfMemory => Err(Failure::Memory),
-        Err(_) => Err(Failure::Input),
+        Err(error) => {
+            explainer.explain(format_args!("{path}: {error}"));
+            Err(Failure::Input)
+        }
     }
 }
 

@@ -1,16 +1,18 @@
+//! Only the prover needs this to be a crate of its own.
 //! The commands of dispatch_room over a room's file: they open it, hand it to what works over any
 //! storage, and close it.
 #![tactic(auto)]
 
-mod boarding;
-mod callers;
-mod checking;
+mod board;
+mod check;
 pub mod commands;
-mod creating;
 mod files;
-mod importing;
+mod import;
+mod init;
 mod listeners;
-mod migrating;
-mod replaying;
-mod serving;
-mod timing;
+mod migrate;
+mod replay;
+mod serve;
+mod task_causes;
+mod tcp_callers;
+mod times;

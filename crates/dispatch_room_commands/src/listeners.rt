@@ -1,15 +1,16 @@
 //! What listens at an address: it gives the connections of those who call, and lets their peers go.
 ghost use Rattle.std.specs.Prelude.{◌≡◌, ℕ, List, [], ◌∷◌, Bool, None, Option, IfErr, IfSome, OnOk, false, is_some, option_map, true};
-ghost use Rattle.dispatch_room_endings.specs.declared.endings.Failure.TheVariants.{Network};
-ghost use Rattle.dispatch_room_serving.specs.Calls.{Grows, Opening};
-ghost use Rattle.dispatch_room_sockets.specs.Partings.{Step};
+ghost use Rattle.dispatch_room_exit.specs.declared.exit_status.Failure.TheVariants.{Network};
+ghost use Rattle.dispatch_room_serving.specs.Callers.{Grows, Opening};
+ghost use Rattle.dispatch_room_sockets.specs.LingeringClose.{Step};
 
-use dispatch_room_endings::endings::Failure;
-use dispatch_room_sockets::parting::{Parting, Peer};
-use dispatch_room_sockets::readers::SocketReader;
-use dispatch_room_sockets::sides::sides;
-use dispatch_room_sockets::waits::Waits;
-use dispatch_room_sockets::writers::SocketWriter;
+use dispatch_room_exit::exit_status::Failure;
+use dispatch_room_exit::explainer::Explainer;
+use dispatch_room_sockets::connection_halves::sides;
+use dispatch_room_sockets::lingering_close::{Parting, Peer};
+use dispatch_room_sockets::socket_readers::SocketReader;
+use dispatch_room_sockets::socket_writers::SocketWriter;
+use dispatch_room_sockets::timeouts::Waits;
 use room_http_messages::sinks::Sink;
 use room_http_messages::sources::Source;
 use std::io::{Error, ErrorKind};
@@ -84,18 +85,26 @@ const PAUSE: u64 = 100;
 #[derive(Drop)]
 pub struct TcpAddress<'a> {
     rt: &'a HostRuntime,
+    explainer: Explainer<'a>,
     address: SocketAddr,
     waits: Waits,
     listener: Option<TcpListener>,
 }
 
 impl<'a> TcpAddress<'a> {
-    /// An address at which nobody listens yet, and how long its connections are waited for.
-    pub fn new(rt: &'a HostRuntime, address: SocketAddr, waits: Waits) -> TcpAddress<'a>
+    /// An address at which nobody listens yet, and how long its connections are waited for. Where
+    /// nobody can listen there, it is explained why.
+    pub fn new(
+        rt: &'a HostRuntime,
+        explainer: Explainer<'a>,
+        address: SocketAddr,
+        waits: Waits,
+    ) -> TcpAddress<'a>
         ensures { (result.address ≡ address) × (result.waits ≡ waits) }
     {
         TcpAddress {
             rt,
+            explainer,
             address,
             waits,
             listener: None,
@@ -127,7 +136,11 @@ impl<'a> Listener for TcpAddress<'a> {
                 self.listener = Some(listener);
                 Ok(())
             }
-            Err(_) => Err(Failure::Network),
+            Err(error) => {
+                let address = self.address;
+                self.explainer.explain(format_args!("{address}: {error}"));
+                Err(Failure::Network)
+            }
         }
     }
 

@@ -13,10 +13,10 @@ use Rattle.sqlite_store.specs.declared.store.FileStore.{FileStore}
 use Rattle.sqlite_trees.specs.View.{IsClean}
 use Rattle.sqlite_trees.specs.declared.store.Store.{Ghosts}
 use Rattle.sqlite_wal.specs.Reads.{AreClean}
-use Rattle.dispatch_room_disk.specs.Faults.{IsFileFault, fault_of}
-use Rattle.dispatch_room_disk.specs.System.{SystemFile, system}
-use Rattle.dispatch_room_endings.specs.declared.endings.Failure.{Failure}
-use Rattle.dispatch_room_endings.specs.declared.endings.Failure.TheVariants as failure
+use Rattle.dispatch_room_disk.specs.DiskFaults.{IsFileFault, fault_of}
+use Rattle.dispatch_room_disk.specs.SystemFiles.{SystemFile, system}
+use Rattle.dispatch_room_exit.specs.declared.exit_status.Failure.{Failure}
+use Rattle.dispatch_room_exit.specs.declared.exit_status.Failure.TheVariants as failure
 
 -- What is said of work: of a database before and after, over any storage, of what the output held
 -- before and after, and of what came of it.
@@ -96,7 +96,7 @@ pub record IsDoneInFile {T : Type 0} (says : Saying T) (before after : Option (L
   pub connected : IsConnected conn
   pub is : IsDone says conn before after done
 
--- no database was found in a file of the system, and nothing is told
+-- no database was found in a file of the system, and nothing is reported
 pub record IsUnfound (before after : Option (List ℕ)) (fault : Failure) : Type 0 where
   pub why : (fault ≡ failure.File) ⊎ IsFileFault fault
   pub untold : after ≡ before

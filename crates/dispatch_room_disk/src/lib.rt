@@ -1,6 +1,10 @@
+//! Only the prover needs this to be a crate of its own.
 //! The file of a room: it is found, or made, and what is done in it is done over any storage.
 #![tactic(auto)]
 
+mod file_causes;
+mod holders;
 mod new_files;
-mod opening;
+mod new_logs;
+mod opened_files;
 pub mod room_files;

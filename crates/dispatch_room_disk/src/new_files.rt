@@ -1,12 +1,13 @@
-//! The file of a new room: its owner's alone, and with small pages.
+//! The file of a new room: private to its owner, and with small pages.
 ghost use Rattle.std.specs.Prelude.{◌≡◌, true, IfErr, IsTrue, OnOk};
 ghost use Rattle.sqlite_pages.specs.declared.error.Error.TheVariants.{Corrupt};
 ghost use Rattle.sqlite_wal.specs.Reads.{AreClean};
-ghost use Rattle.dispatch_room_disk.specs.Faults.{IsFileFault};
+ghost use Rattle.dispatch_room_disk.specs.DiskFaults.{IsFileFault};
 ghost use Rattle.dispatch_room_disk.specs.NewFiles.{IsBegun, IsSpared};
 
-use crate::opening::open_files;
-use dispatch_room_endings::endings::Failure;
+use crate::opened_files::open_files;
+use dispatch_room_exit::exit_status::Failure;
+use dispatch_room_exit::explainer::Explainer;
 use sqlite::{Files, Options, Unknown};
 use sqlite_disk::Disk;
 use sqlite_pager::{PageSize, Pager};
@@ -23,17 +24,17 @@ const PAGE: usize = 512;
 
 /// Makes the file of a room where none is there, and begins an empty database in it where it holds
 /// none.
-pub fn make_file(rt: &HostRuntime, path: &str) -> Result<(), Failure>
+pub fn make_file(rt: &HostRuntime, explainer: Explainer<'_>, path: &str) -> Result<(), Failure>
     ensures { IfErr result IsFileFault }
 {
     make_private(rt, path)?;
-    let (files, options) = open_files(rt, path, Unknown)?;
-    let (begun, _files) = begin(rt.alloc(), files, options);
+    let (files, options) = open_files(rt, explainer, path, Unknown)?;
+    let (begun, _files) = begin(rt.alloc(), explainer, path, files, options);
     begun
 }
 
-// Makes a file that its owner alone reads and writes, where none is there; its log gets the same
-// mode. Why it can't be made is told by what opens it.
+// Makes a file that its owner only reads and writes, where none is there; its log gets the same
+// mode. Why it can't be made is reported by what opens it.
 fn make_private(rt: &HostRuntime, path: &str) -> Result<(), Failure>
     ensures { IfErr result IsFileFault }
 {
@@ -59,6 +60,8 @@ fn private_options() -> OpenOptions
 // also where it fails.
 fn begin<D: Disk + Drop>(
     alloc: Global,
+    explainer: Explainer<'_>,
+    path: &str,
     files: Files<D>,
     options: Options,
 ) -> (Result<(), Failure>, Files<D>)
@@ -78,18 +81,22 @@ fn begin<D: Disk + Drop>(
         Ok(pool) => pool,
         Err(failed) => return (Err(Failure::Memory), failed.value.close()),
     };
-    let made = begun(pool.create());
+    let made = begun(explainer, path, pool.create());
     (made, pool.close())
 }
 
-// What beginning a database came to: files that hold one already are refused as `Corrupt`.
-fn begun(created: Result<(), Error>) -> Result<(), Failure>
+// What beginning a database came to: files that hold one already are refused as `Corrupt`. Where it
+// failed, it is explained why.
+fn begun(explainer: Explainer<'_>, path: &str, created: Result<(), Error>) -> Result<(), Failure>
     ensures done { OnOk result (IfErr created (λ error. error ≡ Corrupt)) }
     ensures fault { IfErr result IsFileFault }
 {
     match created {
         Ok(()) | Err(Error::Corrupt) => Ok(()),
         Err(Error::OutOfMemory) => Err(Failure::Memory),
-        Err(_) => Err(Failure::Storage),
+        Err(error) => {
+            explainer.explain(format_args!("{path}: {error}"));
+            Err(Failure::Storage)
+        }
     }
 }

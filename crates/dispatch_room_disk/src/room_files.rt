@@ -2,14 +2,17 @@
 ghost use Rattle.std.specs.Prelude.{◌≡◌, ◌⊎◌, Err, Ok, true, false, IfErr, IfOk, IsOk, IsTrue, OnOk};
 ghost use Rattle.sqlite.specs.Files.{file_state};
 ghost use Rattle.sqlite.specs.State.{HasCleanDisk};
-ghost use Rattle.dispatch_room_endings.specs.declared.endings.Failure.TheVariants as failure;
-ghost use Rattle.dispatch_room_disk.specs.Faults.{IsFileFault, fault_of};
+ghost use Rattle.dispatch_room_exit.specs.declared.exit_status.Failure.TheVariants as failure;
+ghost use Rattle.dispatch_room_disk.specs.DiskFaults.{IsFileFault, fault_of};
 ghost use Rattle.dispatch_room_disk.specs.RoomFiles.{IsConnected, IsCopiedOut, IsDone, IsDoneInFile, IsFound, IsUnclosed, IsUndone, IsUndoneInFile, IsUnharmed, Refusing, Saying};
 
+use crate::file_causes::{explain_failed, explain_unbegun, explain_undone};
 use crate::new_files::make_file;
-use crate::opening::open_files;
-use dispatch_room_endings::endings::Failure;
-use dispatch_room_opening::rooms::Worked;
+use crate::new_logs::{lacked_log, remove_unused};
+use crate::opened_files::open_files;
+use dispatch_room_exit::exit_status::Failure;
+use dispatch_room_exit::explainer::Explainer;
+use dispatch_room_tasks::opened_room::TaskResult;
 use sqlite::{Alter, Connection, Error, ErrorCode, File, FileStore, Files, Options, Unknown};
 use sqlite_disk::Disk;
 use std::alloc::Global;
@@ -22,21 +25,23 @@ pub enum RoomFile<'a> {
     /// It has to be there. A file in which no database was begun is none, and stays as it is: to
     /// the database it is a new one, whose first page would be written.
     Kept(&'a str),
-    /// It is made where it is not there, for its owner alone.
+    /// It has to be there too, and to hold a room of version 1.
+    Old(&'a str),
+    /// It is made where it is not there, for its owner only.
     New(&'a str),
 }
 
 impl<'a> RoomFile<'a> {
-    fn path(self) -> &'a str {
+    pub(crate) fn path(self) -> &'a str {
         match self {
-            RoomFile::Kept(path) | RoomFile::New(path) => path,
+            RoomFile::Kept(path) | RoomFile::Old(path) | RoomFile::New(path) => path,
         }
     }
 }
 
 /// What is done in the file of a room, over any storage. A proof about a file of the system opens
 /// all that is inside it, so `in_file` has one, and hands it on as a file on any disk.
-pub trait Work: Drop {
+pub trait RoomTask: Drop {
     /// What comes of it.
     type Done: Drop;
 
@@ -47,13 +52,13 @@ pub trait Work: Drop {
     // What holds of a database in which there is nothing to be done, and of why.
     ghost refuses: { Self → Refusing };
 
-    /// Does it in a database, and writes to the output what it tells.
+    /// Does it in a database, and writes to the output what it reports.
     fn run<S: Alter + Drop, O: Write>(
         self,
         alloc: Global,
         conn: Connection<S>,
         out: &mut O,
-    ) -> Worked<Self::Done, S>
+    ) -> TaskResult<Self::Done, S>
         requires outside { conn.in_transaction ≡ false }
         ensures done { IfOk result (λ worked. says self S S.Store conn worked.1
             (O.contents out.old) (O.contents out.new) worked.0) }
@@ -61,8 +66,11 @@ pub trait Work: Drop {
 }
 
 /// Does what is to be done in a room's file, and closes the file with all that was committed in it.
-pub fn in_file<W: Work, O: Write>(
+/// Where the file can't be opened or closed, or there is nothing to be done in it, it is explained
+/// why.
+pub fn in_file<W: RoomTask, O: Write>(
     rt: &HostRuntime,
+    explainer: Explainer<'_>,
     alloc: Global,
     file: RoomFile<'_>,
     work: W,
@@ -73,15 +81,17 @@ pub fn in_file<W: Work, O: Write>(
     ensures undone { IfErr result (IsUndoneInFile (W.says work) (W.refuses work)
         (O.contents out.old) (O.contents out.new)) }
 {
-    match connect(rt, file) {
-        Ok(conn) => on_disk(alloc, conn, work, out),
+    match connect(rt, explainer, file) {
+        Ok(conn) => on_disk(alloc, explainer, file, conn, work, out),
         Err(fault) => Err(fault),
     }
 }
 
 // Does it in a file on any disk, and closes the file.
-fn on_disk<D: Disk + Drop, W: Work, O: Write>(
+fn on_disk<D: Disk + Drop, W: RoomTask, O: Write>(
     alloc: Global,
+    explainer: Explainer<'_>,
+    file: RoomFile<'_>,
     conn: Connection<FileStore<D>>,
     work: W,
     out: &mut O,
@@ -92,11 +102,15 @@ fn on_disk<D: Disk + Drop, W: Work, O: Write>(
     ensures undone { IfErr result (IsUndone (W.says work) (W.refuses work) conn
         (O.contents out.old) (O.contents out.new)) }
 {
-    closed(work.run(alloc, conn, out))
+    closed(explainer, file, work.run(alloc, conn, out))
 }
 
 // What was done in a file, once the file is closed with all that was committed in it.
-fn closed<D: Disk + Drop, T: Drop>(worked: Worked<T, FileStore<D>>) -> Result<T, Failure>
+fn closed<D: Disk + Drop, T: Drop>(
+    explainer: Explainer<'_>,
+    file: RoomFile<'_>,
+    worked: TaskResult<T, FileStore<D>>,
+) -> Result<T, Failure>
     ensures room { OnOk result (IsOk worked) }
     ensures done { IfOk worked (λ worked. IfOk result (λ done. worked.0 ≡ Ok done)) }
     ensures copied { IfOk worked (λ worked. OnOk result (IsCopiedOut worked.1)) }
@@ -105,16 +119,26 @@ fn closed<D: Disk + Drop, T: Drop>(worked: Worked<T, FileStore<D>>) -> Result<T,
     ensures none { IfErr worked (λ fault. result ≡ Err fault) }
 {
     match worked {
-        Ok((done, conn)) => match copied_out(conn) {
-            Ok(()) => done,
+        Ok((done, conn)) => match copied_out(explainer, file.path(), conn) {
+            Ok(()) => {
+                explain_failed(explainer, file, &done);
+                done
+            }
             Err(fault) => Err(fault),
         },
-        Err(fault) => Err(fault),
+        Err(fault) => {
+            explain_undone(explainer, file, fault);
+            Err(fault)
+        }
     }
 }
 
 // Closes a file, with all in it that was committed.
-fn copied_out<D: Disk + Drop>(conn: Connection<FileStore<D>>) -> Result<(), Failure>
+fn copied_out<D: Disk + Drop>(
+    explainer: Explainer<'_>,
+    path: &str,
+    conn: Connection<FileStore<D>>,
+) -> Result<(), Failure>
     ensures copied { OnOk result (IsCopiedOut conn) }
     ensures fault { IfErr result (IsUnclosed conn) }
 {
@@ -125,28 +149,42 @@ fn copied_out<D: Disk + Drop>(conn: Connection<FileStore<D>>) -> Result<(), Fail
         }
         Err((error, store)) => {
             drop(store.close());
-            Err(fault_of(error))
+            Err(fault_of(explainer, path, error))
         }
     }
 }
 
-// A connection to the file of a room.
-fn connect(rt: &HostRuntime, file: RoomFile<'_>) -> Result<Connection<FileStore<File>>, Failure>
+// A connection to the file of a room. A log that the file lacked is not there afterwards where none
+// comes of it.
+fn connect(
+    rt: &HostRuntime,
+    explainer: Explainer<'_>,
+    file: RoomFile<'_>,
+) -> Result<Connection<FileStore<File>>, Failure>
     ensures outside { IfOk result (λ conn. conn.in_transaction ≡ false) }
     ensures connected { IfOk result IsConnected }
     ensures fault { IfErr result (λ fault. (fault ≡ failure.File) ⊎ IsFileFault fault) }
 {
+    let lacked = lacked_log(rt, file.path());
     match file {
-        RoomFile::Kept(path) => found(is_begun(rt, path))?,
-        RoomFile::New(path) => make_file(rt, path)?,
+        RoomFile::Kept(path) | RoomFile::Old(path) => {
+            let begun = is_begun(rt, path);
+            explain_unbegun(explainer, path, &begun);
+            found(begun)?;
+        }
+        RoomFile::New(path) => make_file(rt, explainer, path)?,
     }
-    let (files, options) = open_files(rt, file.path(), Unknown)?;
-    connection(rt.alloc(), files, options)
+    let (files, options) = open_files(rt, explainer, file.path(), Unknown)?;
+    connection(rt, explainer, file.path(), lacked, files, options)
 }
 
-// A connection to the database that files hold.
+// A connection to the database that files hold. Where they hold none, a log that was lacked is
+// removed while the files are still locked.
 fn connection<D: Disk + Drop>(
-    alloc: Global,
+    rt: &HostRuntime,
+    explainer: Explainer<'_>,
+    path: &str,
+    lacked: Option<String>,
     files: Files<D>,
     options: Options,
 ) -> Result<Connection<FileStore<D>>, Failure>
@@ -157,13 +195,17 @@ fn connection<D: Disk + Drop>(
     ensures unharmed { IfErr result (IsUnharmed D.Disk files) }
     ensures fault { IfErr result IsFileFault }
 {
-    match Connection::open_files(alloc, files, options) {
+    match Connection::open_files(rt.alloc(), files, options) {
         Ok(conn) => Ok(conn),
-        Err((error, _)) => Err(fault_of(error)),
+        Err((error, left)) => {
+            remove_unused(rt, lacked);
+            drop(left);
+            Err(fault_of(explainer, path, error))
+        }
     }
 }
 
-// What is told of a file by whether a database was begun in it, whole or damaged.
+// What is reported of a file by whether a database was begun in it, whole or damaged.
 fn found(begun: io::Result<bool>) -> Result<(), Failure>
     ensures begun { OnOk result (begun ≡ Ok true) }
     ensures none { begun ≡ Ok false → result ≡ Err failure.File }
@@ -191,9 +233,11 @@ fn is_begun(rt: &HostRuntime, path: &str) -> io::Result<bool> {
     Ok(first[0] != 0)
 }
 
-fn fault_of(error: Error) -> Failure
+// What an error of the database is to the program, and it is explained.
+fn fault_of(explainer: Explainer<'_>, path: &str, error: Error) -> Failure
     ensures { result ≡ fault_of error }
 {
+    explainer.explain(format_args!("{path}: {error}"));
     match error {
         Error::SqliteFailure(ErrorCode::OutOfMemory) => Failure::Memory,
         _ => Failure::Storage,

@@ -2,10 +2,10 @@
 use Rattle.std.proofs.Common.{◌≡◌, ◌∙◌, ap, sym, refl, arith, ℕ, ◌+◌, List, [], ◌∷◌, ◌++◌, length, drop, min, append-nil, append_assoc, length-append, All, Option, Some, None, Result, Ok, Err}
 use Rattle.std.specs.Io.KnownBytes.{prepend_known, Keeps}
 use Rattle.std.proofs.lemmas.List.Elements.{All-nil, All-push}
-use Rattle.dispatch_room_journal.specs.declared.looks.Layout.{Layout}
+use Rattle.dispatch_room_journal.specs.declared.entry_prefixes.EntryLayout.{EntryLayout}
 use Rattle.dispatch_room_journal.specs.Entries.{Entry, IsEntry, text_of, texts_of}
-use Rattle.dispatch_room_journal.specs.Looks.{IsLayout}
-use Rattle.dispatch_room_journal.specs.Ends.{most_bytes}
+use Rattle.dispatch_room_journal.specs.EntryPrefixes.{IsLayout}
+use Rattle.dispatch_room_journal.specs.WholeEntries.{most_bytes}
 
 -- these entries were taken, and what is left of the text follows them
 pub record Taken (first left : Option (List ℕ)) (taken : ℕ) (entries : List Entry) : Type 0 where
@@ -46,7 +46,7 @@ taken_kept first (Some left) (Some after) taken entries x keeps = record {
 
 -- one more entry is taken from the front of the inbox
 pub taken_more : (first left : Option (List ℕ)) (kept : List ℕ) (taken now : ℕ)
-    (entries : List Entry) (layout : Layout) (e : Entry)
+    (entries : List Entry) (layout : EntryLayout) (e : Entry)
     → Taken first (prepend_known kept left) taken entries
     → IsLayout kept layout e → now ≡ min (taken + layout.end) most_bytes
     → Taken first (prepend_known (drop layout.end kept) left) now (entries ++ e ∷ [])

@@ -3,46 +3,46 @@ use Rattle.std.proofs.Common.{◌≡◌, ◌≢◌, ◌∙◌, sym, ap, subst, r
 use Rattle.std.proofs.Math.Seq.{get_or-append_seam}
 use Rattle.std.proofs.lemmas.List.{length-replicate, drop_at, get_or_append_left}
 use Rattle.std.proofs.lemmas.List.Elements.{All-head, All-tail}
-use Rattle.room_service.specs.declared.digests.Head.{Head}
-use Rattle.room_service.specs.declared.digests.Version.TheVariants.{First}
-use Rattle.dispatch_room_journal.specs.declared.lines.Line.{Line}
-use Rattle.dispatch_room_journal.specs.declared.lines.Line.TheVariants.{Room, Message, Answer}
+use Rattle.room_model.specs.declared.digests.Head.{Head}
+use Rattle.room_model.specs.declared.digests.Version.TheVariants.{First}
+use Rattle.dispatch_room_journal.specs.declared.entry_lines.EntryLine.{EntryLine}
+use Rattle.dispatch_room_journal.specs.declared.entry_lines.EntryLine.TheVariants.{Room, Message, Answer}
 use Rattle.dispatch_room_journal.specs.Entries.{Entry, room, message, answer, IsLine, IsEntry, line_text, line_of, rest_of, text_of, texts_of, IsPart, IsForeign}
-use Rattle.dispatch_room_journal.specs.declared.looks.Layout.{Layout}
-use Rattle.dispatch_room_journal.specs.Looks.{IsLayout}
+use Rattle.dispatch_room_journal.specs.declared.entry_prefixes.EntryLayout.{EntryLayout}
+use Rattle.dispatch_room_journal.specs.EntryPrefixes.{IsLayout}
 use Rattle.dispatch_room_journal.specs.Laws.{IsOneEntry, IsNoEnd, IsOneJournal}
-use Rattle.dispatch_room_journal.specs.Parts.{Lacks, BeginsOne, IsLineText}
+use Rattle.dispatch_room_journal.specs.TextParts.{Lacks, BeginsOne, IsLineText}
 use Rattle.dispatch_room_journal.proofs.TextLemmas.{head, split, parts_of, cut_unique, has_mark}
 use Rattle.dispatch_room_journal.proofs.LineLemmas.{line_lacks, line_injective}
 
--- what a line and an entry's line can be told apart by
-abbrev kind : Line → ℕ
+-- what a line and an entry's line can be distinguished by
+abbrev kind : EntryLine → ℕ
 kind (Room digest) = 0
 kind (Message at size) = 1
 kind (Answer status) = 2
 
-abbrev moment_of : Line → ℕ
+abbrev moment_of : EntryLine → ℕ
 moment_of (Message at size) = at
 moment_of (Room digest) = 0
 moment_of (Answer status) = 0
 
-abbrev size_of : Line → ℕ
+abbrev size_of : EntryLine → ℕ
 size_of (Message at size) = size
 size_of (Room digest) = 0
 size_of (Answer status) = 0
 
-abbrev head_of : Line → Head
+abbrev head_of : EntryLine → Head
 head_of (Room h) = h
 head_of (Message at size) = record { version = First; digits = [] }
 head_of (Answer status) = record { version = First; digits = [] }
 
-abbrev status_of : Line → ℕ
+abbrev status_of : EntryLine → ℕ
 status_of (Answer status) = status
 status_of (Room digest) = 0
 status_of (Message at size) = 0
 
 -- a text that begins with a line and its end, and with an entry, begins with the entry's line
-pub line_is : (l : Line) (rest : List ℕ) (e : Entry) (left : List ℕ) → IsLine l → IsEntry e
+pub line_is : (l : EntryLine) (rest : List ℕ) (e : Entry) (left : List ℕ) → IsLine l → IsEntry e
     → line_text l ++ 10 ∷ rest ≡ text_of e ++ left
     → (l ≡ line_of e) × (rest ≡ rest_of e ++ left)
 line_is l rest e left x y is =
@@ -108,12 +108,12 @@ one_journal_law (e ∷ entries) (f ∷ others) x y is =
     λ i. first.0 i ∷ more i
 
 -- the least entry of a line: a message of zeros
-abbrev entry_of : Line → Entry
+abbrev entry_of : EntryLine → Entry
 entry_of (Room digest) = room digest
 entry_of (Message at size) = message at (replicate size 48)
 entry_of (Answer status) = answer status
 
-line_of_entry : (l : Line) → line_of (entry_of l) ≡ l
+line_of_entry : (l : EntryLine) → line_of (entry_of l) ≡ l
 line_of_entry (Room digest) = refl
 line_of_entry (Message at size) = ap (λ n. Message at n) (length-replicate size 48)
 line_of_entry (Answer status) = refl
@@ -127,7 +127,7 @@ part_of_line bytes has =
     let e = entry_of l in (
       e,
       more ++ 10 ∷ rest_of e,
-      subst (λ (m : Line). IsLine m) (sym (line_of_entry l)) has.2.1,
+      subst (λ (m : EntryLine). IsLine m) (sym (line_of_entry l)) has.2.1,
       ap (λ m. line_text m ++ 10 ∷ rest_of e) (line_of_entry l) ∙ ap (λ t. t ++ 10 ∷ rest_of e) line ∙ append_assoc bytes more (10 ∷ rest_of e),
       omega (arith, length-append more (10 ∷ rest_of e)),
     )
@@ -169,7 +169,7 @@ part_of_message bytes at size rest x is short =
     let line : Message at (length (rest ++ zeros)) ≡ Message at size = ap (λ n. Message at n) len in (
       message at (rest ++ zeros),
       zeros ++ 10 ∷ [],
-      subst (λ (m : Line). IsLine m) (sym line) x,
+      subst (λ (m : EntryLine). IsLine m) (sym line) x,
       ap (λ m. line_text m ++ 10 ∷ ((rest ++ zeros) ++ 10 ∷ [])) line
           ∙ ap (λ t. line_text (Message at size) ++ 10 ∷ t) (append_assoc rest zeros (10 ∷ []))
           ∙ sym (append_assoc (line_text (Message at size)) (10 ∷ rest) (zeros ++ 10 ∷ []))
@@ -195,7 +195,7 @@ foreign_message bytes at size rest x is long other more e left begun =
     other (sym (get_or_append_left rest more 0 size long) ∙ ap (λ t. get_or t size 0) found.1 ∙ after_message e at size left found.0)
 
 -- bytes that begin with an entry have its layout
-whole : (bytes rest : List ℕ) (layout : Layout) (e : Entry) → IsEntry e → bytes ≡ text_of e ++ rest
+whole : (bytes rest : List ℕ) (layout : EntryLayout) (e : Entry) → IsEntry e → bytes ≡ text_of e ++ rest
     → layout.line ≡ line_of e
     → layout.start ≡ length (line_text (line_of e)) + 1 → layout.end ≡ length (text_of e)
     → IsLayout bytes layout e
@@ -206,12 +206,12 @@ whole bytes rest layout e x is line start end = record {
   end = end;
 }
 
-length_of : (l : Line) (rest bytes : List ℕ) → bytes ≡ line_text l ++ 10 ∷ rest
+length_of : (l : EntryLine) (rest bytes : List ℕ) → bytes ≡ line_text l ++ 10 ∷ rest
     → length bytes ≡ length (line_text l) + 1 + length rest
 length_of l rest bytes is = ap length is ∙ length-append (line_text l) (10 ∷ rest) ∙ omega arith
 
 -- a line of a room or of an answer is its entry
-pub whole_line : (bytes rest : List ℕ) (layout : Layout) (l : Line) → IsLine l
+pub whole_line : (bytes rest : List ℕ) (layout : EntryLayout) (l : EntryLine) → IsLine l
     → ((at size : ℕ) → l ≢ Message at size) → bytes ≡ line_text l ++ 10 ∷ rest
     → layout.line ≡ l → layout.start ≡ length bytes - length rest → layout.end ≡ layout.start
     → (e : Entry) × IsLayout bytes layout e
@@ -230,7 +230,7 @@ whole_line bytes rest layout (Answer s) x other is line start end =
 whole_line bytes rest layout (Message at size) x other is line start end = absurd (other at size refl)
 
 -- a line of a message, as many bytes as it says, and a line end
-pub whole_message : (bytes rest : List ℕ) (layout : Layout) (at size : ℕ)
+pub whole_message : (bytes rest : List ℕ) (layout : EntryLayout) (at size : ℕ)
     → IsLine (Message at size) → bytes ≡ line_text (Message at size) ++ 10 ∷ rest
     → size < length rest → get_or rest size 0 ≡ 10 → layout.line ≡ Message at size
     → layout.start ≡ length bytes - length rest → layout.end ≡ layout.start + size + 1
@@ -243,7 +243,7 @@ whole_message bytes rest layout at size x is long end_is line start end =
     sym (take-append-drop size rest) ∙ ap (λ t. body ++ t) (rw (add-one) (drop-cons rest size 0 long) ∙ ap (λ k. k ∷ drop (size + 1) rest) end_is) in
     let total = length_of (Message at size) rest bytes is in (
       message at body,
-      whole bytes (drop (size + 1) rest) layout (message at body) (subst (λ (m : Line). IsLine m) (sym same) x)
+      whole bytes (drop (size + 1) rest) layout (message at body) (subst (λ (m : EntryLine). IsLine m) (sym same) x)
           (is ∙ ap (λ m. line_text m ++ 10 ∷ rest) (sym same) ∙ ap (λ t. line_text (Message at (length body)) ++ 10 ∷ t) (cut ∙ sym (append_assoc body (10 ∷ []) (drop (size + 1) rest)))
           ∙ sym (append_assoc (line_text (Message at (length body))) (10 ∷ (body ++ 10 ∷ [])) (drop (size + 1) rest)))
           (line ∙ sym same)

@@ -7,3 +7,12 @@ pub mod EntryLemmas
 pub mod WritingLemmas
 pub mod ReadingLemmas
 pub mod EndLemmas
+pub mod FaultLemmas
+pub mod NextEntryLemmas
+pub mod TurnLemmas
+pub mod StepLemmas
+pub mod ReplayLawLemmas
+pub mod FrameLemmas
+pub mod RoomLaws
+pub mod WholeLaws
+pub mod KeptTurns

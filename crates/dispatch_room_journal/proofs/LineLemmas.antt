@@ -4,12 +4,12 @@ use Rattle.std.proofs.lemmas.Bool.{false≢true}
 use Rattle.std.proofs.lemmas.Fmt.{decimal_injective}
 use Rattle.std.proofs.lemmas.List.{append_cancel_left}
 use Rattle.std.proofs.lemmas.List.Elements.{All-weaker, All-cons, All-from_recursion}
-use Rattle.room_service.specs.declared.digests.Version.{Version}
-use Rattle.room_service.specs.declared.digests.Version.TheVariants.{First, Second}
-use Rattle.dispatch_room_journal.specs.declared.lines.Line.{Line}
-use Rattle.dispatch_room_journal.specs.declared.lines.Line.TheVariants.{Room, Message, Answer}
+use Rattle.room_model.specs.declared.digests.Version.{Version}
+use Rattle.room_model.specs.declared.digests.Version.TheVariants.{First, Second}
+use Rattle.dispatch_room_journal.specs.declared.entry_lines.EntryLine.{EntryLine}
+use Rattle.dispatch_room_journal.specs.declared.entry_lines.EntryLine.TheVariants.{Room, Message, Answer}
 use Rattle.dispatch_room_journal.specs.Entries.{is_digest_digit, IsDigest, IsLine, head_words, line_text}
-use Rattle.dispatch_room_journal.specs.Parts.{Lacks}
+use Rattle.dispatch_room_journal.specs.TextParts.{Lacks}
 use Rattle.dispatch_room_journal.proofs.TextLemmas.{head, cut_unique, lacks_append}
 use Rattle.dispatch_room_journal.proofs.NumberLemmas.{digits_lack}
 
@@ -36,7 +36,7 @@ digest_lacks digest is =
     All-weaker (λ byte. is_digest_digit byte ≡ true) (λ byte. byte ≢ 10) (λ byte digit ten. false≢true (rw ten at digit)) digest is.1
 
 -- a line has no line end in it
-pub line_lacks : (l : Line) → IsLine l → Lacks 10 (line_text l)
+pub line_lacks : (l : EntryLine) → IsLine l → Lacks 10 (line_text l)
 line_lacks (Room h) is = lacks_append 10 (head_words h.version) h.digits (lacks_words h.version) (digest_lacks h.digits is)
 line_lacks (Message at size) is =
     lacks_append 10 (codes "message ") (decimal at ++ 32 ∷ decimal size) lacks_message
@@ -44,7 +44,7 @@ line_lacks (Message at size) is =
     (lacks_cons 10 32 (decimal size) (omega arith) (digits_lack 10 size (omega arith) (omega (arith, is)))))
 line_lacks (Answer status) is = lacks_append 10 (codes "answer ") (decimal status) lacks_answer (digits_lack 10 status (omega arith) (omega (arith, is)))
 
--- the text of a head tells which digest it is, and begins as no other line does
+-- the text of a head says which digest it is, and begins as no other line does
 head_injective : (v w : Version) (d f : List ℕ) → head_words v ++ d ≡ head_words w ++ f
     → (v ≡ w) × (d ≡ f)
 head_injective First First d f is = (refl, append_cancel_left (codes "room 1 ") d f is)
@@ -57,7 +57,7 @@ words_first First digits = refl
 words_first Second digits = refl
 
 -- lines of one text are one
-pub line_injective : (l m : Line) → IsLine l → IsLine m → line_text l ≡ line_text m → l ≡ m
+pub line_injective : (l m : EntryLine) → IsLine l → IsLine m → line_text l ≡ line_text m → l ≡ m
 line_injective (Room d) (Room f) x y is =
     let same = head_injective d.version f.version d.digits f.digits is in
     λ i. Room (record { version = same.0 i; digits = same.1 i })

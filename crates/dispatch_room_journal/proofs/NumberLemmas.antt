@@ -8,7 +8,7 @@ use Rattle.std.proofs.lemmas.Str.{IsUtf8-from_ascii}
 use Rattle.std.proofs.lemmas.Str.Parse.{digit_at}
 use Rattle.std.specs.Str.{IsUtf8}
 use Rattle.std.specs.Str.Parse.{ParsesUnsigned}
-use Rattle.dispatch_room_journal.specs.Parts.{Lacks, IsNumber, BeginsOne}
+use Rattle.dispatch_room_journal.specs.TextParts.{Lacks, IsNumber, BeginsOne}
 use Rattle.dispatch_room_journal.proofs.TextLemmas.{split}
 
 -- digits are text

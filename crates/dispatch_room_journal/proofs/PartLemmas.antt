@@ -9,11 +9,11 @@ use Rattle.std.proofs.lemmas.List.{append_cancel_left, length-replicate}
 use Rattle.std.proofs.Math.Seq.{take-append_seam}
 use Rattle.std.proofs.lemmas.List.Elements.{All-append, All-take, All-replicate, All-same}
 use Rattle.room_http_messages.specs.declared.limits.TheConstants.{INBOX_ROOM}
-use Rattle.room_service.specs.declared.digests.Version.{Version}
-use Rattle.dispatch_room_journal.specs.declared.lines.Line.TheVariants.{Room, Message, Answer}
-use Rattle.dispatch_room_journal.specs.declared.lines.TheConstants.{LAST_MOMENT, LEAST_STATUS, GREATEST_STATUS, DIGEST_DIGITS}
+use Rattle.room_model.specs.declared.digests.Version.{Version}
+use Rattle.dispatch_room_journal.specs.declared.entry_lines.EntryLine.TheVariants.{Room, Message, Answer}
+use Rattle.dispatch_room_journal.specs.declared.entry_lines.TheConstants.{LAST_MOMENT, LEAST_STATUS, GREATEST_STATUS, DIGEST_DIGITS}
 use Rattle.dispatch_room_journal.specs.Entries.{is_digest_digit, IsDigest, head_words}
-use Rattle.dispatch_room_journal.specs.Parts.{Lacks, BeginsOne, After, AreNumbers, IsNumber, IsLineText}
+use Rattle.dispatch_room_journal.specs.TextParts.{Lacks, BeginsOne, After, AreNumbers, IsNumber, IsLineText}
 use Rattle.dispatch_room_journal.proofs.TextLemmas.{head, split, cut_unique, has_mark}
 use Rattle.dispatch_room_journal.proofs.NumberLemmas.{digits_lack}
 
@@ -193,7 +193,7 @@ pub word_some : (word : List ℕ) (Kind : List ℕ → Type 0) (bytes rest : Lis
 word_some word Kind bytes rest b is begun =
     (λ yes. after_word word Kind bytes rest is (begun.0 yes), λ all. begun.1 (before_word word Kind bytes rest is all))
 
--- and where the word does not begin it, the word alone
+-- and where the word does not begin it, only the word
 pub word_none : (word : List ℕ) (Kind : List ℕ → Type 0) (bytes : List ℕ) (b : Bool) (u : List ℕ)
     → Kind u → ((rest : List ℕ) → bytes ≢ word ++ rest)
     → b ≡ starts_with nat_eq word bytes → IsTrue b ↔ BeginsOne (After word Kind) bytes

@@ -2,13 +2,13 @@
 use Rattle.std.proofs.Common.{◌≡◌, ◌∙◌, ap, sym, subst, refl, arith, ℕ, ◌+◌, ◌-◌, ◌<◌, ◌≤◌, List, [], ◌∷◌, ◌++◌, length, drop, append-nil, append_assoc, length-append, Bool, true, false, Option, Some, None, Result, Ok, Err}
 use Rattle.std.specs.Io.KnownBytes.{prepend_known, Keeps, Consumes, IsAtEnd}
 use Rattle.std.proofs.lemmas.List.{drop-append-le, nil_from_length}
-use Rattle.dispatch_room_journal.specs.declared.inbox.TheConstants.{ENTRY_ROOM}
-use Rattle.dispatch_room_journal.specs.declared.looks.Layout.{Layout}
-use Rattle.dispatch_room_journal.specs.declared.reading.Fault.{Fault}
-use Rattle.dispatch_room_journal.specs.declared.reading.Fault.TheVariants.{Cut, Foreign, Read}
+use Rattle.dispatch_room_journal.specs.declared.journal_inbox.TheConstants.{ENTRY_ROOM}
+use Rattle.dispatch_room_journal.specs.declared.entry_prefixes.EntryLayout.{EntryLayout}
+use Rattle.dispatch_room_journal.specs.declared.entry_reader.EntryFault.{EntryFault}
+use Rattle.dispatch_room_journal.specs.declared.entry_reader.EntryFault.TheVariants.{Cut, Foreign, Read}
 use Rattle.dispatch_room_journal.specs.Entries.{Entry, text_of, IsPart}
-use Rattle.dispatch_room_journal.specs.Looks.{IsLayout}
-use Rattle.dispatch_room_journal.specs.Readings.{SaysOf, FirstIs, end_of}
+use Rattle.dispatch_room_journal.specs.EntryPrefixes.{IsLayout}
+use Rattle.dispatch_room_journal.specs.EntryReadings.{SaysOf, FirstIs, end_of}
 use Rattle.dispatch_room_journal.proofs.WritingLemmas.{entry_fits}
 
 -- the text that bytes go from to the inbox stays the same
@@ -42,12 +42,12 @@ ends before kept more failed ended left none is part sound found end =
     go (byte ∷ rest) same = (omega arith, subst (λ (t : List ℕ). IsPart t) (sym same) part, found, end, sound)
 
 -- an entry at the front of the bytes ends within them
-pub layout_fits : (kept : List ℕ) (layout : Layout) (e : Entry) → IsLayout kept layout e
+pub layout_fits : (kept : List ℕ) (layout : EntryLayout) (e : Entry) → IsLayout kept layout e
     → layout.end ≤ length kept
 layout_fits kept layout e x = omega (arith, x.end, length-append (text_of e) (drop layout.end kept), ap length x.begins.1)
 
 -- bytes that follow leave the entry at the front
-layout-append : (kept more : List ℕ) (layout : Layout) (e : Entry) → IsLayout kept layout e
+layout-append : (kept more : List ℕ) (layout : EntryLayout) (e : Entry) → IsLayout kept layout e
     → IsLayout (kept ++ more) layout e
 layout-append kept more layout e x =
     record {
@@ -62,7 +62,7 @@ layout-append kept more layout e x =
     }
 
 -- what is said of the bytes that are kept holds of the text
-says_first : (kept more : List ℕ) (failed ended : Bool) (result : Result (Option Layout) Fault)
+says_first : (kept more : List ℕ) (failed ended : Bool) (result : Result (Option EntryLayout) EntryFault)
     → SaysOf kept failed ended (Some more) result → FirstIs (kept ++ more) result
 says_first kept more failed ended (Ok (Some layout)) says = (says.0.0, layout-append kept more layout says.0.0 says.0.1)
 says_first kept more failed ended (Ok None) says = rw (says.0, says.2) refl
@@ -74,7 +74,7 @@ says_first kept more failed ended (Err Foreign) says =
 says_first kept more failed ended (Err Read) says = tt
 
 pub first_found : (old new : Option (List ℕ)) (before after : List ℕ) (failed ended : Bool)
-    (result : Result (Option Layout) Fault)
+    (result : Result (Option EntryLayout) EntryFault)
     → Keeps (prepend_known before old) (prepend_known after new)
     → SaysOf after failed ended new result
     → (text : List ℕ) → prepend_known before old ≡ Some text → FirstIs text result

@@ -2,7 +2,7 @@
 use Rattle.std.proofs.Common.{◌≡◌, ◌≢◌, ◌∙◌, sym, ap, refl, ℕ, ◌+◌, List, [], ◌∷◌, ◌++◌, length, take, drop, get_or, ◌⊎◌, inl, inr}
 use Rattle.std.proofs.lemmas.List.{take_at, drop_at}
 use Rattle.std.proofs.lemmas.List.Elements.{All-head, All-tail, All-cons}
-use Rattle.dispatch_room_journal.specs.Parts.{Lacks}
+use Rattle.dispatch_room_journal.specs.TextParts.{Lacks}
 
 abbrev pub head : List ℕ → ℕ
 head t = get_or t 0 0

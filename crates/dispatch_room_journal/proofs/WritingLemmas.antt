@@ -3,11 +3,11 @@ use Rattle.std.proofs.Common.{◌≡◌, ◌∙◌, refl, sym, ap, subst, arith,
 use Rattle.std.proofs.lemmas.Fmt.{length-decimal-le}
 use Rattle.room_http_messages.specs.Streams.{WritesAll}
 use Rattle.room_http_messages.proofs.StreamLemmas.{Appends-more}
-use Rattle.room_service.specs.declared.digests.Version.{Version}
-use Rattle.room_service.specs.declared.digests.Version.TheVariants.{First, Second}
-use Rattle.dispatch_room_journal.specs.declared.inbox.TheConstants.{ENTRY_ROOM}
-use Rattle.dispatch_room_journal.specs.declared.lines.Line.{Line}
-use Rattle.dispatch_room_journal.specs.declared.lines.Line.TheVariants.{Room, Message, Answer}
+use Rattle.room_model.specs.declared.digests.Version.{Version}
+use Rattle.room_model.specs.declared.digests.Version.TheVariants.{First, Second}
+use Rattle.dispatch_room_journal.specs.declared.journal_inbox.TheConstants.{ENTRY_ROOM}
+use Rattle.dispatch_room_journal.specs.declared.entry_lines.EntryLine.{EntryLine}
+use Rattle.dispatch_room_journal.specs.declared.entry_lines.EntryLine.TheVariants.{Room, Message, Answer}
 use Rattle.dispatch_room_journal.specs.Entries.{Entry, room, message, answer, IsLine, IsEntry, head_words, line_text, text_of}
 
 words_length : (version : Version) → length (head_words version) ≡ 7
@@ -15,7 +15,7 @@ words_length First = refl
 words_length Second = refl
 
 -- a line is not longer than that of a digest
-pub line_short : (l : Line) → IsLine l → length (line_text l) ≤ 71
+pub line_short : (l : EntryLine) → IsLine l → length (line_text l) ≤ 71
 line_short (Room h) is = omega (arith, is.0, words_length h.version, length-append (head_words h.version) h.digits)
 line_short (Message at size) is =
     omega (
@@ -70,13 +70,13 @@ module _ {W E : Type 0} (held : W → Option (List ℕ)) (failed : W → Bool) w
       }
 
   -- a line is written, and then the rest of an entry
-  pub line-cut : (a b : W) (l : Line) (rest : List ℕ) (e : E)
+  pub line-cut : (a b : W) (l : EntryLine) (rest : List ℕ) (e : E)
       → WritesAll held failed a b (line_text l ++ 10 ∷ []) (Err e)
       → WritesAll held failed a b (line_text l ++ 10 ∷ rest) (Err e)
   line-cut a b l rest e first =
       subst (λ (t : List ℕ). WritesAll held failed a b t (Err e)) (append_assoc (line_text l) (10 ∷ []) rest) (WritesAll-cut a b (line_text l ++ 10 ∷ []) rest e first)
 
-  pub line-more : (a b c : W) (l : Line) (rest : List ℕ) (r : Result (Unit {0}) E)
+  pub line-more : (a b c : W) (l : EntryLine) (rest : List ℕ) (r : Result (Unit {0}) E)
       → WritesAll {E = E} held failed a b (line_text l ++ 10 ∷ []) (Ok tt)
       → WritesAll held failed b c rest r → WritesAll held failed a c (line_text l ++ 10 ∷ rest) r
   line-more a b c l rest r first second =

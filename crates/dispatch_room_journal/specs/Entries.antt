@@ -1,15 +1,15 @@
--- What a journal tells, and the text in which it tells it.
+-- What a journal says, and the text in which it says it.
 use Rattle.std.specs.Prelude.{◌≡◌, ℕ, ◌+◌, ◌<◌, ◌≤◌, nat_le, List, [], ◌∷◌, ◌++◌, length, codes, decimal, Bool, true, ◌&&◌, ◌||◌, All}
 use Rattle.std.specs.List.{flat_map}
 use Rattle.room_http_messages.specs.declared.limits.TheConstants.{INBOX_ROOM}
-use Rattle.room_service.specs.declared.digests.Head.{Head}
-use Rattle.room_service.specs.declared.digests.Version.{Version}
-use Rattle.room_service.specs.declared.digests.Version.TheVariants.{First, Second}
-use Rattle.dispatch_room_journal.specs.declared.lines.Line.{Line}
-use Rattle.dispatch_room_journal.specs.declared.lines.Line.TheVariants.{Room, Message, Answer}
-use Rattle.dispatch_room_journal.specs.declared.lines.TheConstants.{LAST_MOMENT, LEAST_STATUS, GREATEST_STATUS, DIGEST_DIGITS}
+use Rattle.room_model.specs.declared.digests.Head.{Head}
+use Rattle.room_model.specs.declared.digests.Version.{Version}
+use Rattle.room_model.specs.declared.digests.Version.TheVariants.{First, Second}
+use Rattle.dispatch_room_journal.specs.declared.entry_lines.EntryLine.{EntryLine}
+use Rattle.dispatch_room_journal.specs.declared.entry_lines.EntryLine.TheVariants.{Room, Message, Answer}
+use Rattle.dispatch_room_journal.specs.declared.entry_lines.TheConstants.{LAST_MOMENT, LEAST_STATUS, GREATEST_STATUS, DIGEST_DIGITS}
 
--- A part begins, and its head tells the digest of the room's rows as it began; a message was
+-- A part begins, and its head gives the digest of the room's rows as it began; a message was
 -- answered, which came at a moment; its answer's status.
 pub data Entry : Type 0 where
   room : Head → Entry
@@ -25,7 +25,7 @@ abbrev pub IsDigest : List ℕ → Type 0
 IsDigest digits = (length digits ≡ DIGEST_DIGITS) × All (λ byte. is_digest_digit byte ≡ true) digits
 
 -- what the line says is in its range
-abbrev pub IsLine : Line → Type 0
+abbrev pub IsLine : EntryLine → Type 0
 IsLine (Room head) = IsDigest head.digits
 IsLine (Message at size) = (at ≤ LAST_MOMENT) × (1 ≤ size) × (size ≤ INBOX_ROOM)
 IsLine (Answer status) = (LEAST_STATUS ≤ status) × (status ≤ GREATEST_STATUS)
@@ -36,13 +36,13 @@ head_words First = codes "room 1 "
 head_words Second = codes "room 2 "
 
 -- the text of a line, without the line end
-abbrev pub line_text : Line → List ℕ
+abbrev pub line_text : EntryLine → List ℕ
 line_text (Room head) = head_words head.version ++ head.digits
 line_text (Message at size) = codes "message " ++ (decimal at ++ 32 ∷ decimal size)
 line_text (Answer status) = codes "answer " ++ decimal status
 
 -- an entry's line
-abbrev pub line_of : Entry → Line
+abbrev pub line_of : Entry → EntryLine
 line_of (room head) = Room head
 line_of (message at bytes) = Message at (length bytes)
 line_of (answer status) = Answer status
@@ -59,7 +59,7 @@ bytes_of (room head) = []
 bytes_of (message at bytes) = bytes
 bytes_of (answer status) = []
 
--- what is told is in its range
+-- what is said is in its range
 abbrev pub IsEntry : Entry → Type 0
 IsEntry e = IsLine (line_of e)
 

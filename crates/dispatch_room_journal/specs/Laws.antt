@@ -1,4 +1,4 @@
--- What the text of a journal alone decides.
+-- What the text of a journal decides by itself.
 use Rattle.std.specs.Prelude.{◌≡◌, ℕ, List, [], All}
 use Rattle.dispatch_room_journal.specs.Entries.{Entry, IsEntry, texts_of, Begins, IsPart, IsForeign}
 

@@ -1,4 +1,4 @@
-//! What the text of a journal alone decides. Each law is the contract of a function that does
+//! What the text of a journal decides by itself. Each law is the contract of a function that does
 //! nothing.
 ghost use Rattle.dispatch_room_journal.specs.Laws.{IsNoEnd, IsOneEntry, IsOneJournal};
 

@@ -10,20 +10,33 @@
 //! answer 200                   its answer's status
 //! ```
 //!
-//! A line `room 1 ..` tells the digest of all rows but that of the zone.
+//! A line `room 1 ..` gives the digest of all rows but that of the zone.
 //!
 //! `put_room`, `put_message` and `put_answer` write entries, and `read_entry` reads them again in
 //! the memory of one message.
+//!
+//! A replay plays the messages of a journal, at their moments, to a room that stands where the
+//! journal begins, and compares their answers with those that it has.
 #![tactic(auto)]
 
-pub mod beginnings;
-pub mod digests;
-pub mod ends;
-pub mod inbox;
+pub mod answer_frames;
+pub mod entry_lines;
+pub mod entry_prefixes;
+pub mod entry_reader;
+pub mod entry_writer;
+pub mod journal_digests;
+pub mod journal_inbox;
+pub mod journal_messages;
+pub mod journal_numbers;
 pub mod laws;
-pub mod lines;
-pub mod looks;
-pub mod numbers;
-pub mod reading;
+pub mod line_prefixes;
+pub mod next_entry;
+pub mod outcomes;
+pub mod played_message;
+pub mod replay_faults;
+pub mod replay_laws;
+pub mod replay_progress;
+pub mod replayed_journal;
 pub mod statuses;
-pub mod writing;
+pub mod streamed_messages;
+pub mod whole_entries;

@@ -1,11 +1,11 @@
 //! The status of an answer, found in its bytes.
 ghost use Rattle.std.specs.Prelude.{◌≡◌, ◌≤◌, decimal, length, MatchOption};
 ghost use Rattle.dispatch_room_journal.specs.Entries.{IsEntry, answer};
-ghost use Rattle.dispatch_room_journal.specs.Parts.{IsNumber};
-ghost use Rattle.dispatch_room_journal.specs.Records.{status_in};
+ghost use Rattle.dispatch_room_journal.specs.TextParts.{IsNumber};
+ghost use Rattle.dispatch_room_journal.specs.JournalRecords.{status_in};
 
-use crate::lines::{GREATEST_STATUS, LEAST_STATUS};
-use crate::numbers::number;
+use crate::entry_lines::{GREATEST_STATUS, LEAST_STATUS};
+use crate::journal_numbers::number;
 
 /// The three digits that follow the version in an answer's first line (RFC 9112, section 4), or
 /// what there is of them.

@@ -12,20 +12,20 @@ use Rattle.room_types.specs.declared.fleet.Terminal.{Terminal}
 use Rattle.room_model.specs.Enrol.{AreTerminals}
 use Rattle.room_model.specs.Room.{Room}
 use Rattle.room_model.specs.WellFormed.{IsWellFormed}
-use Rattle.room_http_time.specs.declared.zones.Zone.{Zone}
-use Rattle.room_store.specs.Keeping.{IsKept, IsRoom, LeavesOneOf}
+use Rattle.room_http.specs.declared.settings.Setting.{Setting}
+use Rattle.room_store.specs.StoredRoom.{IsKept, IsRoom, LeavesOneOf}
 use Rattle.room_store.specs.declared.store.Store.{Store}
-use Rattle.room_store_writes.specs.Houses.{house_of}
+use Rattle.room_store_writes.specs.Houses.{config_of}
 use Rattle.room_tables.specs.Stands.{Stands}
 use Rattle.room_http.specs.Runs.{Exchange, IsRun, room_by}
 use Rattle.room_http.specs.Course.{AreFirstIn}
-use Rattle.room_http.specs.Served.{KeepsPromises, Served}
-use Rattle.room_http.specs.declared.serving.ServeEnd.{ServeEnd}
-use Rattle.room_http.specs.declared.serving.ServeEnd.TheVariants as end
+use Rattle.room_http.specs.ServedRuns.{KeepsPromises, Served}
+use Rattle.room_http.specs.declared.session.ServeEnd.{ServeEnd}
+use Rattle.room_http.specs.declared.session.ServeEnd.TheVariants as end
 use Rattle.room_http.proofs.PromiseLaws.{promises_kept}
 use Rattle.room_http.proofs.RunLemmas.{room_split, run_join}
-use Rattle.dispatch_room_endings.specs.declared.endings.Failure.{Failure}
-use Rattle.dispatch_room_serving.specs.Calls.{Grows, Opening}
+use Rattle.dispatch_room_exit.specs.declared.exit_status.Failure.{Failure}
+use Rattle.dispatch_room_serving.specs.Callers.{Grows, Opening}
 use Rattle.dispatch_room_serving.specs.Connections.{AreAttended, AreJoined, AreKept, AreNext, AreServed, AttendsNext, Conversation, EndsAs, GoOn, GoesOn, HasServed, IsNext, Service, Stage, connected, done_or, fault_after, fault_by, opening_of, stage_after, stage_before, together}
 
 -- ---- what is known grows
@@ -54,53 +54,53 @@ module _ {S : Type 0} where
   connected_more (None ∷ calls) more = connected_more calls more
   connected_more (Some c ∷ calls) more = ap (λ cs. c ∷ cs) (connected_more calls more)
 
-module _ {S : Type 0} (g : Ghosts S) (zone : Zone) (terminals : List Terminal) where
+module _ {S : Type 0} (g : Ghosts S) (setting : Setting) (terminals : List Terminal) where
   served_more : (cs ds : List (Conversation S)) (xss yss : List (List Exchange)) (room : Room)
-      → AreServed g zone terminals cs xss room
-      → AreServed g zone terminals ds yss (room_by (together xss) room)
-      → AreServed g zone terminals (cs ++ ds) (xss ++ yss) room
+      → AreServed g setting terminals cs xss room
+      → AreServed g setting terminals ds yss (room_by (together xss) room)
+      → AreServed g setting terminals (cs ++ ds) (xss ++ yss) room
   served_more [] ds [] yss room first second = second
   served_more [] ds (xs ∷ xss) yss room first second = absurd first
   served_more (c ∷ cs) ds [] yss room first second = absurd first
   served_more (c ∷ cs) ds (xs ∷ xss) yss room first second = (
     first.0,
-    served_more cs ds xss yss (room_by xs room) first.1 (subst (AreServed g zone terminals ds yss) (room_split xs (together xss) room) second),
+    served_more cs ds xss yss (room_by xs room) first.1 (subst (AreServed g setting terminals ds yss) (room_split xs (together xss) room) second),
   )
 
   joined_more : (cs ds : List (Conversation S)) (mid last : Store S) (room : Room)
       → AreTerminals room terminals → IsWellFormed room
-      → (first : AreJoined g zone terminals cs mid room)
-      → AreJoined g zone terminals ds last (room_by (together first.talks) room)
-      → AreJoined g zone terminals (cs ++ ds) last room
+      → (first : AreJoined g setting terminals cs mid room)
+      → AreJoined g setting terminals ds last (room_by (together first.talks) room)
+      → AreJoined g setting terminals (cs ++ ds) last room
   joined_more cs ds mid last room fit formed first second =
       let here = together first.talks in
       let there = together second.talks in
       let all : together (first.talks ++ second.talks) ≡ here ++ there = together_more first.talks second.talks in
-      let run : IsRun zone terminals (here ++ there) room = run_join zone terminals room here there fit first.run second.run in
+      let run : IsRun setting terminals (here ++ there) room = run_join setting terminals room here there fit first.run second.run in
       record {
         talks = first.talks ++ second.talks;
         served = served_more cs ds first.talks second.talks room first.served second.served;
         run = rw all run;
         after = rw all (rw (room_split here there room) second.after);
-        promises = rw all (promises_kept zone terminals (here ++ there) room formed run);
+        promises = rw all (promises_kept setting terminals (here ++ there) room formed run);
       }
 
   pub joined_none : (store : Store S) (room : Room) → IsRoom g store terminals room
-      → AreJoined g zone terminals [] store room
+      → AreJoined g setting terminals [] store room
   joined_none store room is =
-      let run : IsRun zone terminals [] room = record { addressed = tt; answered = tt } in
+      let run : IsRun setting terminals [] room = record { addressed = tt; answered = tt } in
       record {
         talks = [];
         served = tt;
         run = run;
         after = is;
-        promises = promises_kept zone terminals [] room is.formed run;
+        promises = promises_kept setting terminals [] room is.formed run;
       }
 
   pub joined_one : (c : Conversation S) (room : Room)
-      → Served zone (AreFirstIn c.course c.before.left c.before.given c.after.given) c.before.held
+      → Served setting (AreFirstIn c.course c.before.left c.before.given c.after.given) c.before.held
       c.after.held (IsKept g c.from) (IsRoom g c.store) (LeavesOneOf g c.store) terminals room
-      → AreJoined g zone terminals (c ∷ []) c.store room
+      → AreJoined g setting terminals (c ∷ []) c.store room
   joined_one c room s = record {
     talks = s.exchanges ∷ [];
     served = (record { served = s; exchanged = refl }, tt);
@@ -109,58 +109,58 @@ module _ {S : Type 0} (g : Ghosts S) (zone : Zone) (terminals : List Terminal) w
     promises = rw append-nil s.promises;
   }
 
-module _ {S : Type 0} (g : Ghosts S) (zone : Zone) (came_text : ℕ → List ℕ → List ℕ)
+module _ {S : Type 0} (g : Ghosts S) (setting : Setting) (came_text : ℕ → List ℕ → List ℕ)
     (told_text : List ℕ → List ℕ) where
   next_more : (cs ds : List (Conversation S)) (a b c : Stage S)
-      → AreNext g zone came_text told_text cs a b → AreNext g zone came_text told_text ds b c
-      → AreNext g zone came_text told_text (cs ++ ds) a c
+      → AreNext g setting came_text told_text cs a b → AreNext g setting came_text told_text ds b c
+      → AreNext g setting came_text told_text (cs ++ ds) a c
   next_more [] ds a b c first second = rw (← first) second
   next_more (x ∷ cs) ds a b c first second = (first.0, next_more cs ds (stage_after x) b c first.1 second)
 
   -- ---- what was done
-  pub attended_none : (s : Service S) → AreAttended g zone came_text told_text [] s s
+  pub attended_none : (s : Service S) → AreAttended g setting came_text told_text [] s s
   attended_none s = record {
     heard = grows_none s.heard;
     told = grows_none s.told;
     in_turn = refl;
     trusted = λ clean. clean;
-    joined = λ clean terminals room is. joined_none g zone terminals s.stage.store room is;
+    joined = λ clean terminals room is. joined_none g setting terminals s.stage.store room is;
   }
 
   -- a call of which no connection came
   pub attended_nothing : (old new : Service S) → Grows old.heard new.heard (None ∷ [])
       → new.told ≡ old.told → new.stage ≡ old.stage
-      → AreAttended g zone came_text told_text (None ∷ []) old new
+      → AreAttended g setting came_text told_text (None ∷ []) old new
   attended_nothing old new heard same stage = record {
     heard = heard;
     told = rw same (grows_none old.told);
     in_turn = stage;
     trusted = λ clean. rw stage at clean;
-    joined = λ clean terminals room is. joined_none g zone terminals new.stage.store room (rw stage is);
+    joined = λ clean terminals room is. joined_none g setting terminals new.stage.store room (rw stage is);
   }
 
   -- a connection that was served
   pub attended_one : (c : Conversation S) (old new : Service S)
       → Grows old.heard new.heard (Some (opening_of c) ∷ [])
       → Grows old.told new.told (c.after.held ∷ [])
-      → new.stage ≡ stage_after c → IsNext g zone came_text told_text old.stage c
+      → new.stage ≡ stage_after c → IsNext g setting came_text told_text old.stage c
       → (HasCleanDisk (state g c.store.conn) → HasCleanDisk (state g old.stage.store.conn))
-      → KeepsPromises zone (AreFirstIn c.course c.before.left c.before.given c.after.given) c.before.held
+      → KeepsPromises setting (AreFirstIn c.course c.before.left c.before.given c.after.given) c.before.held
       c.after.held (HasCleanDisk (state g c.store.conn)) (IsKept g c.from)
       (IsRoom g old.stage.store) (IsRoom g c.store) (LeavesOneOf g c.store)
-      → AreAttended g zone came_text told_text (Some c ∷ []) old new
+      → AreAttended g setting came_text told_text (Some c ∷ []) old new
   attended_one c old new heard back stage next trusted promised = record {
     heard = heard;
     told = back;
     in_turn = (next, stage);
     trusted = λ clean. trusted (rw stage at clean);
-    joined = λ clean terminals room is. rw stage (joined_one g zone terminals c room (promised (rw stage at clean) terminals room is is.formed));
+    joined = λ clean terminals room is. rw stage (joined_one g setting terminals c room (promised (rw stage at clean) terminals room is is.formed));
   }
 
   pub attended_more : (calls more : List (Option (Conversation S))) (old mid new : Service S)
-      → AreAttended g zone came_text told_text calls old mid
-      → AreAttended g zone came_text told_text more mid new
-      → AreAttended g zone came_text told_text (calls ++ more) old new
+      → AreAttended g setting came_text told_text calls old mid
+      → AreAttended g setting came_text told_text more mid new
+      → AreAttended g setting came_text told_text (calls ++ more) old new
   attended_more calls more old mid new first second =
       let all = connected_more calls more in
       record {
@@ -171,7 +171,7 @@ module _ {S : Type 0} (g : Ghosts S) (zone : Zone) (came_text : ℕ → List ℕ
         joined = λ clean terminals room is.
             let here = first.joined (second.trusted clean) terminals room is in
             let there = second.joined clean terminals (room_by (together here.talks) room) here.after in
-            rw all (joined_more g zone terminals (connected calls) (connected more) mid.stage.store new.stage.store room is.fits is.formed here there);
+            rw all (joined_more g setting terminals (connected calls) (connected more) mid.stage.store new.stage.store room is.fits is.formed here there);
       }
 
 -- ---- whether more is served
@@ -213,12 +213,12 @@ module _ {S : Type 0} where
   ends_after calls (Some c) most fault go within is = (calls, c, refl, rw length-append (omega (arith, within)), go, has_some fault (fault_after c) is)
 
 -- ---- what is kept
--- a stop leaves what is kept alone
+-- a stop leaves only what is kept
 pub leaves_kept : {S : Type 0} (g : Ghosts S) (store : Store S) (terminals : List Terminal)
     (room : Room) → IsRoom g store terminals room → IsKept g store
     → LeavesOneOf g store terminals (room ∷ [])
 leaves_kept g store terminals room is kept db left =
-    inl (subst (λ (trees : Trees). Stands trees (house_of store.plan terminals) room) (sym (kept.alone db left)) (is.tables kept.is_open))
+    inl (subst (λ (trees : Trees). Stands trees (config_of store.plan terminals) room) (sym (kept.alone db left)) (is.tables kept.is_open))
 
 -- more is served only with a store that is sound
 sound_of_none : (end : ServeEnd) (is_sound : Bool) → fault_by end is_sound ≡ None
@@ -238,10 +238,10 @@ sound_of_none end.ClockFault false none unsound = cc
 sound_of_none end.ReadsSpent true none unsound = cc
 sound_of_none end.ReadsSpent false none unsound = cc
 
-module _ {S : Type 0} (g : Ghosts S) (zone : Zone) (came_text : ℕ → List ℕ → List ℕ)
+module _ {S : Type 0} (g : Ghosts S) (setting : Setting) (came_text : ℕ → List ℕ → List ℕ)
     (told_text : List ℕ → List ℕ) where
   -- where more is served after a connection, what the store holds is kept
-  pub kept_after : (stage : Stage S) (c : Conversation S) → IsNext g zone came_text told_text stage c
+  pub kept_after : (stage : Stage S) (c : Conversation S) → IsNext g setting came_text told_text stage c
       → GoesOn c → HasCleanDisk (state g c.store.conn) → IsKept g c.store
   kept_after stage c next goes_on clean = elim (next.kept clean) [
     | inl kept ↦ kept
@@ -249,7 +249,7 @@ module _ {S : Type 0} (g : Ghosts S) (zone : Zone) (came_text : ℕ → List ℕ
   ]
 
   pub clean_before : (cs : List (Conversation S)) (stage last : Stage S)
-      → AreNext g zone came_text told_text cs stage last → HasCleanDisk (state g last.store.conn)
+      → AreNext g setting came_text told_text cs stage last → HasCleanDisk (state g last.store.conn)
       → HasCleanDisk (state g stage.store.conn)
   clean_before [] stage last same clean = rw (← same) clean
   clean_before (c ∷ cs) stage last in_turn clean =
@@ -262,7 +262,7 @@ module _ {S : Type 0} (g : Ghosts S) (zone : Zone) (came_text : ℕ → List ℕ
   -- So what was kept as the first of these connections began, is kept as each begins, and after the
   -- last.
   kept_each : (cs : List (Conversation S)) (stage last : Stage S)
-      → AreNext g zone came_text told_text cs stage last → All GoesOn cs
+      → AreNext g setting came_text told_text cs stage last → All GoesOn cs
       → HasCleanDisk (state g last.store.conn) → IsKept g stage.store
       → All (λ c. IsKept g c.from) cs × IsKept g last.store
   kept_each [] stage last same go_on clean kept = (All-nil (λ c. IsKept g c.from), rw same kept)
@@ -274,20 +274,20 @@ module _ {S : Type 0} (g : Ghosts S) (zone : Zone) (came_text : ℕ → List ℕ
 
   -- and so it is as one call's connection begins, if one came of it
   pub kept_at : (call : Option (Conversation S)) (stage last : Stage S)
-      → AreNext g zone came_text told_text (connected (call ∷ [])) stage last
+      → AreNext g setting came_text told_text (connected (call ∷ [])) stage last
       → IsKept g stage.store → All (λ c. IsKept g c.from) (connected (call ∷ []))
   kept_at None stage last in_turn kept = All-nil (λ c. IsKept g c.from)
   kept_at (Some c) stage last in_turn kept = All-cons (λ c. IsKept g c.from) c [] (kept_from stage c in_turn.0.begins kept) (All-nil (λ c. IsKept g c.from))
 
 -- ---- one call more
-module _ {S : Type 0} (g : Ghosts S) (zone : Zone) (came_text : ℕ → List ℕ → List ℕ)
+module _ {S : Type 0} (g : Ghosts S) (setting : Setting) (came_text : ℕ → List ℕ → List ℕ)
     (told_text : List ℕ → List ℕ) where
-  pub served_none : (s : Service S) → HasServed g zone came_text told_text s s 0
+  pub served_none : (s : Service S) → HasServed g setting came_text told_text s s 0
   served_none s = record {
     calls = [];
     counted = refl;
     go_on = go_on_none;
-    attended = attended_none g zone came_text told_text s;
+    attended = attended_none g setting came_text told_text s;
     kept = λ clean kept. All-nil (λ c. IsKept g c.from);
     is_kept = λ clean kept. kept;
   }
@@ -295,9 +295,9 @@ module _ {S : Type 0} (g : Ghosts S) (zone : Zone) (came_text : ℕ → List ℕ
   -- what was done with the next call
   pub attends_next : (call : Option (Conversation S)) (old new : Service S)
       (result : Result (Unit {0}) Failure)
-      → AreAttended g zone came_text told_text (call ∷ []) old new
+      → AreAttended g setting came_text told_text (call ∷ []) old new
       → result ≡ done_or (option_and_then fault_after call)
-      → AttendsNext g zone came_text told_text old new result
+      → AttendsNext g setting came_text told_text old new result
   attends_next call old new result next ends = record {
     call = call;
     attended = next;
@@ -305,12 +305,12 @@ module _ {S : Type 0} (g : Ghosts S) (zone : Zone) (came_text : ℕ → List ℕ
     longer = λ goes_on first count before.
         let on : Ok tt ≡ done_or (option_and_then fault_after call) = sym goes_on ∙ ends in
         let one = λ (clean : HasCleanDisk (state g new.stage.store.conn)) (kept : IsKept g first.stage.store).
-        kept_each g zone came_text told_text (connected (call ∷ [])) old.stage new.stage next.in_turn (go_on_one call on) clean (before.is_kept (next.trusted clean) kept) in
+        kept_each g setting came_text told_text (connected (call ∷ [])) old.stage new.stage next.in_turn (go_on_one call on) clean (before.is_kept (next.trusted clean) kept) in
         record {
           calls = before.calls ++ call ∷ [];
           counted = rw length-append (ap (λ n. n + 1) before.counted);
           go_on = go_on_more before.calls call before.go_on on;
-          attended = attended_more g zone came_text told_text before.calls (call ∷ []) first old new before.attended next;
+          attended = attended_more g setting came_text told_text before.calls (call ∷ []) first old new before.attended next;
           kept = λ clean kept. each_more (λ c. IsKept g c.from) before.calls call (before.kept (next.trusted clean) kept) (one clean kept).0;
           is_kept = λ clean kept. (one clean kept).1;
         };
@@ -318,10 +318,10 @@ module _ {S : Type 0} (g : Ghosts S) (zone : Zone) (came_text : ℕ → List ℕ
 
   -- what was kept where no more is served after the next call
   pub kept_ending : (call : Option (Conversation S)) (first old new : Service S) (count : ℕ)
-      → (before : HasServed g zone came_text told_text first old count)
-      → AreAttended g zone came_text told_text (call ∷ []) old new
-      → AreKept g zone came_text told_text (connected (before.calls ++ call ∷ [])) first (HasCleanDisk (state g new.stage.store.conn))
+      → (before : HasServed g setting came_text told_text first old count)
+      → AreAttended g setting came_text told_text (call ∷ []) old new
+      → AreKept g setting came_text told_text (connected (before.calls ++ call ∷ [])) first (HasCleanDisk (state g new.stage.store.conn))
   kept_ending call first old new count before next clean kept =
       let here = next.trusted clean in
-      let last = kept_at g zone came_text told_text call old.stage new.stage next.in_turn (before.is_kept here kept) in
+      let last = kept_at g setting came_text told_text call old.stage new.stage next.in_turn (before.is_kept here kept) in
       each_more (λ c. IsKept g c.from) before.calls call (before.kept here kept) last

@@ -18,43 +18,44 @@ use Rattle.sqlite_trees.specs.declared.store.Store.{Ghosts}
 use Rattle.room_types.specs.declared.asks.Event.{Event}
 use Rattle.room_types.specs.declared.fleet.Terminal.{Terminal}
 use Rattle.room_model.specs.Room.{Room}
-use Rattle.room_service.specs.Digests.{DigitsOf, IsHeadOf, digits_of}
-use Rattle.room_service.specs.Rooms.{machine}
-use Rattle.room_service.specs.declared.digests.Head.{Head}
-use Rattle.room_service.specs.declared.digests.Version.{Version}
-use Rattle.room_service.specs.declared.digests.Version.TheVariants.{Second}
+use Rattle.room_model.specs.Digests.{DigitsOf, IsHeadOf, digits_of}
+use Rattle.room_model.specs.Rooms.{machine}
+use Rattle.room_model.specs.declared.digests.Head.{Head}
+use Rattle.room_model.specs.declared.digests.Version.{Version}
+use Rattle.room_model.specs.declared.digests.Version.TheVariants.{Second}
 use Rattle.room_http_time.specs.Days.{zone_of}
 use Rattle.room_http_time.specs.declared.moments.TheConstants.{LAST_MOMENT}
-use Rattle.room_http_time.specs.declared.zones.Zone.{Zone}
+use Rattle.room_http.specs.Settings.{IsSetting}
+use Rattle.room_http.specs.declared.settings.Setting.{Setting}
 use Rattle.room_http.specs.Arrivals.{message as arrived, refused}
 use Rattle.room_http.specs.Course.{AreFirstIn}
 use Rattle.room_http.specs.Kept.{AreKept as AreRecords, AreReplies, IsCome}
 use Rattle.room_http.specs.Runs.{AreAnswered, Exchange, arrivals_of, events_of, room_by}
-use Rattle.room_http.specs.Served.{Served}
+use Rattle.room_http.specs.ServedRuns.{Served}
 use Rattle.room_http.specs.Talk.{Finds, IsFront, IsReplyTo, LeavesNext, Timed, replied}
-use Rattle.room_http.specs.declared.serving.ServeEnd.{ServeEnd}
-use Rattle.room_http.specs.declared.serving.ServeEnd.TheVariants as end
+use Rattle.room_http.specs.declared.session.ServeEnd.{ServeEnd}
+use Rattle.room_http.specs.declared.session.ServeEnd.TheVariants as end
 use Rattle.room_http.proofs.ExchangeLemmas.{exchange_of, found_in}
 use Rattle.room_http.proofs.LawLemmas.{one_talk_law}
 use Rattle.room_http.proofs.RunLemmas.{run_first}
 use Rattle.room_http.proofs.TalkLemmas.{IsTalk-one}
-use Rattle.room_store.specs.Keeping.{IsKept, IsRoom, LeavesOneOf}
+use Rattle.room_store.specs.StoredRoom.{IsKept, IsRoom, LeavesOneOf}
 use Rattle.room_store.specs.declared.store.Store.{Store}
-use Rattle.room_store_digest.specs.Texts.{digest_of}
-use Rattle.room_store_writes.specs.Houses.{house_of}
+use Rattle.room_store_file.specs.DigestTexts.{digest_of}
+use Rattle.room_store_writes.specs.Houses.{config_of}
 use Rattle.room_tables.specs.Stands.{Stands}
 use Rattle.room_tables_rows.proofs.OneRoom.{one_room}
-use Rattle.dispatch_room_journal.specs.Ends.{Follows, IsCutTo}
+use Rattle.dispatch_room_journal.specs.WholeEntries.{Follows, IsCutTo}
 use Rattle.dispatch_room_journal.specs.Entries.{Entry, room as head_entry, IsDigest, IsEntry, IsPart, texts_of}
-use Rattle.dispatch_room_journal.specs.Records.{answer_text, message_text, room_text}
+use Rattle.dispatch_room_journal.specs.JournalRecords.{answer_text, message_text, room_text}
 use Rattle.dispatch_room_journal.proofs.DigestLemmas.{digits_of as are_digits}
-use Rattle.dispatch_room_replaying.specs.Laws.{answers_to_messages}
-use Rattle.dispatch_room_replaying.specs.Turns.{left_out}
-use Rattle.dispatch_room_replaying.proofs.KeptTurns.{Come, Ready, Settled, come_course, come_front, come_head, come_moved, come_none, come_record, come_same, come_settled, come_short, come_still, come_unwritten, ends_open-push, left_open, no_answer, settle_record, settle_wanting}
-use Rattle.dispatch_room_replaying.proofs.TurnLemmas.{begun-append}
+use Rattle.dispatch_room_journal.specs.ReplayLaws.{answers_to_messages}
+use Rattle.dispatch_room_journal.specs.ReplayedTurns.{left_out}
+use Rattle.dispatch_room_journal.proofs.KeptTurns.{Come, Ready, Settled, come_course, come_front, come_head, come_moved, come_none, come_record, come_same, come_settled, come_short, come_still, come_unwritten, ends_open-push, left_open, no_answer, settle_record, settle_wanting}
+use Rattle.dispatch_room_journal.proofs.TurnLemmas.{begun-append}
 use Rattle.dispatch_room_serving.specs.Connections.{AreNext, AreServed, Conversation, GoOnBefore, GoesOn, IsNext, IsServed, Service, Stage, connected, fault_by, stage_after}
 use Rattle.dispatch_room_serving.specs.Lists.{AreGiven, AreParts, HasNoTwin, IsListOf, IsPartOf, ListIsTheRoom, Part, ServedKeepsItsPart}
-use Rattle.dispatch_room_serving.specs.Rooms.{IsDigestOf, IsHead}
+use Rattle.dispatch_room_serving.specs.ServedRoom.{IsDigestOf, IsHead}
 use Rattle.dispatch_room_serving.specs.Starts.{AreStarts, IsStart, IsTrusted, OfLast, Start, connections, left_by}
 use Rattle.dispatch_room_serving.proofs.ConnectionLaws.{clean_before, kept_after, leaves_kept}
 use Rattle.dispatch_room_serving.proofs.StartLaws.{all_kept, clean_first, joined, leaves_first, one_zone, opens, opens_it, served_start}
@@ -110,9 +111,9 @@ module _ {S : Type 0} where
       let told = answers_to_messages c.course.outs c.course.answers in
       given_join cs (c ∷ []) old (told ++ more) given (more, [], ap (λ a. told ++ a) (sym (append-nil more)), few, refl)
 
--- ---- answers in another zone that the same text tells
-module _ (text : List ℕ) (a b : Zone) (in_a : IsPosixZone text (zone_of a))
-    (in_b : IsPosixZone text (zone_of b)) (terminals : List Terminal) where
+-- ---- answers in another setting of the same zone and history
+module _ (text : List ℕ) (a b : Setting) (in_a : IsSetting text b.history a)
+    (in_b : IsPosixZone text (zone_of b.zone)) (terminals : List Terminal) where
   pub reply_in : (room : Room) (x : Timed) (after : Room) (bytes : List ℕ)
       → IsReplyTo machine a terminals room x after bytes
       → IsReplyTo machine b terminals room x after bytes
@@ -128,18 +129,18 @@ module _ (text : List ℕ) (a b : Zone) (in_a : IsPosixZone text (zone_of a))
       (replies.0, reply_in room x replies.0 told replies.1, replies_in replies.0 outs answers after replies.2)
 
 -- ---- what was exchanged is what was answered
-module _ (zone : Zone) (terminals : List Terminal) where
+module _ (setting : Setting) (terminals : List Terminal) where
   abbrev Replies : Room → Timed → Room → List ℕ → Type 0
-  Replies = IsReplyTo machine zone terminals
+  Replies = IsReplyTo machine setting terminals
 
   one_reply : (room : Room) (x : Timed) (after other : Room) (bytes others : List ℕ)
       → Replies room x after bytes → Replies room x other others → after ≡ other
   one_reply room x after other bytes others is also =
-      let talk = IsTalk-one machine zone terminals room in
-      (one_talk_law machine zone terminals room (x ∷ []) after other bytes others (talk after x bytes is) (talk other x others also)).0
+      let talk = IsTalk-one machine setting terminals room in
+      (one_talk_law machine setting terminals room (x ∷ []) after other bytes others (talk after x bytes is) (talk other x others also)).0
 
   exchanged : (x : Exchange) (xs : List Exchange) (room : Room) (y : Timed)
-      → AreAnswered zone terminals (x ∷ xs) room → x.arrival ≡ y
+      → AreAnswered setting terminals (x ∷ xs) room → x.arrival ≡ y
       → Replies room y (replied machine x.found room).0 x.bytes
   exchanged x xs room y answered is =
       subst (λ (t : Timed). Replies room t (replied machine x.found room).0 x.bytes) is (x.found, answered.0, refl, answered.1)
@@ -147,15 +148,15 @@ module _ (zone : Zone) (terminals : List Terminal) where
   -- the room after the first of them is the one after its answer
   module _ (o : Timed) (outs : List Timed) (told : List ℕ) (answers : List (List ℕ)) (x : Exchange)
       (xs : List Exchange) (room after : Room)
-      (replies : AreReplies machine zone terminals room (o ∷ outs) (told ∷ answers) after)
-      (answered : AreAnswered zone terminals (x ∷ xs) room) (is : x.arrival ≡ o) where
-    next_replies : AreReplies machine zone terminals (replied machine x.found room).0 outs answers after
-    next_replies = subst (λ (r : Room). AreReplies machine zone terminals r outs answers after)
+      (replies : AreReplies machine setting terminals room (o ∷ outs) (told ∷ answers) after)
+      (answered : AreAnswered setting terminals (x ∷ xs) room) (is : x.arrival ≡ o) where
+    next_replies : AreReplies machine setting terminals (replied machine x.found room).0 outs answers after
+    next_replies = subst (λ (r : Room). AreReplies machine setting terminals r outs answers after)
         (one_reply room o replies.0 (replied machine x.found room).0 told x.bytes replies.1 (exchanged x xs room o answered is)) replies.2
 
   same_room : (outs : List Timed) (answers : List (List ℕ)) (xs : List Exchange) (room after : Room)
-      → AreReplies machine zone terminals room outs answers after
-      → AreAnswered zone terminals xs room → arrivals_of xs ≡ outs → room_by xs room ≡ after
+      → AreReplies machine setting terminals room outs answers after
+      → AreAnswered setting terminals xs room → arrivals_of xs ≡ outs → room_by xs room ≡ after
   same_room [] [] [] room after replies answered is = sym replies
   same_room [] [] (x ∷ xs) room after replies answered is = absurd (cc)
   same_room [] (told ∷ answers) xs room after replies answered is = absurd replies
@@ -168,8 +169,8 @@ module _ (zone : Zone) (terminals : List Terminal) where
       ∙ same_room outs answers xs (replied machine x.found room).0 after (next_replies o outs told answers x xs room after replies answered first) answered.2 rest
 
   last_reply : (outs : List Timed) (answers : List (List ℕ)) (xs : List Exchange) (y : Timed)
-      (room after : Room) → AreReplies machine zone terminals room outs answers after
-      → AreAnswered zone terminals xs room → arrivals_of xs ≡ outs ++ y ∷ []
+      (room after : Room) → AreReplies machine setting terminals room outs answers after
+      → AreAnswered setting terminals xs room → arrivals_of xs ≡ outs ++ y ∷ []
       → (bytes : List ℕ) × Replies after y (room_by xs room) bytes
   last_reply [] [] [] y room after replies answered is = absurd (cc)
   last_reply [] [] (x ∷ []) y room after replies answered is =
@@ -191,8 +192,8 @@ module _ (zone : Zone) (terminals : List Terminal) where
   -- the answers to these arrivals and to one more
   replies_split : (outs : List Timed) (answers : List (List ℕ)) (text : List ℕ) (x : Timed)
       (told : List ℕ) (room after : Room) → AreRecords message_text answer_text outs answers text
-      → AreReplies machine zone terminals room (outs ++ x ∷ []) (answers ++ told ∷ []) after
-      → (mid : Room) × AreReplies machine zone terminals room outs answers mid
+      → AreReplies machine setting terminals room (outs ++ x ∷ []) (answers ++ told ∷ []) after
+      → (mid : Room) × AreReplies machine setting terminals room outs answers mid
       × Replies mid x after told
   replies_split [] [] text x told room after kept replies =
       (room, refl, subst (λ (r : Room). Replies room x r told) (sym replies.2) replies.1)
@@ -204,16 +205,16 @@ module _ (zone : Zone) (terminals : List Terminal) where
 
   -- an arrival that is kept as it came, and asks for an event, came in time
   in_time : (x : Timed) (coming : List ℕ) (event : Event) → IsCome message_text answer_text x coming
-      → Finds zone terminals x (Ok event) → x.1 ≤ LAST_MOMENT
+      → Finds setting terminals x (Ok event) → x.1 ≤ LAST_MOMENT
   in_time (arrived m, at) coming event came finds = came.2
   in_time (refused why head_only, at) coming event came finds = absurd (cc)
 
   -- the room after it, and its answer
   event_reply : (x : Timed) (coming : List ℕ) (event : Event) (room : Room)
-      → IsCome message_text answer_text x coming → Finds zone terminals x (Ok event)
+      → IsCome message_text answer_text x coming → Finds setting terminals x (Ok event)
       → (bytes : List ℕ) × Replies room x (machine event room).0 bytes
   event_reply x coming event room came finds =
-      let done = exchange_of zone terminals x event room (in_time x coming event came finds) finds in
+      let done = exchange_of setting terminals x event room (in_time x coming event came finds) finds in
       (done.0.bytes, subst (λ (r : Room). Replies room x r done.0.bytes) (ap (λ found. (replied machine found room).0) done.2) (exchanged done.0 [] room x done.3 done.1))
 
 -- ---- one arrival more than these
@@ -230,48 +231,48 @@ module _ {S : Type 0} (g : Ghosts S) where
   one_of : (store : Store S) (terminals : List Terminal) (room other : Room)
       → IsRoom g store terminals room → IsRoom g store terminals other → IsKept g store → room ≡ other
   one_of store terminals room other is also kept =
-      one_room (state g store.conn).now.trees (house_of store.plan terminals) (house_of store.plan terminals) room other (is.tables kept.is_open) (also.tables kept.is_open)
+      one_room (state g store.conn).now.trees (config_of store.plan terminals) (config_of store.plan terminals) room other (is.tables kept.is_open) (also.tables kept.is_open)
 
   -- the room after what was answered, or the one after the last arrival
-  module _ (zone : Zone) (terminals : List Terminal) (c : Conversation S) (now after : Room)
-      (s : Served zone (AreFirstIn c.course c.before.left c.before.given c.after.given)
+  module _ (setting : Setting) (terminals : List Terminal) (c : Conversation S) (now after : Room)
+      (s : Served setting (AreFirstIn c.course c.before.left c.before.given c.after.given)
       c.before.held c.after.held (IsKept g c.from) (IsRoom g c.store) (LeavesOneOf g c.store) terminals now)
       (kept : IsKept g c.from)
-      (replies : AreReplies machine zone terminals now c.course.outs c.course.answers after)
+      (replies : AreReplies machine setting terminals now c.course.outs c.course.answers after)
       (x : Timed) (last : c.course.last ≡ Some x) (coming : List ℕ)
       (came : IsCome message_text answer_text x coming) (db : Trees)
       (left : (state g c.store.conn).may_leave db) where
     abbrev StandsFor : Room → Type 0
-    StandsFor room = Stands db (house_of c.store.plan terminals) room
+    StandsFor room = Stands db (config_of c.store.plan terminals) room
 
     abbrev OneOf : Type 0
     OneOf = StandsFor after
-        ⊎ ((next : Room) × (bytes : List ℕ) × IsReplyTo machine zone terminals after x next bytes × StandsFor next)
+        ⊎ ((next : Room) × (bytes : List ℕ) × IsReplyTo machine setting terminals after x next bytes × StandsFor next)
 
     abbrev Leaves : Type 0
     Leaves = LeavesOneOf g c.store terminals (room_by s.exchanges now ∷ [])
         ⊎ ((y : Timed) × AreFirstIn c.course c.before.left c.before.given c.after.given (arrivals_of s.exchanges ++ y ∷ [])
-        × LeavesNext machine zone (LeavesOneOf g c.store) y terminals (room_by s.exchanges now))
+        × LeavesNext machine setting (LeavesOneOf g c.store) y terminals (room_by s.exchanges now))
 
     -- all but the last arrival were exchanged
     but_last : arrivals_of s.exchanges ≡ c.course.outs → Leaves → OneOf
     but_last all (inl alone) = elim (alone db left) [
-      | inl stands ↦ inl (subst StandsFor (same_room zone terminals c.course.outs c.course.answers s.exchanges now after replies s.run.answered all) stands)
+      | inl stands ↦ inl (subst StandsFor (same_room setting terminals c.course.outs c.course.answers s.exchanges now after replies s.run.answered all) stands)
       | inr none ↦ absurd none
     ]
     but_last all (inr (y, first, (event, finds, leaves))) =
-        let room_is = same_room zone terminals c.course.outs c.course.answers s.exchanges now after replies s.run.answered all in
+        let room_is = same_room setting terminals c.course.outs c.course.answers s.exchanges now after replies s.run.answered all in
         elim first.0 [
           | inl same ↦ absurd (longer (arrivals_of s.exchanges) c.course.outs y same (omega (arith, ap length all)))
           | inr (z, last_z, same) ↦
               let z_is : z ≡ x = cc (last, last_z) in
               let y_is : y ≡ x = same_last c.course.outs (arrivals_of s.exchanges) y z all same ∙ z_is in
-              let found = subst (λ (t : Timed). Finds zone terminals t (Ok event)) y_is finds in
+              let found = subst (λ (t : Timed). Finds setting terminals t (Ok event)) y_is finds in
               elim (leaves db left) [
                 | inl stands ↦ inl (subst StandsFor room_is stands)
                 | inr more ↦ elim more [
                   | inl stands ↦
-                      let reply = event_reply zone terminals x coming event after came found in
+                      let reply = event_reply setting terminals x coming event after came found in
                       inr ((machine event after).0, reply.0, reply.1, subst (λ (r : Room). StandsFor (machine event r).0) room_is stands)
                   | inr none ↦ absurd none
                 ]
@@ -282,10 +283,10 @@ module _ {S : Type 0} (g : Ghosts S) where
     with_last : (y : Timed) → c.course.last ≡ Some y
         → arrivals_of s.exchanges ≡ c.course.outs ++ y ∷ [] → Leaves → OneOf
     with_last y last_y all (inl alone) =
-        let reply = last_reply zone terminals c.course.outs c.course.answers s.exchanges y now after replies s.run.answered all in
+        let reply = last_reply setting terminals c.course.outs c.course.answers s.exchanges y now after replies s.run.answered all in
         let y_is : y ≡ x = cc (last, last_y) in
         elim (alone db left) [
-          | inl stands ↦ inr (room_by s.exchanges now, reply.0, subst (λ (t : Timed). IsReplyTo machine zone terminals after t (room_by s.exchanges now) reply.0) y_is reply.1, stands)
+          | inl stands ↦ inr (room_by s.exchanges now, reply.0, subst (λ (t : Timed). IsReplyTo machine setting terminals after t (room_by s.exchanges now) reply.0) y_is reply.1, stands)
           | inr none ↦ absurd none
         ]
     with_last y last_y all (inr (z, first, leaves)) =
@@ -309,23 +310,23 @@ record Ends {S : Type 0} (g : Ghosts S) (terminals : List Terminal) (Comes : Roo
   come : Comes now
   is : IsRoom g store terminals now
   leaves : (db : Trees) → (state g store.conn).may_leave db
-      → (room : Room) × Comes room × Stands db (house_of store.plan terminals) room
+      → (room : Room) × Comes room × Stands db (config_of store.plan terminals) room
 
-module _ {S : Type 0} (g : Ghosts S) (zone : Zone) (text : List ℕ)
-    (in_zone : IsPosixZone text (zone_of zone)) (terminals : List Terminal) (held : Room) where
+module _ {S : Type 0} (g : Ghosts S) (setting : Setting) (text : List ℕ)
+    (in_zone : IsPosixZone text (zone_of setting.zone)) (terminals : List Terminal) (held : Room) where
   abbrev digits : DigitsOf
   digits = digits_of digest_of text
 
   abbrev Comes : List (Conversation S) → List ℕ → Room → Type 0
-  Comes cs = Come machine zone digits terminals (AreGiven cs) held
+  Comes cs = Come machine setting digits terminals (AreGiven cs) held
 
   abbrev Settles : List (Conversation S) → List ℕ → Room → Type 0
-  Settles cs = Settled machine zone digits terminals (AreGiven cs) held
+  Settles cs = Settled machine setting digits terminals (AreGiven cs) held
 
   abbrev EndsAt : List (Conversation S) → List ℕ → Store S → Type 0
   EndsAt cs list store = Ends g terminals (Comes cs list) store
 
-  -- a stop leaves it alone
+  -- a stop leaves only this
   still_ends : (cs : List (Conversation S)) (list : List ℕ) (store : Store S) (now : Room)
       → Comes cs list now → IsRoom g store terminals now → LeavesOneOf g store terminals (now ∷ [])
       → EndsAt cs list store
@@ -347,17 +348,17 @@ module _ {S : Type 0} (g : Ghosts S) (zone : Zone) (text : List ℕ)
       subst (λ (ds : List (Conversation S)). EndsAt ds list last.store) (sym (append-nil cs))
       (subst (λ (t : Stage S). EndsAt cs list t.store) (sym same) (still_ends cs list stage.store now come is leaves))
 
-  -- in the zone in which they were served
-  module _ (served_in : Zone) (in_served : IsPosixZone text (zone_of served_in)) where
+  -- in the setting in which they were served
+  module _ (served_in : Setting) (in_served : IsSetting text setting.history served_in) where
     ready : (cs : List (Conversation S)) (c : Conversation S) (list more : List ℕ) (now after : Room)
         → Settles cs list now
         → AreReplies machine served_in terminals now c.course.outs c.course.answers after
         → AreRecords message_text answer_text c.course.outs c.course.answers more
-        → Ready machine zone digits terminals (AreGiven (cs ++ c ∷ [])) held (list ++ more) after
+        → Ready machine setting digits terminals (AreGiven (cs ++ c ∷ [])) held (list ++ more) after
     ready cs c list more now after s replies kept =
-        come_course machine zone digits terminals (AreGiven cs) (AreGiven (cs ++ c ∷ [])) held list more now after c.course.outs c.course.answers
+        come_course machine setting digits terminals (AreGiven cs) (AreGiven (cs ++ c ∷ [])) held list more now after c.course.outs c.course.answers
         (λ old answers given few. given_next cs c old answers given few) s
-        (replies_in text served_in zone in_served in_zone terminals now c.course.outs c.course.answers after replies) kept
+        (replies_in text served_in setting in_served in_zone terminals now c.course.outs c.course.answers after replies) kept
 
     module _ (cs : List (Conversation S)) (c : Conversation S) (stage : Stage S) (list : List ℕ)
         (now : Room) (next : IsNext g served_in message_text answer_text stage c)
@@ -373,27 +374,27 @@ module _ {S : Type 0} (g : Ghosts S) (zone : Zone) (text : List ℕ)
       kept_is = ap (λ (t : Stage S). t.kept) next.begins ∙ known
 
       abbrev base : List ℕ
-      base = list ++ next.witnessed.text
+      base = list ++ next.observed.text
 
       abbrev IsReady : Room → Type 0
-      IsReady = Ready machine zone digits terminals (AreGiven All_of) held base
+      IsReady = Ready machine setting digits terminals (AreGiven All_of) held base
 
-      keeps_more : (tail : List ℕ) → Appends c.kept c.keeps (next.witnessed.text ++ tail)
+      keeps_more : (tail : List ℕ) → Appends c.kept c.keeps (next.observed.text ++ tail)
           → c.keeps ≡ Some (base ++ tail)
       keeps_more tail grows =
-          appended c.kept c.keeps list (next.witnessed.text ++ tail) kept_is grows ∙ ap (λ t. Some t) (sym (append_assoc list next.witnessed.text tail))
+          appended c.kept c.keeps list (next.observed.text ++ tail) kept_is grows ∙ ap (λ t. Some t) (sym (append_assoc list next.observed.text tail))
 
       made : (after : Room) → AreReplies machine served_in terminals now c.course.outs c.course.answers after
           → IsReady after
-      made after replies = ready cs c list next.witnessed.text now after s replies next.witnessed.kept
+      made after replies = ready cs c list next.observed.text now after s replies next.observed.kept
 
       -- the last arrival was acted on too
       acted : (x : Timed) (answer : List ℕ) (after : Room)
           → AreReplies machine served_in terminals now (c.course.outs ++ x ∷ []) (c.course.answers ++ answer ∷ []) after
-          → (mid : Room) × IsReady mid × IsReplyTo machine zone terminals mid x after answer
+          → (mid : Room) × IsReady mid × IsReplyTo machine setting terminals mid x after answer
       acted x answer after replies =
-          let split = replies_split served_in terminals c.course.outs c.course.answers next.witnessed.text x answer now after next.witnessed.kept replies in
-          (split.0, made split.0 split.1, reply_in text served_in zone in_served in_zone terminals split.0 x after answer split.2)
+          let split = replies_split served_in terminals c.course.outs c.course.answers next.observed.text x answer now after next.observed.kept replies in
+          (split.0, made split.0 split.1, reply_in text served_in setting in_served in_zone terminals split.0 x after answer split.2)
 
       -- ---- more is served after it
       record Middle : Type 0 where
@@ -408,14 +409,14 @@ module _ {S : Type 0} (g : Ghosts S) (zone : Zone) (text : List ℕ)
           let fault : fault_by end.Unkept c.store.is_sound ≡ None = subst (λ (e : ServeEnd). fault_by e c.store.is_sound ≡ None) unkept goes in cc
 
       middle : GoesOn c → Middle
-      middle goes = elim next.witnessed.ends [
+      middle goes = elim next.observed.ends [
         | inl (none, lasts, moved, begins, (late, is_late, grow)) ↦
             let m = moved clean terminals now from_is in
             record {
               list_after = base;
               after = m.0;
               settled = (made m.0 m.1).settled;
-              keeps = appended c.kept c.keeps list next.witnessed.text kept_is grow.kept;
+              keeps = appended c.kept c.keeps list next.observed.text kept_is grow.kept;
               stands = m.2;
             }
         | inr (x, last, tail, wrote, begins, begun, grow) ↦ elim begun [
@@ -426,7 +427,7 @@ module _ {S : Type 0} (g : Ghosts S) (zone : Zone) (text : List ℕ)
                 record {
                   list_after = base ++ tail;
                   after = m.0;
-                  settled = settle_wanting machine zone digits terminals (AreGiven All_of) held base m.0 (made m.0 m.1) x tail wrote want;
+                  settled = settle_wanting machine setting digits terminals (AreGiven All_of) held base m.0 (made m.0 m.1) x tail wrote want;
                   keeps = keeps_more tail grow.kept;
                   stands = m.2;
                 }
@@ -439,7 +440,7 @@ module _ {S : Type 0} (g : Ghosts S) (zone : Zone) (text : List ℕ)
                 record {
                   list_after = base ++ tail;
                   after = m.0;
-                  settled = settle_record machine zone digits terminals (AreGiven All_of) held base done.0 done.1 x answer tail m.0 whole done.2;
+                  settled = settle_record machine setting digits terminals (AreGiven All_of) held base done.0 done.1 x answer tail m.0 whole done.2;
                   keeps = keeps_more tail grow.kept;
                   stands = m.2;
                 }
@@ -464,11 +465,11 @@ module _ {S : Type 0} (g : Ghosts S) (zone : Zone) (text : List ℕ)
         alone room come stands lasts = still_ends All_of (texts_of entries) c.store room come stands (leaves_kept g c.store terminals room stands lasts)
 
         last_one : EndsAt All_of (texts_of entries) c.store
-        last_one = elim next.witnessed.ends [
+        last_one = elim next.observed.ends [
           | inl (none, lasts, moved, begins, (late, is_late, grow)) ↦
               let m = moved clean terminals now from_is in
-              let it = grown base (appended c.kept c.keeps list next.witnessed.text kept_is grow.kept) in
-              alone m.0 (come_none machine zone digits terminals (AreGiven All_of) held base m.0 (made m.0 m.1) entries rest end_is it) m.2 (lasts clean kept)
+              let it = grown base (appended c.kept c.keeps list next.observed.text kept_is grow.kept) in
+              alone m.0 (come_none machine setting digits terminals (AreGiven All_of) held base m.0 (made m.0 m.1) entries rest end_is it) m.2 (lasts clean kept)
           | inr (x, last, tail, wrote, begins, begun, grow) ↦
               let it = grown (base ++ tail) (keeps_more tail grow.kept) in
               elim begun [
@@ -477,10 +478,10 @@ module _ {S : Type 0} (g : Ghosts S) (zone : Zone) (text : List ℕ)
                     let r = made m.0 m.1 in
                     elim few [
                       | inl (lasts, short, unkept) ↦
-                          let come = come_short machine zone digits terminals (AreGiven All_of) held base m.0 r entries rest end_is x tail wrote short it in
+                          let come = come_short machine setting digits terminals (AreGiven All_of) held base m.0 r entries rest end_is x tail wrote short it in
                           alone m.0 come m.2 (lasts clean kept)
                       | inr want ↦
-                          let come = come_still machine zone digits terminals (AreGiven All_of) held base m.0 r entries rest end_is x tail wrote want it in
+                          let come = come_still machine setting digits terminals (AreGiven All_of) held base m.0 r entries rest end_is x tail wrote want it in
                           record {
                             now = m.0;
                             come = come;
@@ -488,8 +489,8 @@ module _ {S : Type 0} (g : Ghosts S) (zone : Zone) (text : List ℕ)
                             leaves = λ db left. elim (leaves_one g served_in terminals c now m.0 served.served kept m.1 x last tail want.0 db left) [
                               | inl stands ↦ (m.0, come, stands)
                               | inr (room, bytes, reply, stands) ↦
-                                  let here = reply_in text served_in zone in_served in_zone terminals m.0 x room bytes reply in
-                                  (room, come_moved machine zone digits terminals (AreGiven All_of) held base m.0 r entries rest end_is x tail wrote bytes room want it here, stands)
+                                  let here = reply_in text served_in setting in_served in_zone terminals m.0 x room bytes reply in
+                                  (room, come_moved machine setting digits terminals (AreGiven All_of) held base m.0 r entries rest end_is x tail wrote bytes room want it here, stands)
                             ];
                           }
                     ]
@@ -498,10 +499,10 @@ module _ {S : Type 0} (g : Ghosts S) (zone : Zone) (text : List ℕ)
                     let done = acted x answer m.0 m.1 in
                     elim few [
                       | inl (unwritten, unkept) ↦
-                          let come = come_unwritten machine zone digits terminals (AreGiven All_of) held base done.0 done.1 entries rest end_is x answer tail wrote m.0 unwritten it done.2 in
+                          let come = come_unwritten machine setting digits terminals (AreGiven All_of) held base done.0 done.1 entries rest end_is x answer tail wrote m.0 unwritten it done.2 in
                           alone m.0 come m.2 (lasts clean kept)
                       | inr (whole, front) ↦
-                          let come = come_record machine zone digits terminals (AreGiven All_of) held base done.0 done.1 entries rest end_is x answer tail m.0 whole it done.2 in
+                          let come = come_record machine setting digits terminals (AreGiven All_of) held base done.0 done.1 entries rest end_is x answer tail m.0 whole it done.2 in
                           alone m.0 come m.2 (lasts clean kept)
                     ]
               ]
@@ -541,7 +542,7 @@ module _ {S : Type 0} (g : Ghosts S) (zone : Zone) (text : List ℕ)
         → (rest ≡ []) ⊎ IsPart rest → EndsAt (cs ++ ds) (texts_of entries) last.store
     calls_end cs [] stage last list after now talks next served kept go clean s is leaves known after_is entries rest follows end_is =
         let same : list ≡ after = same_known stage.kept list after known (sym (ap (λ (t : Stage S). t.kept) next) ∙ after_is) in
-        no_calls cs stage last (texts_of entries) now next (come_settled machine zone digits terminals (AreGiven cs) held entries rest end_is list now s (follows.0, same ∙ follows.1)) is leaves
+        no_calls cs stage last (texts_of entries) now next (come_settled machine setting digits terminals (AreGiven cs) held entries rest end_is list now s (follows.0, same ∙ follows.1)) is leaves
     calls_end cs (c ∷ more) stage last list after now talks next served kept go clean s is leaves known after_is entries rest follows end_is =
         all_calls cs c more stage last list after now talks next served kept go clean s is known after_is entries rest follows end_is
 
@@ -550,7 +551,7 @@ module _ {S : Type 0} (g : Ghosts S) where
   first_of : (s : Start S) (starts : List (Start S))
       → AreStarts g message_text answer_text (s ∷ starts) → IsStart g message_text answer_text s
   first_of s [] start = start
-  first_of s (next ∷ starts) (start, finds, later) = start
+  first_of s (next ∷ starts) (start, follows, later) = start
 
   -- what holds of the last holds of it as something else
   of_last : (Holds Says : Start S → Type 0) → ((s : Start S) → Holds s → Says s)
@@ -560,21 +561,29 @@ module _ {S : Type 0} (g : Ghosts S) where
   of_last Holds Says says (s ∷ next ∷ starts) is = of_last Holds Says says (next ∷ starts) is
 
 -- ---- a start
-module _ {S : Type 0} (g : Ghosts S) (zone : Zone) (text : List ℕ)
-    (in_zone : IsPosixZone text (zone_of zone)) (terminals : List Terminal) (held : Room) where
+module _ {S : Type 0} (g : Ghosts S) (setting : Setting) (text : List ℕ)
+    (in_zone : IsPosixZone text (zone_of setting.zone)) (terminals : List Terminal) (held : Room) where
   abbrev CameTo : List (Conversation S) → List ℕ → Room → Type 0
-  CameTo cs = Comes g zone text in_zone terminals held cs
+  CameTo cs = Comes g setting text in_zone terminals held cs
 
   abbrev Stops : List (Conversation S) → List ℕ → Store S → Type 0
-  Stops cs list store = EndsAt g zone text in_zone terminals held cs list store
+  Stops cs list store = EndsAt g setting text in_zone terminals held cs list store
+
+  -- a start in this zone, that serves history where this setting does
+  record IsAlike (s : Start S) : Type 0 where
+    zone : s.opened.plan.zone ≡ text
+    history : s.setting.history ≡ setting.history
 
   module _ (cs : List (Conversation S)) (s : Start S) (part : Part) (from : List ℕ) (now : Room)
       (start : IsStart g message_text answer_text s) (clean : HasCleanDisk (state g (left_by s).conn))
-      (zone_is : s.opened.plan.zone ≡ text) (is : IsRoom g s.opened terminals now)
+      (alike : IsAlike s) (is : IsRoom g s.opened terminals now)
       (twins : HasNoTwin g terminals s) (come : CameTo cs from now) (before : part.before ≡ from)
       (p : IsPartOf g s part) where
-    in_served : IsPosixZone text (zone_of s.zone)
-    in_served = subst (λ (t : List ℕ). IsPosixZone t (zone_of s.zone)) zone_is start.in_zone
+    zone_served : IsPosixZone text (zone_of s.setting.zone)
+    zone_served = subst (λ (t : List ℕ). IsPosixZone t (zone_of s.setting.zone)) alike.zone start.in_zone
+
+    in_served : IsSetting text setting.history s.setting
+    in_served = record { zone = zone_served; history = alike.history }
 
     first_is : (front : List ℕ) → p.front ≡ front → s.first.stage.kept ≡ Some (from ++ front)
     first_is front same = p.first ∙ (λ i. Some (before i ++ same i))
@@ -591,7 +600,7 @@ module _ {S : Type 0} (g : Ghosts S) (zone : Zone) (text : List ℕ)
       no_one = ap connected none
 
       unmoved : s.last.stage ≡ s.first.stage
-      unmoved = subst (λ (ds : List (Conversation S)). AreNext g s.zone message_text answer_text ds s.first.stage s.last.stage) no_one start.attended.in_turn
+      unmoved = subst (λ (ds : List (Conversation S)). AreNext g s.setting message_text answer_text ds s.first.stage s.last.stage) no_one start.attended.in_turn
 
       all_kept_is : from ++ p.front ≡ part.after
       all_kept_is = same_known s.first.stage.kept (from ++ p.front) part.after (first_is p.front refl) (sym (ap (λ (t : Stage S). t.kept) unmoved) ∙ p.last)
@@ -599,7 +608,7 @@ module _ {S : Type 0} (g : Ghosts S) (zone : Zone) (text : List ℕ)
       unheard : (list : List ℕ) → CameTo cs list now → Stops (cs ++ connections s) list (left_by s)
       unheard list came =
           subst (λ (ds : List (Conversation S)). Stops (cs ++ ds) list (left_by s)) (sym no_one)
-          (no_calls g zone text in_zone terminals held cs s.first.stage s.last.stage list now unmoved came first_room leaves_it)
+          (no_calls g setting text in_zone terminals held cs s.first.stage s.last.stage list now unmoved came first_room leaves_it)
 
     module _ (entries : List Entry) (rest : List ℕ) (follows : Follows part.after entries rest)
         (end_is : (rest ≡ []) ⊎ IsPart rest) where
@@ -608,7 +617,7 @@ module _ {S : Type 0} (g : Ghosts S) (zone : Zone) (text : List ℕ)
           → Stops (cs ++ connections s) (texts_of entries) (left_by s)
       headless none nothing =
           let same : from ≡ part.after = sym (append-nil from) ∙ ap (λ t. from ++ t) (sym nothing) ∙ all_kept_is none in
-          unheard none (texts_of entries) (come_same machine zone (digits_of digest_of text) terminals (AreGiven cs) held from now entries rest end_is (follows.0, same ∙ follows.1) come)
+          unheard none (texts_of entries) (come_same machine setting (digits_of digest_of text) terminals (AreGiven cs) held from now entries rest end_is (follows.0, same ∙ follows.1) come)
 
       module _ (told : List ℕ) (first_head : IsHead g true room_text s.opened s.first.stage.store told) where
         abbrev h : Head
@@ -618,26 +627,26 @@ module _ {S : Type 0} (g : Ghosts S) (zone : Zone) (text : List ℕ)
         tells = first_head.known refl
 
         head_is : IsHeadOf (digits_of digest_of text) h terminals now
-        head_is = subst (λ (t : List ℕ). IsHeadOf (digits_of digest_of t) h terminals now) zone_is
+        head_is = subst (λ (t : List ℕ). IsHeadOf (digits_of digest_of t) h terminals now) alike.zone
             (tells.1 (clean_first g message_text answer_text s start clean) terminals now is)
 
         entry : IsEntry (head_entry h)
         entry = subst IsDigest head_is (digest_is h.version text terminals now)
 
         twin : (after : Room) (x : Timed) (bytes : List ℕ)
-            → IsReplyTo machine zone terminals after x now bytes
+            → IsReplyTo machine setting terminals after x now bytes
             → IsHeadOf (digits_of digest_of text) h terminals after → after ≡ now
         twin after x bytes reply same =
-            let alike = subst (λ (v : Version). digits_of digest_of text v terminals after ≡ digits_of digest_of text v terminals now) tells.0 (same ∙ sym head_is) in
-            twins x after now bytes is (reply_in text zone s.zone in_zone in_served terminals after x now bytes reply)
-            (subst (λ (t : List ℕ). digits_of digest_of t Second terminals after ≡ digits_of digest_of t Second terminals now) (sym zone_is) alike)
+            let equal = subst (λ (v : Version). digits_of digest_of text v terminals after ≡ digits_of digest_of text v terminals now) tells.0 (same ∙ sym head_is) in
+            twins x after now bytes is (reply_in text setting s.setting (record { zone = in_zone; history = sym alike.history }) zone_served terminals after x now bytes reply)
+            (subst (λ (t : List ℕ). digits_of digest_of t Second terminals after ≡ digits_of digest_of t Second terminals now) (sym alike.zone) equal)
 
         -- its head is kept
         headed : p.front ≡ told → Stops (cs ++ connections s) (texts_of entries) (left_by s)
         headed whole =
             let all = joined g message_text answer_text s start clean terminals now is in
-            let s0 = come_head machine zone (digits_of digest_of text) terminals (AreGiven cs) held h entry from now head_is twin come in
-            calls_end g zone text in_zone terminals held s.zone in_served cs (connections s) s.first.stage s.last.stage (from ++ room_text h) part.after now all.talks
+            let s0 = come_head machine setting (digits_of digest_of text) terminals (AreGiven cs) held h entry from now head_is twin come in
+            calls_end g setting text in_zone terminals held s.setting in_served cs (connections s) s.first.stage s.last.stage (from ++ room_text h) part.after now all.talks
             start.attended.in_turn all.served (all_kept g message_text answer_text s start clean terminals now is) start.go_on clean s0 first_room leaves_it
             (first_is (room_text h) (whole ∙ first_head.told)) p.last entries rest follows end_is
 
@@ -647,7 +656,7 @@ module _ {S : Type 0} (g : Ghosts S) (zone : Zone) (text : List ℕ)
         cut_short none front =
             let first = subst (IsFront p.front) first_head.told front in
             let it : Follows (from ++ p.front) entries rest = (follows.0, all_kept_is none ∙ follows.1) in
-            unheard none (texts_of entries) (come_front machine zone (digits_of digest_of text) terminals (AreGiven cs) held h entry from p.front now entries rest end_is head_is twin first it come)
+            unheard none (texts_of entries) (come_front machine setting (digits_of digest_of text) terminals (AreGiven cs) held h entry from p.front now entries rest end_is head_is twin first it come)
 
     start_ends : (whole : List ℕ) → IsCutTo part.after whole
         → Stops (cs ++ connections s) whole (left_by s)
@@ -669,28 +678,31 @@ module _ {S : Type 0} (g : Ghosts S) (zone : Zone) (text : List ℕ)
   all_starts : (cs : List (Conversation S)) (s : Start S) (starts : List (Start S))
       (parts : List Part) (from list : List ℕ) (now : Room)
       → AreStarts g message_text answer_text (s ∷ starts) → All (IsTrusted g) (s ∷ starts)
-      → s.opened.plan.zone ≡ text → IsRoom g s.opened terminals now
+      → IsAlike s → IsRoom g s.opened terminals now
       → All (HasNoTwin g terminals) (s ∷ starts) → CameTo cs from now
       → AreParts g (s ∷ starts) parts from list → Over cs (s ∷ starts) list
-  all_starts cs s starts [] from list now are clean zone_is is twins come parts_are = absurd parts_are
-  all_starts cs s [] (part ∷ []) from list now are clean zone_is is twins come (before, p, (whole, cut, same)) =
-      let e = start_ends cs s part from now are (All-head (IsTrusted g) s [] clean) zone_is is (All-head (HasNoTwin g terminals) s [] twins) come before p whole cut in
+  all_starts cs s starts [] from list now are clean alike is twins come parts_are = absurd parts_are
+  all_starts cs s [] (part ∷ []) from list now are clean alike is twins come (before, p, (whole, cut, same)) =
+      let e = start_ends cs s part from now are (All-head (IsTrusted g) s [] clean) alike is (All-head (HasNoTwin g terminals) s [] twins) come before p whole cut in
       record {
         now = e.now;
         come = subst (λ (t : List ℕ). CameTo (cs ++ (connections s ++ [])) t e.now) (sym same)
             (subst (λ (ds : List (Conversation S)). CameTo (cs ++ ds) whole e.now) (sym (append-nil (connections s))) e.come);
         is = e.is;
       }
-  all_starts cs s [] (part ∷ other ∷ parts) from list now are clean zone_is is twins come (before, p, (whole, cut, more)) = absurd more
-  all_starts cs s (next ∷ starts) (part ∷ parts) from list now (start, finds, later) clean zone_is is twins come (before, p, (whole, cut, more)) =
+  all_starts cs s [] (part ∷ other ∷ parts) from list now are clean alike is twins come (before, p, (whole, cut, more)) = absurd more
+  all_starts cs s (next ∷ starts) (part ∷ parts) from list now (start, follows, later) clean alike is twins come (before, p, (whole, cut, more)) =
       let here = All-head (IsTrusted g) s (next ∷ starts) clean in
       let rest = All-tail (IsTrusted g) s (next ∷ starts) clean in
-      let e = start_ends cs s part from now start here zone_is is (All-head (HasNoTwin g terminals) s (next ∷ starts) twins) come before p whole cut in
-      let left = e.leaves (state g next.found).now.trees finds in
+      let e = start_ends cs s part from now start here alike is (All-head (HasNoTwin g terminals) s (next ∷ starts) twins) come before p whole cut in
+      let left = e.leaves (state g next.found).now.trees follows.0 in
       let next_start = first_of g next starts later in
       let opened = opens_it g message_text answer_text s next terminals left.0 (opens g message_text answer_text next next_start (All-head (IsTrusted g) next starts rest)) left.2 in
-      let next_zone : next.opened.plan.zone ≡ text = sym opened.0 ∙ one_zone g message_text answer_text s start here ∙ zone_is in
-      let then = all_starts (cs ++ connections s) next starts parts whole list left.0 later rest next_zone opened.1 (All-tail (HasNoTwin g terminals) s (next ∷ starts) twins) left.1 more in
+      let next_alike : IsAlike next = record {
+        zone = sym opened.0 ∙ one_zone g message_text answer_text s start here ∙ alike.zone;
+        history = follows.1 ∙ alike.history;
+      } in
+      let then = all_starts (cs ++ connections s) next starts parts whole list left.0 later rest next_alike opened.1 (All-tail (HasNoTwin g terminals) s (next ∷ starts) twins) left.1 more in
       record {
         now = then.now;
         come = subst (λ (ds : List (Conversation S)). CameTo ds list then.now) (append_assoc cs (connections s) (flat_map connections (next ∷ starts))) then.come;
@@ -699,7 +711,7 @@ module _ {S : Type 0} (g : Ghosts S) (zone : Zone) (text : List ℕ)
 
   -- what it comes to is a replay
   list_of : (starts : List (Start S)) (list : List ℕ) → Over [] starts list
-      → IsListOf g terminals zone (digits_of digest_of text) starts held list
+      → IsListOf g terminals setting (digits_of digest_of text) starts held list
   list_of starts list over = elim over.come [
     | inl fresh ↦ record {
       turns = [];
@@ -727,7 +739,7 @@ module _ {S : Type 0} (g : Ghosts S) (zone : Zone) (text : List ℕ)
         leads = of_last g (λ s. IsRoom g (left_by s) terminals over.now) _ (λ s is. inl is) starts over.is;
       }
       | inr w ↦
-          let told = left_open machine zone (digits_of digest_of text) terminals (AreGiven (flat_map connections starts)) held w.text list w.turns w.after w.p.at w.p.sent w.told w.entry w.list_is in
+          let told = left_open machine setting (digits_of digest_of text) terminals (AreGiven (flat_map connections starts)) held w.text list w.turns w.after w.p.at w.p.sent w.told w.entry w.list_is in
           record {
             turns = w.turns ++ left_out w.p.at w.p.sent ∷ [];
             are_turns = told.are_turns;
@@ -749,20 +761,21 @@ list_is_the_room_law g first more parts list home room starts clean stands twins
     let start = first_of g first more starts in
     let here = All-head (IsTrusted g) first more clean in
     let is = ((opens g message_text answer_text first start here).2.same home room stands).1 in
-    list_of g first.zone first.opened.plan.zone start.in_zone home.terminals room (first ∷ more) list
-    (all_starts g first.zone first.opened.plan.zone start.in_zone home.terminals room [] first more parts [] list room starts clean refl is twins
+    list_of g first.setting first.opened.plan.zone start.in_zone home.terminals room (first ∷ more) list
+    (all_starts g first.setting first.opened.plan.zone start.in_zone home.terminals room [] first more parts [] list room starts clean (record { zone = refl; history = refl }) is twins
     (inl (record { list_is = refl; now_is = refl; given = refl })) parts_are)
 
 -- ---- what serving gives
 pub served_keeps_its_part_law : {S : Type 0} (g : Ghosts S) → ServedKeepsItsPart g
-served_keeps_its_part_law g found old new most worked part of_old of_new is =
-    let s = served_start g true room_text message_text answer_text found old new most worked (λ store. (of_old store).0) (λ store. (of_new store).0) is in
+served_keeps_its_part_law g found old new most worked part history of_old of_new is =
+    let s = served_start g true room_text message_text answer_text history found old new most worked (λ store. (of_old store).0) (λ store. (of_new store).0) is in
     let before = (of_old s.0.opened).1 in
     let after = ap (λ (t : Service _). t.stage.kept) s.1.last_is ∙ (of_new s.1.last).1 in (
       s.0,
       s.1.start,
       s.1.found_is,
       s.1.closed,
+      s.1.history_is,
       elim s.1.head [
         | inl (text, head, grows) ↦ record {
           front = text;

@@ -4,7 +4,7 @@ use Rattle.std.proofs.lemmas.List.{length-append}
 use Rattle.std.proofs.Math.Seq.{take-length, take-append_seam, get_or-append_seam}
 use Rattle.std.proofs.lemmas.List.{get_or_append_left}
 use Rattle.std.proofs.lemmas.List.Sums.{position_or_len_is}
-use Rattle.dispatch_room_journal.specs.Parts.{Lacks}
+use Rattle.dispatch_room_journal.specs.TextParts.{Lacks}
 use Rattle.dispatch_room_serving.specs.LogLines.{path_of}
 
 -- where there is one, what stands before it

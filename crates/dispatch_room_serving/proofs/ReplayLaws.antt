@@ -8,22 +8,23 @@ use Rattle.sqlite.specs.State.{HasCleanDisk}
 use Rattle.sqlite_trees.specs.declared.store.Store.{Ghosts}
 use Rattle.room_types.specs.declared.fleet.Terminal.{Terminal}
 use Rattle.room_model.specs.Room.{Room}
-use Rattle.room_service.specs.Digests.{DigitsOf, digits_of}
-use Rattle.room_service.specs.Rooms.{machine}
+use Rattle.room_model.specs.Digests.{DigitsOf, digits_of}
+use Rattle.room_model.specs.Rooms.{machine}
 use Rattle.room_http_time.specs.Days.{zone_of}
-use Rattle.room_http_time.specs.declared.zones.Zone.{Zone}
-use Rattle.room_store.specs.Keeping.{IsRoom}
+use Rattle.room_http.specs.Settings.{IsSetting}
+use Rattle.room_http.specs.declared.settings.Setting.{Setting}
+use Rattle.room_store.specs.StoredRoom.{IsRoom}
 use Rattle.room_store.specs.declared.store.Store.{Store}
-use Rattle.room_store_digest.specs.Texts.{digest_of}
-use Rattle.dispatch_room_replaying.specs.Replays.{Answers, Does, IsReplay, Replays}
-use Rattle.dispatch_room_replaying.specs.Turns.{Play, Turn, answered, caught_up, compared, left_out, timed, tried}
-use Rattle.dispatch_room_replaying.proofs.WholeLaws.{whole_law}
+use Rattle.room_store_file.specs.DigestTexts.{digest_of}
+use Rattle.dispatch_room_journal.specs.Replays.{Answers, Does, IsReplay, Replays}
+use Rattle.dispatch_room_journal.specs.ReplayedTurns.{Play, Turn, answered, caught_up, compared, left_out, timed, tried}
+use Rattle.dispatch_room_journal.proofs.WholeLaws.{whole_law}
 use Rattle.dispatch_room_serving.specs.Lists.{ListIsReplayed}
 use Rattle.dispatch_room_serving.proofs.ListLaws.{reply_in}
 
--- ---- a replay in another zone that the same text tells
-module _ (text : List ℕ) (a b : Zone) (in_a : IsPosixZone text (zone_of a))
-    (in_b : IsPosixZone text (zone_of b)) (digits : DigitsOf) (terminals : List Terminal) where
+-- ---- a replay in another setting of the same zone and history
+module _ (text : List ℕ) (a b : Setting) (in_a : IsSetting text b.history a)
+    (in_b : IsPosixZone text (zone_of b.zone)) (digits : DigitsOf) (terminals : List Terminal) where
   play_in : (room : Room) (p : Play) (after : Room)
       → Answers machine a digits terminals room p after → Answers machine b digits terminals room p after
   play_in room p after is = reply_in text a b in_a in_b terminals room (timed p) after p.told is

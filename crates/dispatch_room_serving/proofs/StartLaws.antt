@@ -9,31 +9,31 @@ use Rattle.sqlite_trees.specs.Tree.{Trees}
 use Rattle.sqlite_trees.specs.declared.store.Store.{Ghosts}
 use Rattle.room_types.specs.declared.fleet.Terminal.{Terminal}
 use Rattle.room_model.specs.Room.{Room}
-use Rattle.room_service.specs.Rooms.{machine}
-use Rattle.room_service.specs.declared.digests.Head.{Head}
+use Rattle.room_model.specs.Rooms.{machine}
+use Rattle.room_model.specs.declared.digests.Head.{Head}
 use Rattle.room_http_time.specs.Days.{zone_of}
 use Rattle.room_http_time.specs.declared.moments.TheConstants.{LAST_MOMENT}
-use Rattle.room_http_time.specs.declared.zones.Zone.{Zone}
+use Rattle.room_http.specs.declared.settings.Setting.{Setting}
 use Rattle.room_http.specs.Course.{AreFirstIn, AreOf, Course}
 use Rattle.room_http.specs.Runs.{AreAnswered, Exchange, IsRun, arrivals_of, room_by}
-use Rattle.room_http.specs.Served.{Served}
-use Rattle.room_http.specs.Serving.{Finish, ServeIs, Sides}
+use Rattle.room_http.specs.ServedRuns.{Served}
+use Rattle.room_http.specs.Session.{Finish, ServeIs, Sides}
 use Rattle.room_http.specs.Talk.{LeavesNext, Stays, Timed, Wants, replied}
-use Rattle.room_http.specs.declared.serving.ServeEnd.{ServeEnd}
-use Rattle.room_http.specs.declared.serving.ServeEnd.TheVariants.{Closed, Cut, ReadFault, WriteFault, ClockFault, Unkept, ReadsSpent, Memory}
+use Rattle.room_http.specs.declared.session.ServeEnd.{ServeEnd}
+use Rattle.room_http.specs.declared.session.ServeEnd.TheVariants.{Closed, Cut, ReadFault, WriteFault, ClockFault, Unkept, ReadsSpent, Memory}
 use Rattle.room_http.proofs.ExchangeLemmas.{answered_in, exchange_of}
 use Rattle.room_http.proofs.PromiseLaws.{promises_kept}
 use Rattle.room_http.proofs.RunLemmas.{answered_join, room_split, run_first, run_of}
-use Rattle.room_store.specs.Keeping.{IsKept, IsRoom, LeavesOneOf}
+use Rattle.room_store.specs.StoredRoom.{IsKept, IsRoom, LeavesOneOf}
 use Rattle.room_store.specs.declared.store.Store.{Store}
-use Rattle.room_store_writes.specs.Houses.{house_of}
+use Rattle.room_store_writes.specs.Houses.{config_of}
 use Rattle.room_tables.specs.Stands.{Stands}
-use Rattle.dispatch_room_endings.specs.declared.endings.Done.{Done}
-use Rattle.dispatch_room_endings.specs.declared.endings.Failure.{Failure}
-use Rattle.dispatch_room_opening.specs.Opened.{IsOpened, OpensRoom}
+use Rattle.dispatch_room_exit.specs.declared.exit_status.Done.{Done}
+use Rattle.dispatch_room_exit.specs.declared.exit_status.Failure.{Failure}
+use Rattle.dispatch_room_tasks.specs.OpenedRoom.{IsOpened, OpensRoom}
 use Rattle.dispatch_room_serving.specs.Connections.{AreJoined, AreNext, AreServed, Conversation, EndsAs, GoOnBefore, GoesOn, IsNext, IsServed, Service, Stage, connected, stage_after, stage_before, together}
-use Rattle.dispatch_room_serving.specs.Rooms.{KeepsHead, Looks, ServesRoom}
-use Rattle.dispatch_room_serving.specs.Starts.{AreDone, AreOneRun, AreStarts, Exchanged, FindsLeft, IsDone, IsStart, IsTrusted, IsUntold, OfLast, ServedIsAStart, ServingIsAStart, Start, StartsAreOneRun, all_of, connections, left_by, whole_of}
+use Rattle.dispatch_room_serving.specs.ServedRoom.{KeepsHead, Looks, ServesRoom}
+use Rattle.dispatch_room_serving.specs.Starts.{AreDone, AreOneRun, AreStarts, Exchanged, Follows, IsDone, IsStart, IsTrusted, IsUntold, OfLast, ServedIsAStart, ServingIsAStart, Start, StartsAreOneRun, all_of, connections, left_by, whole_of}
 use Rattle.dispatch_room_serving.proofs.ConnectionLaws.{attended_none, connected_more}
 
 -- ---- the moments of a course
@@ -54,11 +54,11 @@ module _ (course : Course) where
       let same : y ≡ x = cc (other, last) in
       All-same InTime outs (course.outs ++ x ∷ []) (is ∙ ap (λ z. course.outs ++ z ∷ []) same) timed
 
-  module _ (zone : Zone) (old : Sides) (new : Finish) (trusted failed : Type 0)
+  module _ (setting : Setting) (old : Sides) (new : Finish) (trusted failed : Type 0)
       (stood stands : List Terminal → Room → Type 0) (wants : Timed → List Terminal → Room → Type 0)
       (budget : ℕ) where
     timed : (end : ServeEnd)
-        → ServeIs machine zone old new trusted stood stands wants failed course budget end
+        → ServeIs machine setting old new trusted stood stands wants failed course budget end
         → (outs : List Timed) → AreOf course outs → All InTime outs
     timed Closed (inl ended) = whole_timed ended.0.0 ended.0.1.timed.0
     timed Closed (inr (inl closed)) = whole_timed closed.0.0 closed.0.1.timed.0
@@ -74,20 +74,20 @@ module _ (course : Course) where
     timed Memory refused = whole_timed refused.1.0 refused.1.1.timed.0
 
 -- ---- what a start leaves
-module _ {S : Type 0} (g : Ghosts S) (zone : Zone) (terminals : List Terminal) where
+module _ {S : Type 0} (g : Ghosts S) (setting : Setting) (terminals : List Terminal) where
   -- the room after what was exchanged, or that after one exchange more
   abbrev Left : List (Conversation S) → List (List Exchange) → Store S → Room → Type 0
   Left cs talks last after = LeavesOneOf g last terminals (after ∷ [])
-      ⊎ ((x : Exchange) × IsUntold cs talks x × AreAnswered zone terminals (x ∷ []) after
+      ⊎ ((x : Exchange) × IsUntold cs talks x × AreAnswered setting terminals (x ∷ []) after
       × LeavesOneOf g last terminals (after ∷ room_by (x ∷ []) after ∷ []))
 
   -- the exchange of an event that a stop leaves done
   untold_one : (x : Timed) (room : Room) (last : Store S) → InTime x
-      → LeavesNext machine zone (LeavesOneOf g last) x terminals room
-      → (done : Exchange) × (done.arrival ≡ x) × AreAnswered zone terminals (done ∷ []) room
+      → LeavesNext machine setting (LeavesOneOf g last) x terminals room
+      → (done : Exchange) × (done.arrival ≡ x) × AreAnswered setting terminals (done ∷ []) room
       × LeavesOneOf g last terminals (room ∷ room_by (done ∷ []) room ∷ [])
   untold_one x room last within (event, finds, leaves) =
-      let done = exchange_of zone terminals x event room within finds in
+      let done = exchange_of setting terminals x event room within finds in
       let after : room_by (done.0 ∷ []) room ≡ (machine event room).0 = run_first done.0.found [] room ∙ ap (λ found. (replied machine found room).0) done.2 in
       (done.0, done.1, done.3, rw after leaves)
 
@@ -95,17 +95,17 @@ module _ {S : Type 0} (g : Ghosts S) (zone : Zone) (terminals : List Terminal) w
   abbrev LeavesOne : Conversation S → Room → List Exchange → Type 0
   LeavesOne c room xs = LeavesOneOf g c.store terminals (room_by xs room ∷ [])
       ⊎ ((x : Timed) × AreFirstIn c.course c.before.left c.before.given c.after.given (arrivals_of xs ++ x ∷ [])
-      × LeavesNext machine zone (LeavesOneOf g c.store) x terminals (room_by xs room))
+      × LeavesNext machine setting (LeavesOneOf g c.store) x terminals (room_by xs room))
 
   left_one : (came_text : ℕ → List ℕ → List ℕ) (told_text : List ℕ → List ℕ) (stage : Stage S)
       (c : Conversation S) (xs : List Exchange) (room : Room)
-      → IsNext g zone came_text told_text stage c → IsServed g zone terminals c xs room
+      → IsNext g setting came_text told_text stage c → IsServed g setting terminals c xs room
       → IsKept g c.from → Left (c ∷ []) (xs ∷ []) c.store (room_by xs room)
   left_one came_text told_text stage c xs room next is kept =
       elim (subst (LeavesOne c room) is.exchanged (is.served.kept kept)) [
         | inl alone ↦ inl alone
         | inr (x, first, leaves) ↦
-            let within = timed c.course zone c.before c.after _ _ _ _ _ _ c.end next.talk (arrivals_of xs ++ x ∷ []) first.0 in
+            let within = timed c.course setting c.before c.after _ _ _ _ _ _ c.end next.talk (arrivals_of xs ++ x ∷ []) first.0 in
             let done = untold_one x (room_by xs room) c.store (All-pop InTime (arrivals_of xs ++ x ∷ []) (arrivals_of xs) (Some x) refl within).1 leaves in
             inr (
               done.0,
@@ -145,8 +145,8 @@ module _ {S : Type 0} (g : Ghosts S) (zone : Zone) (terminals : List Terminal) w
 
   left_some : (came_text : ℕ → List ℕ → List ℕ) (told_text : List ℕ → List ℕ) (c : Conversation S)
       (cs : List (Conversation S)) (talks : List (List Exchange)) (room : Room) (stage last : Stage S)
-      → AreNext g zone came_text told_text (c ∷ cs) stage last
-      → AreServed g zone terminals (c ∷ cs) talks room → All (λ d. IsKept g d.from) (c ∷ cs)
+      → AreNext g setting came_text told_text (c ∷ cs) stage last
+      → AreServed g setting terminals (c ∷ cs) talks room → All (λ d. IsKept g d.from) (c ∷ cs)
       → Left (c ∷ cs) talks last.store (room_by (together talks) room)
   left_some came_text told_text c cs [] room stage last next served kept = absurd served
   left_some came_text told_text c [] (xs ∷ []) room stage last next served kept =
@@ -159,18 +159,18 @@ module _ {S : Type 0} (g : Ghosts S) (zone : Zone) (terminals : List Terminal) w
 
   left_all : (came_text : ℕ → List ℕ → List ℕ) (told_text : List ℕ → List ℕ)
       (cs : List (Conversation S)) (talks : List (List Exchange)) (room : Room) (stage last : Stage S)
-      → AreNext g zone came_text told_text cs stage last → AreServed g zone terminals cs talks room
+      → AreNext g setting came_text told_text cs stage last → AreServed g setting terminals cs talks room
       → LeavesOneOf g stage.store terminals (room ∷ []) → All (λ d. IsKept g d.from) cs
       → Left cs talks last.store (room_by (together talks) room)
   left_all came_text told_text [] [] room stage last same served leaves kept = inl (rw same leaves)
   left_all came_text told_text [] (xs ∷ more) room stage last same served leaves kept = absurd served
   left_all came_text told_text (c ∷ cs) talks room stage last next served leaves kept = left_some came_text told_text c cs talks room stage last next served kept
 
--- ---- the zone of the plan stays
-module _ {S : Type 0} (g : Ghosts S) (zone : Zone) (came_text : ℕ → List ℕ → List ℕ)
+-- ---- the setting of the plan stays
+module _ {S : Type 0} (g : Ghosts S) (setting : Setting) (came_text : ℕ → List ℕ → List ℕ)
     (told_text : List ℕ → List ℕ) where
   pub zone_stays : (cs : List (Conversation S)) (stage last : Stage S)
-      → AreNext g zone came_text told_text cs stage last → last.store.plan.zone ≡ stage.store.plan.zone
+      → AreNext g setting came_text told_text cs stage last → last.store.plan.zone ≡ stage.store.plan.zone
   zone_stays [] stage last same = ap (λ (s : Stage S). s.store.plan.zone) same
   zone_stays (c ∷ cs) stage last next =
       zone_stays cs (stage_after c) last next.1 ∙ next.0.same_zone ∙ ap (λ (s : Stage S). s.store.plan.zone) next.0.begins
@@ -194,10 +194,10 @@ module _ {S : Type 0} (g : Ghosts S) (came_text : ℕ → List ℕ → List ℕ)
     opens = start.opens (start.looks.trusted clean_first)
 
     pub one_zone : (left_by s).plan.zone ≡ s.opened.plan.zone
-    one_zone = zone_stays g s.zone came_text told_text (connections s) s.first.stage s.last.stage start.attended.in_turn ∙ start.looks.zone
+    one_zone = zone_stays g s.setting came_text told_text (connections s) s.first.stage s.last.stage start.attended.in_turn ∙ start.looks.zone
 
     module _ (terminals : List Terminal) (room : Room) (is : IsRoom g s.opened terminals room) where
-      pub joined : AreJoined g s.zone terminals (connections s) (left_by s) room
+      pub joined : AreJoined g s.setting terminals (connections s) (left_by s) room
       joined = start.attended.joined clean terminals room (start.looks.same clean_first terminals room is)
 
       pub leaves_first : LeavesOneOf g s.first.stage.store terminals (room ∷ [])
@@ -209,8 +209,8 @@ module _ {S : Type 0} (g : Ghosts S) (came_text : ℕ → List ℕ → List ℕ)
         | inr kept ↦ start.kept clean (kept clean_first opens.2.kept)
       ]
 
-      left : Left g s.zone terminals (connections s) joined.talks (left_by s) (room_by (together joined.talks) room)
-      left = left_all g s.zone terminals came_text told_text (connections s) joined.talks room s.first.stage s.last.stage start.attended.in_turn joined.served leaves_first all_kept
+      left : Left g s.setting terminals (connections s) joined.talks (left_by s) (room_by (together joined.talks) room)
+      left = left_all g s.setting terminals came_text told_text (connections s) joined.talks room s.first.stage s.last.stage start.attended.in_turn joined.served leaves_first all_kept
 
       done_with : (untold : List Exchange) → (untold ≡ []) ⊎ ((x : Exchange) × (untold ≡ x ∷ []) × IsUntold (connections s) joined.talks x)
           → IsDone g terminals s (record { told = together joined.talks; untold = untold }) room
@@ -221,27 +221,27 @@ module _ {S : Type 0} (g : Ghosts S) (came_text : ℕ → List ℕ → List ℕ)
   record Goes (s next : Start S) (terminals : List Terminal) (talks : List (List Exchange)) (after : Room) : Type 0 where
     untold : List Exchange
     few : (untold ≡ []) ⊎ ((x : Exchange) × (untold ≡ x ∷ []) × IsUntold (connections s) talks x)
-    answered : AreAnswered s.zone terminals untold after
+    answered : AreAnswered s.setting terminals untold after
     opened : IsRoom g next.opened terminals (room_by untold after)
     zone : (left_by s).plan.zone ≡ next.opened.plan.zone
 
   pub opens_it : (s next : Start S) (terminals : List Terminal) (room : Room)
       → OpensRoom g next.found next.opened
-      → Stands (state g next.found).now.trees (house_of (left_by s).plan terminals) room
+      → Stands (state g next.found).now.trees (config_of (left_by s).plan terminals) room
       → ((left_by s).plan.zone ≡ next.opened.plan.zone) × IsRoom g next.opened terminals room
-  opens_it s next terminals room opens stands = opens.2.same (house_of (left_by s).plan terminals) room stands
+  opens_it s next terminals room opens stands = opens.2.same (config_of (left_by s).plan terminals) room stands
 
   goes : (s next : Start S) (terminals : List Terminal) (talks : List (List Exchange)) (after : Room)
-      → OpensRoom g next.found next.opened → FindsLeft g s next
-      → Left g s.zone terminals (connections s) talks (left_by s) after
+      → OpensRoom g next.found next.opened → Follows g s next
+      → Left g s.setting terminals (connections s) talks (left_by s) after
       → Goes s next terminals talks after
-  goes s next terminals talks after opens finds (inl alone) = elim (alone (state g next.found).now.trees finds) [
+  goes s next terminals talks after opens follows (inl alone) = elim (alone (state g next.found).now.trees follows.0) [
     | inl stands ↦
         let it = opens_it s next terminals after opens stands in
         record { untold = []; few = inl refl; answered = tt; opened = it.1; zone = it.0 }
     | inr none ↦ absurd none
   ]
-  goes s next terminals talks after opens finds (inr (x, is, answered, leaves)) = elim (leaves (state g next.found).now.trees finds) [
+  goes s next terminals talks after opens follows (inr (x, is, answered, leaves)) = elim (leaves (state g next.found).now.trees follows.0) [
     | inl stands ↦
         let it = opens_it s next terminals after opens stands in
         record { untold = []; few = inl refl; answered = tt; opened = it.1; zone = it.0 }
@@ -254,73 +254,82 @@ module _ {S : Type 0} (g : Ghosts S) (came_text : ℕ → List ℕ → List ℕ)
   ]
 
   -- ---- all starts
-  -- from the room that the first opened, in a zone that its plan tells
-  record Run (zone : Zone) (terminals : List Terminal) (starts : List (Start S)) (room : Room) : Type 0 where
+  -- the zone of a start's plan, and history where it serves it
+  record IsSetFor (setting : Setting) (s : Start S) : Type 0 where
+    zone : IsPosixZone s.opened.plan.zone (zone_of setting.zone)
+    history : s.setting.history ≡ setting.history
+
+  -- from the room that the first opened, in a setting that is its own
+  record Run (setting : Setting) (terminals : List Terminal) (starts : List (Start S)) (room : Room) : Type 0 where
     done : List Exchanged
     each : AreDone g terminals starts done room
-    answered : AreAnswered zone terminals (whole_of done) room
+    answered : AreAnswered setting terminals (whole_of done) room
     after : OfLast (λ s. IsRoom g (left_by s) terminals (room_by (whole_of done) room)) starts
 
-  module _ (zone : Zone) (terminals : List Terminal) where
+  module _ (setting : Setting) (terminals : List Terminal) where
+    own_answers : (s : Start S) → IsStart g came_text told_text s → IsSetFor setting s → (xs : List Exchange) (room : Room)
+        → AreAnswered s.setting terminals xs room → AreAnswered setting terminals xs room
+    own_answers s start set = answered_in s.opened.plan.zone s.setting setting (record { zone = start.in_zone; history = set.history }) set.zone terminals
+
     last_start : (s : Start S) (room : Room) → IsStart g came_text told_text s
         → HasCleanDisk (state g (left_by s).conn) → IsRoom g s.opened terminals room
-        → IsPosixZone s.opened.plan.zone (zone_of zone) → Run zone terminals (s ∷ []) room
-    last_start s room start clean is in_zone =
+        → IsSetFor setting s → Run setting terminals (s ∷ []) room
+    last_start s room start clean is set =
         let all = joined s start clean terminals room is in
         let xs : List Exchange = together all.talks in
         let same : xs ≡ whole_of (last_done xs ∷ []) = sym (whole_last xs) in
         record {
           done = last_done xs ∷ [];
           each = (done_with s start clean terminals room is [] (inl refl), tt);
-          answered = subst (λ ys. AreAnswered zone terminals ys room) same (answered_in s.opened.plan.zone s.zone zone start.in_zone in_zone terminals xs room all.run.answered);
+          answered = subst (λ ys. AreAnswered setting terminals ys room) same (own_answers s start set xs room all.run.answered);
           after = subst (λ ys. IsRoom g (left_by s) terminals (room_by ys room)) same all.after;
         }
 
     more_starts : (s : Start S) (starts : List (Start S)) (room : Room)
         → AreStarts g came_text told_text (s ∷ starts) → All (IsTrusted g) (s ∷ starts)
-        → IsRoom g s.opened terminals room → IsPosixZone s.opened.plan.zone (zone_of zone)
-        → Run zone terminals (s ∷ starts) room
-    more_starts s [] room start clean is in_zone = last_start s room start (All-head (IsTrusted g) s [] clean) is in_zone
-    more_starts s (next ∷ starts) room (start, finds, later) clean is in_zone =
+        → IsRoom g s.opened terminals room → IsSetFor setting s
+        → Run setting terminals (s ∷ starts) room
+    more_starts s [] room start clean is set = last_start s room start (All-head (IsTrusted g) s [] clean) is set
+    more_starts s (next ∷ starts) room (start, follows, later) clean is set =
         let here = All-head (IsTrusted g) s (next ∷ starts) clean in
         let rest = All-tail (IsTrusted g) s (next ∷ starts) clean in
         let all = joined s start here terminals room is in
         let next_start = first_of next starts later in
-        let step = goes s next terminals all.talks (room_by (together all.talks) room) (opens next next_start (All-head (IsTrusted g) next starts rest)) finds (left s start here terminals room is) in
+        let step = goes s next terminals all.talks (room_by (together all.talks) room) (opens next next_start (All-head (IsTrusted g) next starts rest)) follows (left s start here terminals room is) in
         let x : Exchanged = record { told = together all.talks; untold = step.untold } in
         let room_is : room_by (all_of x) room ≡ room_by step.untold (room_by (together all.talks) room) = room_split (together all.talks) step.untold room in
         let zone_is : s.opened.plan.zone ≡ next.opened.plan.zone = sym (one_zone s start here) ∙ step.zone in
-        let then = more_starts next starts (room_by (all_of x) room) later rest (rw room_is step.opened) (rw zone_is at in_zone) in
-        let mine = answered_join s.zone terminals (together all.talks) step.untold room all.run.answered step.answered in
+        let then = more_starts next starts (room_by (all_of x) room) later rest (rw room_is step.opened) (record { zone = rw zone_is at set.zone; history = follows.1 ∙ set.history }) in
+        let mine = answered_join s.setting terminals (together all.talks) step.untold room all.run.answered step.answered in
         record {
           done = x ∷ then.done;
           each = (done_with s start here terminals room is step.untold step.few, then.each);
-          answered = answered_join zone terminals (all_of x) (whole_of then.done) room (answered_in s.opened.plan.zone s.zone zone start.in_zone in_zone terminals (all_of x) room mine) then.answered;
+          answered = answered_join setting terminals (all_of x) (whole_of then.done) room (own_answers s start set (all_of x) room mine) then.answered;
           after = subst (λ (r : Room). OfLast (λ u. IsRoom g (left_by u) terminals r) (next ∷ starts)) (sym (room_split (all_of x) (whole_of then.done) room)) then.after;
         }
       where
         first_of : (next : Start S) (starts : List (Start S)) → AreStarts g came_text told_text (next ∷ starts) → IsStart g came_text told_text next
         first_of next [] start = start
-        first_of next (other ∷ starts) (start, finds, later) = start
+        first_of next (other ∷ starts) (start, follows, later) = start
 
 pub starts_are_one_run_law : {S : Type 0} (g : Ghosts S) → StartsAreOneRun g
-starts_are_one_run_law g came_text told_text first more house room starts clean stands =
+starts_are_one_run_law g came_text told_text first more config room starts clean stands =
     let start = first_start first more starts in
     let opened = opens g came_text told_text first start (All-head (IsTrusted g) first more clean) in
-    let is = (opened.2.same house room stands).1 in
-    let run = more_starts g came_text told_text first.zone house.terminals first more room starts clean is start.in_zone in
-    let whole : IsRun first.zone house.terminals (whole_of run.done) room = run_of first.zone house.terminals room (whole_of run.done) is.fits run.answered in
+    let is = (opened.2.same config room stands).1 in
+    let run = more_starts g came_text told_text first.setting config.terminals first more room starts clean is (record { zone = start.in_zone; history = refl }) in
+    let whole : IsRun first.setting config.terminals (whole_of run.done) room = run_of first.setting config.terminals room (whole_of run.done) is.fits run.answered in
     record {
       done = run.done;
       each = run.each;
       run = whole;
-      promises = promises_kept first.zone house.terminals (whole_of run.done) room is.formed whole;
+      promises = promises_kept first.setting config.terminals (whole_of run.done) room is.formed whole;
       after = run.after;
     }
   where
     first_start : (next : _) (starts : _) → AreStarts g came_text told_text (next ∷ starts) → IsStart g came_text told_text next
     first_start next [] start = start
-    first_start next (other ∷ starts) (start, finds, later) = start
+    first_start next (other ∷ starts) (start, follows, later) = start
 
 -- ---- what serving gives is a start
 -- after each connection but the last more is served
@@ -345,11 +354,12 @@ module _ {S : Type 0} where
 
 -- a start that serving gives, and what was kept of its head
 pub record IsServedStart {S : Type 0} (g : Ghosts S) (wants : Bool) (begun_text : Head → List ℕ)
-    (came_text : ℕ → List ℕ → List ℕ) (told_text : List ℕ → List ℕ) (found : Held S)
+    (came_text : ℕ → List ℕ → List ℕ) (told_text : List ℕ → List ℕ) (history : Bool) (found : Held S)
     (old new : Store S → Service S) (worked : Result Done Failure × Held S) (s : Start S) : Type 0 where
   pub start : IsStart g came_text told_text s
   pub found_is : s.found ≡ found
   pub closed : (left_by s).conn ≡ worked.1
+  pub history_is : s.setting.history ≡ history
   pub last : Store S
   pub last_is : s.last ≡ new last
   pub head : KeepsHead g wants begun_text s.opened s.first.stage.store (old s.opened).stage.kept s.first.stage.kept (Ok tt)
@@ -357,27 +367,28 @@ pub record IsServedStart {S : Type 0} (g : Ghosts S) (wants : Bool) (begun_text 
       × KeepsHead g wants begun_text s.opened s.first.stage.store (old s.opened).stage.kept s.first.stage.kept (Err fault))
 
 pub served_start : {S : Type 0} (g : Ghosts S) (wants : Bool) (begun_text : Head → List ℕ)
-    (came_text : ℕ → List ℕ → List ℕ) (told_text : List ℕ → List ℕ) (found : Held S)
+    (came_text : ℕ → List ℕ → List ℕ) (told_text : List ℕ → List ℕ) (history : Bool) (found : Held S)
     (old new : Store S → Service S) (most : ℕ) (worked : Result Done Failure × Held S)
     → ((store : Store S) → (old store).stage.store ≡ store)
     → ((store : Store S) → (new store).stage.store ≡ store)
-    → ServesRoom g wants begun_text came_text told_text found old new most worked
-    → (s : Start S) × IsServedStart g wants begun_text came_text told_text found old new worked s
-served_start g wants begun_text came_text told_text found old new most worked of_old of_new is = elim is.attended [
+    → ServesRoom g wants begun_text came_text told_text history found old new most worked
+    → (s : Start S) × IsServedStart g wants begun_text came_text told_text history found old new worked s
+served_start g wants begun_text came_text told_text history found old new most worked of_old of_new is = elim is.attended [
   | inl unheard ↦ (
-    record { found = found; opened = is.first; zone = is.zone; calls = []; first = new is.last; last = new is.last },
+    record { found = found; opened = is.first; setting = is.setting; calls = []; first = new is.last; last = new is.last },
     record {
       start = record {
         opens = is.opens;
-        in_zone = is.in_zone;
+        in_zone = is.is_set.zone;
         looks = rw of_new (rw (of_old, of_new) at unheard.looks);
-        attended = attended_none g is.zone came_text told_text (new is.last);
+        attended = attended_none g is.setting came_text told_text (new is.last);
         kept = λ clean kept. All-nil _;
         go_on = tt;
         begins_kept = inl refl;
       };
       found_is = refl;
       closed = ap (λ store. store.conn) (of_new is.last) ∙ sym is.closed;
+      history_is = is.is_set.history;
       last = is.last;
       last_is = refl;
       head = inr (
@@ -392,7 +403,7 @@ served_start g wants begun_text came_text told_text found old new most worked of
     record {
       found = found;
       opened = is.first;
-      zone = is.zone;
+      setting = is.setting;
       calls = served.serves.calls;
       first = record {
         heard = (old is.first).heard;
@@ -409,7 +420,7 @@ served_start g wants begun_text came_text told_text found old new most worked of
     record {
       start = record {
         opens = is.opens;
-        in_zone = is.in_zone;
+        in_zone = is.is_set.zone;
         looks = rw of_old at served.looks.looks;
         attended = served.serves.attended;
         kept = served.serves.kept;
@@ -418,6 +429,7 @@ served_start g wants begun_text came_text told_text found old new most worked of
       };
       found_is = refl;
       closed = ap (λ store. store.conn) (of_new is.last) ∙ sym is.closed;
+      history_is = is.is_set.history;
       last = is.last;
       last_is = refl;
       head = inl (subst (λ (first : Store _). KeepsHead g wants begun_text first served.store (old is.first).stage.kept served.kept (Ok tt))
@@ -427,12 +439,12 @@ served_start g wants begun_text came_text told_text found old new most worked of
 ]
 
 pub served_is_a_start_law : {S : Type 0} (g : Ghosts S) → ServedIsAStart g
-served_is_a_start_law g wants begun_text came_text told_text found old new most worked of_old of_new is =
-    let s = served_start g wants begun_text came_text told_text found old new most worked of_old of_new is in
-    (s.0, s.1.start, s.1.found_is, s.1.closed)
+served_is_a_start_law g wants begun_text came_text told_text history found old new most worked of_old of_new is =
+    let s = served_start g wants begun_text came_text told_text history found old new most worked of_old of_new is in
+    (s.0, s.1.start, s.1.found_is, s.1.closed, s.1.history_is)
 
 pub serving_is_a_start_law : {S : Type 0} (g : Ghosts S) → ServingIsAStart g
-serving_is_a_start_law g came_text told_text found opened zone first now count opens in_zone looks served = record {
+serving_is_a_start_law g came_text told_text found opened setting first now count opens in_zone looks served = record {
   opens = opens;
   in_zone = in_zone;
   looks = looks.looks;

@@ -5,32 +5,32 @@ use Rattle.sqlite.specs.State.{HasCleanDisk}
 use Rattle.sqlite_trees.specs.declared.store.Store.{Ghosts}
 use Rattle.room_types.specs.declared.fleet.Terminal.{Terminal}
 use Rattle.room_model.specs.Room.{Room}
-use Rattle.room_http_time.specs.declared.zones.Zone.{Zone}
-use Rattle.room_service.specs.Rooms.{machine}
-use Rattle.room_store.specs.Keeping.{IsKept, IsRoom, LeavesOneOf}
+use Rattle.room_http.specs.declared.settings.Setting.{Setting}
+use Rattle.room_model.specs.Rooms.{machine}
+use Rattle.room_store.specs.StoredRoom.{IsKept, IsRoom, LeavesOneOf}
 use Rattle.room_store.specs.declared.store.Store.{Store}
 use Rattle.room_store_cache.specs.Cache.{KnowsNothing}
 use Rattle.room_http.specs.Course.{AreFirstIn, Course}
 use Rattle.room_http.specs.Kept.{ActsOnEach, KeepsEach, Tapes}
 use Rattle.room_http.specs.Promises.{Promises}
 use Rattle.room_http.specs.Runs.{Exchange, IsRun, room_by}
-use Rattle.room_http.specs.Served.{Served}
-use Rattle.room_http.specs.Serving.{Finish, MissesNone, ReadsAtMost, ServeIs, Sides}
+use Rattle.room_http.specs.ServedRuns.{Served}
+use Rattle.room_http.specs.Session.{Finish, MissesNone, ReadsAtMost, ServeIs, Sides}
 use Rattle.room_http.specs.Talk.{Stays, Wants}
-use Rattle.room_http.specs.declared.serving.ServeEnd.{ServeEnd}
-use Rattle.room_http.specs.declared.serving.ServeEnd.TheVariants as end
-use Rattle.dispatch_room_endings.specs.declared.endings.Done.{Done}
-use Rattle.dispatch_room_endings.specs.declared.endings.Done.TheVariants.{Whole}
-use Rattle.dispatch_room_endings.specs.declared.endings.Failure.{Failure}
-use Rattle.dispatch_room_endings.specs.declared.endings.Failure.TheVariants.{Journal, Memory, Storage}
-use Rattle.dispatch_room_serving.specs.Calls.{Grows, Opening}
+use Rattle.room_http.specs.declared.session.ServeEnd.{ServeEnd}
+use Rattle.room_http.specs.declared.session.ServeEnd.TheVariants as end
+use Rattle.dispatch_room_exit.specs.declared.exit_status.Done.{Done}
+use Rattle.dispatch_room_exit.specs.declared.exit_status.Done.TheVariants.{Whole}
+use Rattle.dispatch_room_exit.specs.declared.exit_status.Failure.{Failure}
+use Rattle.dispatch_room_exit.specs.declared.exit_status.Failure.TheVariants.{Journal, Memory, Storage}
+use Rattle.dispatch_room_serving.specs.Callers.{Grows, Opening}
 
 -- how many reads a connection has at most
 abbrev pub most_reads : ℕ
 most_reads = 100000
 
 -- where serving stands between two connections: what is known of the moments given and of what the
--- witness keeps, whether it has failed, and the store
+-- observer keeps, whether it has failed, and the store
 pub record Stage (S : Type 0) : Type 0 where
   pub given : Option (List ℕ)
   pub kept : Option (List ℕ)
@@ -38,7 +38,7 @@ pub record Stage (S : Type 0) : Type 0 where
   pub store : Store S
 
 -- A connection that was served: its sides before and after, its course, what was left unread, how
--- serving it ended, and the store, what the witness keeps and whether it has failed, before and
+-- serving it ended, and the store, what the observer keeps and whether it has failed, before and
 -- after it.
 pub record Conversation (S : Type 0) : Type 0 where
   pub before : Sides
@@ -94,11 +94,11 @@ module _ {S : Type 0} where
   stage_after c = record {
     given = c.after.given;
     kept = c.keeps;
-    has_failed = c.after.witness_failed;
+    has_failed = c.after.observer_failed;
     store = c.store;
   }
 
-  -- what is known of the moments, of what the witness keeps and of what was written, before it and
+  -- what is known of the moments, of what the observer keeps and of what was written, before it and
   -- after it
   abbrev pub tapes_before : Conversation S → Tapes
   tapes_before c = record { given = c.before.given; kept = c.kept; held = c.before.held }
@@ -141,10 +141,10 @@ module _ {S : Type 0} where
 abbrev pub together : List (List Exchange) → List Exchange
 together talks = flat_map (λ xs. xs) talks
 
-module _ {S : Type 0} (g : Ghosts S) (zone : Zone) (terminals : List Terminal) where
+module _ {S : Type 0} (g : Ghosts S) (setting : Setting) (terminals : List Terminal) where
   -- on the connection these exchanges were served, from this room
   pub record IsServed (c : Conversation S) (xs : List Exchange) (room : Room) : Type 0 where
-    pub served : Served zone (AreFirstIn c.course c.before.left c.before.given c.after.given)
+    pub served : Served setting (AreFirstIn c.course c.before.left c.before.given c.after.given)
         c.before.held c.after.held (IsKept g c.from) (IsRoom g c.store) (LeavesOneOf g c.store)
         terminals room
     pub exchanged : served.exchanges ≡ xs
@@ -161,31 +161,31 @@ module _ {S : Type 0} (g : Ghosts S) (zone : Zone) (terminals : List Terminal) w
   pub record AreJoined (cs : List (Conversation S)) (last : Store S) (room : Room) : Type 0 where
     pub talks : List (List Exchange)
     pub served : AreServed cs talks room
-    pub run : IsRun zone terminals (together talks) room
+    pub run : IsRun setting terminals (together talks) room
     pub after : IsRoom g last terminals (room_by (together talks) room)
     pub promises : Promises terminals (together talks) room
 
--- where a witness keeps so much of a message at its moment, and of an answer
-module _ {S : Type 0} (g : Ghosts S) (zone : Zone) (came_text : ℕ → List ℕ → List ℕ)
+-- where a observer keeps so much of a message at its moment, and of an answer
+module _ {S : Type 0} (g : Ghosts S) (setting : Setting) (came_text : ℕ → List ℕ → List ℕ)
     (told_text : List ℕ → List ℕ) where
-  -- It was served as one connection is, from where serving stood, and witnessed. The witness fails
+  -- It was served as one connection is, from where serving stood, and observed. The observer fails
   -- only where something can't be kept. The zone of the plan stays. What the store holds afterwards
   -- is kept, unless it is shut.
   pub record IsNext (stage : Stage S) (c : Conversation S) : Type 0 where
     pub begins : stage_before c ≡ stage
     pub reads : ReadsAtMost most_reads c.before.reads c.after.reads
-    pub talk : ServeIs machine zone c.before c.after (HasCleanDisk (state g c.store.conn))
+    pub talk : ServeIs machine setting c.before c.after (HasCleanDisk (state g c.store.conn))
         (IsRoom g c.from)
         (Stays (IsKept g c.from) (IsRoom g c.store) (LeavesOneOf g c.store))
-        (Wants machine zone (IsKept g c.from) (IsRoom g c.store) (LeavesOneOf g c.store))
+        (Wants machine setting (IsKept g c.from) (IsRoom g c.store) (LeavesOneOf g c.store))
         (KnowsNothing c.store.cache) c.course most_reads c.end
     pub none_missed : MissesNone c.before.left c.unread c.before.given c.after.given c.end
-    pub witnessed : KeepsEach came_text told_text
+    pub observed : KeepsEach came_text told_text
         (HasCleanDisk (state g c.store.conn) → IsKept g c.from → IsKept g c.store)
-        (ActsOnEach machine zone (HasCleanDisk (state g c.store.conn)) (IsRoom g c.from)
+        (ActsOnEach machine setting (HasCleanDisk (state g c.store.conn)) (IsRoom g c.from)
         (IsRoom g c.store)) c.before.left
         (tapes_before c) (tapes_after c) c.end c.course
-    pub failed : c.end ≢ end.Unkept → c.after.witness_failed ≡ c.had_failed
+    pub failed : c.end ≢ end.Unkept → c.after.observer_failed ≡ c.had_failed
     pub same_zone : c.store.plan.zone ≡ c.from.plan.zone
     pub trusted : HasCleanDisk (state g c.store.conn) → HasCleanDisk (state g c.from.conn)
     pub kept : HasCleanDisk (state g c.store.conn)
@@ -207,7 +207,7 @@ module _ {S : Type 0} (g : Ghosts S) (zone : Zone) (came_text : ℕ → List ℕ
         → HasCleanDisk (state g old.stage.store.conn)
     pub joined : HasCleanDisk (state g new.stage.store.conn)
         → (terminals : List Terminal) (room : Room) → IsRoom g old.stage.store terminals room
-        → AreJoined g zone terminals (connected calls) new.stage.store room
+        → AreJoined g setting terminals (connected calls) new.stage.store room
 
   -- What the store held was kept as each connection began, where it was as the first did: so every
   -- answer that was written is kept.
@@ -240,12 +240,12 @@ done_or (Some fault) = Err fault
 
 -- The next call was attended to, and why no more is served after it, if it is so. Else what held of
 -- so many calls holds of one more.
-pub record AttendsNext {S : Type 0} (g : Ghosts S) (zone : Zone) (came_text : ℕ → List ℕ → List ℕ)
-    (told_text : List ℕ → List ℕ) (old new : Service S)
+pub record AttendsNext {S : Type 0} (g : Ghosts S) (setting : Setting)
+    (came_text : ℕ → List ℕ → List ℕ) (told_text : List ℕ → List ℕ) (old new : Service S)
     (result : Result (Unit {0}) Failure) : Type 0 where
   pub call : Option (Conversation S)
-  pub attended : AreAttended g zone came_text told_text (call ∷ []) old new
+  pub attended : AreAttended g setting came_text told_text (call ∷ []) old new
   pub ends : result ≡ done_or (option_and_then fault_after call)
   pub longer : result ≡ Ok tt → (first : Service S) (count : ℕ)
-      → HasServed g zone came_text told_text first old count
-      → HasServed g zone came_text told_text first new (count + 1)
+      → HasServed g setting came_text told_text first old count
+      → HasServed g setting came_text told_text first new (count + 1)

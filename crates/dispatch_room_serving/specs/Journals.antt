@@ -1,9 +1,9 @@
 -- What a journal holds, what of it lasts, and when it has failed.
 use Rattle.std.specs.Prelude.{◌≡◌, ◌⊎◌, ℕ, List, Bool, true, false, Option, None, Some, option_and_then, Result, IsErr}
-use Rattle.dispatch_room_endings.specs.declared.endings.Failure.{Failure}
-use Rattle.dispatch_room_endings.specs.declared.endings.Failure.TheVariants as failure
-use Rattle.dispatch_room_journal.specs.Ends.{FailsIn}
-use Rattle.dispatch_room_journal.specs.declared.reading.Fault.{Fault}
+use Rattle.dispatch_room_exit.specs.declared.exit_status.Failure.{Failure}
+use Rattle.dispatch_room_exit.specs.declared.exit_status.Failure.TheVariants as failure
+use Rattle.dispatch_room_journal.specs.WholeEntries.{FailsIn}
+use Rattle.dispatch_room_journal.specs.declared.entry_reader.EntryFault.{EntryFault}
 use Rattle.room_http.specs.declared.arrivals.Arrived.{Arrived}
 use Rattle.room_http.specs.declared.arrivals.Arrived.TheVariants.{Message, Refused}
 use Rattle.dispatch_room_serving.specs.declared.journals.Journal.{Journal}
@@ -37,4 +37,4 @@ pub record FailsForGood {W E : Type 0} (old new : Journal W)
 -- list of such, or a read failed.
 abbrev pub IsUnread : Bool → List ℕ → Failure → Type 0
 IsUnread read_failed text fault = (fault ≡ failure.Memory)
-    ⊎ ((fault ≡ failure.Journal) × ((cause : Fault) × FailsIn read_failed text cause))
+    ⊎ ((fault ≡ failure.Journal) × ((cause : EntryFault) × FailsIn read_failed text cause))

@@ -7,28 +7,29 @@ use Rattle.sqlite.specs.State.{HasCleanDisk}
 use Rattle.sqlite_trees.specs.declared.store.Store.{Ghosts}
 use Rattle.room_types.specs.declared.fleet.Terminal.{Terminal}
 use Rattle.room_model.specs.Room.{Room}
-use Rattle.room_service.specs.Digests.{DigitsOf, digits_of}
-use Rattle.room_service.specs.Rooms.{machine}
-use Rattle.room_service.specs.declared.digests.Version.TheVariants.{Second}
+use Rattle.room_model.specs.Digests.{DigitsOf, digits_of}
+use Rattle.room_model.specs.Rooms.{machine}
+use Rattle.room_model.specs.declared.digests.Version.TheVariants.{Second}
 use Rattle.room_http.specs.Talk.{IsFront, IsReplyTo, Timed}
 use Rattle.room_http_time.specs.Days.{zone_of}
-use Rattle.room_http_time.specs.declared.zones.Zone.{Zone}
-use Rattle.room_store.specs.Keeping.{IsRoom}
+use Rattle.room_http.specs.Settings.{IsSetting}
+use Rattle.room_http.specs.declared.settings.Setting.{Setting}
+use Rattle.room_store.specs.StoredRoom.{IsRoom}
 use Rattle.room_store.specs.declared.store.Store.{Store}
-use Rattle.room_store_digest.specs.Texts.{digest_of}
-use Rattle.room_tables.specs.Stands.{House, Stands}
-use Rattle.dispatch_room_endings.specs.declared.endings.Done.{Done}
-use Rattle.dispatch_room_endings.specs.declared.endings.Failure.{Failure}
-use Rattle.dispatch_room_journal.specs.Ends.{IsCutTo}
+use Rattle.room_store_file.specs.DigestTexts.{digest_of}
+use Rattle.room_tables.specs.Stands.{Configuration, Stands}
+use Rattle.dispatch_room_exit.specs.declared.exit_status.Done.{Done}
+use Rattle.dispatch_room_exit.specs.declared.exit_status.Failure.{Failure}
+use Rattle.dispatch_room_journal.specs.WholeEntries.{IsCutTo}
 use Rattle.dispatch_room_journal.specs.Entries.{IsEntry, texts_of}
-use Rattle.dispatch_room_journal.specs.Records.{answer_text, message_text, room_text}
-use Rattle.dispatch_room_replaying.specs.Laws.{IsExcused, answers_to_messages}
-use Rattle.dispatch_room_replaying.specs.Replays.{IsReplay, Replays}
-use Rattle.dispatch_room_replaying.specs.declared.faults.Stopped.{Stopped}
-use Rattle.dispatch_room_replaying.specs.declared.replaying.Replayed.{Replayed}
-use Rattle.dispatch_room_replaying.specs.Turns.{IsBegun, IsReplayed, IsTurn, Turn, answers_of, ends_open, entries_of}
+use Rattle.dispatch_room_journal.specs.JournalRecords.{answer_text, message_text, room_text}
+use Rattle.dispatch_room_journal.specs.ReplayLaws.{IsExcused, answers_to_messages}
+use Rattle.dispatch_room_journal.specs.Replays.{IsReplay, Replays}
+use Rattle.dispatch_room_journal.specs.declared.replay_faults.Stopped.{Stopped}
+use Rattle.dispatch_room_journal.specs.declared.replayed_journal.Replayed.{Replayed}
+use Rattle.dispatch_room_journal.specs.ReplayedTurns.{IsBegun, IsReplayed, IsTurn, Turn, answers_of, ends_open, entries_of}
 use Rattle.dispatch_room_serving.specs.Connections.{Conversation, Service}
-use Rattle.dispatch_room_serving.specs.Rooms.{IsHead, ServesRoom}
+use Rattle.dispatch_room_serving.specs.ServedRoom.{IsHead, ServesRoom}
 use Rattle.dispatch_room_serving.specs.Starts.{AreStarts, IsStart, IsTrusted, OfLast, Start, connections, left_by}
 
 -- what stands in the list as a start opens it, which are whole records, and at the end of the start
@@ -71,18 +72,18 @@ module _ {S : Type 0} (g : Ghosts S) where
 
   module _ (terminals : List Terminal) where
     -- No message leads to the room that was opened from another one that has the same digest: of a
-    -- room before a message and after it the digest tells which it is.
+    -- room before a message and after it the digest shows which it is.
     abbrev pub HasNoTwin : Start S → Type 0
     HasNoTwin s = (x : Timed) (room other : Room) (bytes : List ℕ)
         → IsRoom g s.opened terminals other
-        → IsReplyTo machine s.zone terminals room x other bytes
+        → IsReplyTo machine s.setting terminals room x other bytes
         → digits_at s Second terminals room ≡ digits_at s Second terminals other → room ≡ other
 
-    -- The list can be replayed in this zone, from this room: by turns of its entries, with the
+    -- The list can be replayed in this setting, from this room: by turns of its entries, with the
     -- answers that were given. It leads to the room for which the store stands at the end of the
     -- last start; or to the one from which a message leads there that has no status at the end.
-    pub record IsListOf (zone : Zone) (digits : DigitsOf) (starts : List (Start S)) (room : Room)
-        (list : List ℕ) : Type 0 where
+    pub record IsListOf (setting : Setting) (digits : DigitsOf) (starts : List (Start S))
+        (room : Room) (list : List ℕ) : Type 0 where
       pub turns : List Turn
       pub are_turns : All IsTurn turns
       pub replayed : All IsReplayed turns
@@ -90,45 +91,46 @@ module _ {S : Type 0} (g : Ghosts S) where
       pub begun : (turns ≡ []) ⊎ IsBegun turns
       pub text : texts_of (entries_of turns) ≡ list
       pub after : Room
-      pub replay : IsReplay machine zone digits terminals room turns after
+      pub replay : IsReplay machine setting digits terminals room turns after
       pub given : AreGiven (flat_map connections starts) (answers_of turns)
       pub leads : OfLast (λ s. IsRoom g (left_by s) terminals after
           ⊎ ((ends_open turns ≡ true) × (x : Timed) × (other : Room) × (bytes : List ℕ)
-          × IsReplyTo machine zone terminals after x other bytes
+          × IsReplyTo machine setting terminals after x other bytes
           × IsRoom g (left_by s) terminals other)) starts
 
   -- What serving gives once it has ended, where a list is kept, is a start that kept its part.
   abbrev pub ServedKeepsItsPart : Type 0
   ServedKeepsItsPart =
       (found : Held S) (old new : Store S → Service S) (most : ℕ)
-      (worked : Result Done Failure × Held S) (part : Part)
+      (worked : Result Done Failure × Held S) (part : Part) (history : Bool)
       → ((store : Store S) → ((old store).stage.store ≡ store)
       × ((old store).stage.kept ≡ Some part.before))
       → ((store : Store S) → ((new store).stage.store ≡ store)
       × ((new store).stage.kept ≡ Some part.after))
-      → ServesRoom g true room_text message_text answer_text found old new most worked
+      → ServesRoom g true room_text message_text answer_text history found old new most worked
       → (s : Start S) × IsStart g message_text answer_text s × (s.found ≡ found)
-      × ((left_by s).conn ≡ worked.1) × IsPartOf s part
+      × ((left_by s).conn ≡ worked.1) × (s.setting.history ≡ history) × IsPartOf s part
 
   -- Whatever starts there were, from the room that the first of them found, with a list that was
   -- empty: it can be replayed from that room.
   abbrev pub ListIsTheRoom : Type 0
   ListIsTheRoom =
-      (first : Start S) (more : List (Start S)) (parts : List Part) (list : List ℕ) (house : House)
+      (first : Start S) (more : List (Start S)) (parts : List Part) (list : List ℕ)
+      (config : Configuration)
       (room : Room)
       → AreStarts g message_text answer_text (first ∷ more) → All (IsTrusted g) (first ∷ more)
-      → Stands (state g first.found).now.trees house room
-      → All (HasNoTwin house.terminals) (first ∷ more) → AreParts (first ∷ more) parts [] list
-      → IsListOf house.terminals first.zone (digits_at first) (first ∷ more) room list
+      → Stands (state g first.found).now.trees config room
+      → All (HasNoTwin config.terminals) (first ∷ more) → AreParts (first ∷ more) parts [] list
+      → IsListOf config.terminals first.setting (digits_at first) (first ∷ more) room list
 
 -- Whoever replays such a list to a room that is equal to the first, in whatever storage, in the
--- same zone: it comes to the room to which the list leads, and is told so. It stops only where a
+-- same setting: it comes to the room to which the list leads, and is told so. It stops only where a
 -- read failed, memory or storage was wanting, or the list has more turns than are counted.
 abbrev pub ListIsReplayed : {S T : Type 0} → Ghosts S → Ghosts T → Type 0
 ListIsReplayed {S} {T} g h =
-    (terminals : List Terminal) (here there : Zone) (text : List ℕ) (starts : List (Start S))
+    (terminals : List Terminal) (here there : Setting) (text : List ℕ) (starts : List (Start S))
     (room : Room) (list : List ℕ)
-    → IsPosixZone text (zone_of here) → IsPosixZone text (zone_of there)
+    → IsSetting text there.history here → IsPosixZone text (zone_of there.zone)
     → (of : IsListOf g terminals here (digits_of digest_of text) starts room list)
     → (old new : Store T) (read_failed : Bool) (result : Result Replayed Stopped)
     → old.plan.zone ≡ text → HasCleanDisk (state h new.conn) → IsRoom h old terminals room

@@ -3,7 +3,7 @@ use Rattle.std.specs.Prelude.{ℕ, List, ◌∷◌, ◌++◌, codes, decimal, Op
 use Rattle.jiff.specs.Words.{iso_datetime_text}
 use Rattle.jiff.specs.declared.civil.datetimes.DateTime.{DateTime}
 use Rattle.room_types.specs.declared.asks.Who.{Who}
-use Rattle.dispatch_room_serving.specs.declared.log_lines.Line.{Line}
+use Rattle.dispatch_room_serving.specs.declared.log_lines.LogLine.{LogLine}
 use Rattle.dispatch_room_serving.specs.declared.log_lines.Request.{Request}
 use Rattle.dispatch_room_serving.specs.declared.log_lines.Request.TheVariants.{Message, Unread}
 use Rattle.dispatch_room_serving.specs.LogLines.{asker_text, visible}
@@ -26,6 +26,6 @@ asked_by (Message method path) = Some (method.bytes.now, path.bytes.now)
 asked_by Unread = None
 
 -- the text of a line
-abbrev pub text_of : Line → List ℕ
+abbrev pub text_of : LogLine → List ℕ
 text_of line =
     line_text line.at line.asker.who (asked_by line.request) line.status.bytes.now line.millis

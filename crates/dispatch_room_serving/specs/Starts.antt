@@ -7,28 +7,28 @@ use Rattle.sqlite.specs.State.{HasCleanDisk}
 use Rattle.sqlite_trees.specs.declared.store.Store.{Ghosts}
 use Rattle.room_types.specs.declared.fleet.Terminal.{Terminal}
 use Rattle.room_model.specs.Room.{Room}
-use Rattle.room_service.specs.declared.digests.Head.{Head}
+use Rattle.room_model.specs.declared.digests.Head.{Head}
 use Rattle.room_http.specs.Course.{AreFirstIn}
 use Rattle.room_http.specs.Promises.{Promises}
 use Rattle.room_http.specs.Runs.{Exchange, IsRun, arrivals_of, room_by}
 use Rattle.room_http_time.specs.Days.{zone_of}
-use Rattle.room_http_time.specs.declared.zones.Zone.{Zone}
-use Rattle.room_store.specs.Keeping.{IsKept, IsRoom}
+use Rattle.room_http.specs.declared.settings.Setting.{Setting}
+use Rattle.room_store.specs.StoredRoom.{IsKept, IsRoom}
 use Rattle.room_store.specs.declared.store.Store.{Store}
-use Rattle.room_tables.specs.Stands.{House, Stands}
-use Rattle.dispatch_room_endings.specs.declared.endings.Done.{Done}
-use Rattle.dispatch_room_endings.specs.declared.endings.Failure.{Failure}
-use Rattle.dispatch_room_opening.specs.Opened.{OpensRoom}
+use Rattle.room_tables.specs.Stands.{Configuration, Stands}
+use Rattle.dispatch_room_exit.specs.declared.exit_status.Done.{Done}
+use Rattle.dispatch_room_exit.specs.declared.exit_status.Failure.{Failure}
+use Rattle.dispatch_room_tasks.specs.OpenedRoom.{OpensRoom}
 use Rattle.dispatch_room_serving.specs.Connections.{AreAttended, AreJoined, AreKept, Conversation, GoOnBefore, HasServed, Service, connected, together}
-use Rattle.dispatch_room_serving.specs.Rooms.{Looks, LooksOnly, ServesRoom}
+use Rattle.dispatch_room_serving.specs.ServedRoom.{Looks, LooksOnly, ServesRoom}
 
--- A start: the database that was found, the store that was opened in it, the zone of its plan, the
--- calls that came, and where serving stood before the first of them, and where it ended or was
--- stopped.
+-- A start: the database that was found, the store that was opened in it, what the service was set
+-- to, the calls that came, and where serving stood before the first of them, and where it ended or
+-- was stopped.
 pub record Start (S : Type 0) : Type 0 where
   pub found : Held S
   pub opened : Store S
-  pub zone : Zone
+  pub setting : Setting
   pub calls : List (Option (Conversation S))
   pub first : Service S
   pub last : Service S
@@ -78,10 +78,10 @@ module _ {S : Type 0} (g : Ghosts S) where
   pub record IsStart (came_text : ℕ → List ℕ → List ℕ) (told_text : List ℕ → List ℕ)
       (s : Start S) : Type 0 where
     pub opens : HasCleanDisk (state g s.opened.conn) → OpensRoom g s.found s.opened
-    pub in_zone : IsPosixZone s.opened.plan.zone (zone_of s.zone)
+    pub in_zone : IsPosixZone s.opened.plan.zone (zone_of s.setting.zone)
     pub looks : Looks g s.opened s.first.stage.store
-    pub attended : AreAttended g s.zone came_text told_text s.calls s.first s.last
-    pub kept : AreKept g s.zone came_text told_text (connections s) s.first
+    pub attended : AreAttended g s.setting came_text told_text s.calls s.first s.last
+    pub kept : AreKept g s.setting came_text told_text (connections s) s.first
         (HasCleanDisk (state g (left_by s).conn))
     -- after each connection but the last more was served
     pub go_on : GoOnBefore (connections s)
@@ -90,16 +90,18 @@ module _ {S : Type 0} (g : Ghosts S) where
         ⊎ (HasCleanDisk (state g s.first.stage.store.conn) → IsKept g s.opened
         → IsKept g s.first.stage.store)
 
-  -- a start finds what a stop of the one before may leave
-  abbrev pub FindsLeft : Start S → Start S → Type 0
-  FindsLeft before s = (state g (left_by before).conn).may_leave (state g s.found).now.trees
+  -- a start follows another: it finds what a stop of that may leave, and serves the paths of
+  -- history where that did
+  abbrev pub Follows : Start S → Start S → Type 0
+  Follows before s = (state g (left_by before).conn).may_leave (state g s.found).now.trees
+      × (s.setting.history ≡ before.setting.history)
 
   -- these starts, each after the one before
   abbrev pub AreStarts : (ℕ → List ℕ → List ℕ) → (List ℕ → List ℕ) → List (Start S) → Type 0
   AreStarts came_text told_text [] = ⊤
   AreStarts came_text told_text (s ∷ []) = IsStart came_text told_text s
   AreStarts came_text told_text (s ∷ next ∷ more) = IsStart came_text told_text s
-      × FindsLeft s next × AreStarts came_text told_text (next ∷ more)
+      × Follows s next × AreStarts came_text told_text (next ∷ more)
 
   -- the disk gave back what was written, up to the end of the start
   abbrev pub IsTrusted : Start S → Type 0
@@ -109,7 +111,7 @@ module _ {S : Type 0} (g : Ghosts S) where
     -- The start opened this room, and so much was exchanged.
     pub record IsDone (s : Start S) (done : Exchanged) (room : Room) : Type 0 where
       pub opened : IsRoom g s.opened terminals room
-      pub joined : AreJoined g s.zone terminals (connections s) (left_by s) room
+      pub joined : AreJoined g s.setting terminals (connections s) (left_by s) room
       pub told : together joined.talks ≡ done.told
       pub untold : (done.untold ≡ [])
           ⊎ ((x : Exchange) × (done.untold ≡ x ∷ []) × IsUntold (connections s) joined.talks x)
@@ -122,12 +124,12 @@ module _ {S : Type 0} (g : Ghosts S) where
     AreDone (s ∷ starts) (x ∷ more) room =
         IsDone s x room × AreDone starts more (room_by (all_of x) room)
 
-    -- The starts are one run from this room, in this zone, and it keeps the promises. It leads to
-    -- the room for which the store stands at the end of the last.
-    pub record AreOneRun (zone : Zone) (starts : List (Start S)) (room : Room) : Type 0 where
+    -- The starts are one run from this room, in this setting, and it keeps the promises. It leads
+    -- to the room for which the store stands at the end of the last.
+    pub record AreOneRun (setting : Setting) (starts : List (Start S)) (room : Room) : Type 0 where
       pub done : List Exchanged
       pub each : AreDone starts done room
-      pub run : IsRun zone terminals (whole_of done) room
+      pub run : IsRun setting terminals (whole_of done) room
       pub promises : Promises terminals (whole_of done) room
       pub after : OfLast (λ s. IsRoom g (left_by s) terminals (room_by (whole_of done) room)) starts
 
@@ -135,36 +137,36 @@ module _ {S : Type 0} (g : Ghosts S) where
   abbrev pub StartsAreOneRun : Type 0
   StartsAreOneRun =
       (came_text : ℕ → List ℕ → List ℕ) (told_text : List ℕ → List ℕ) (first : Start S)
-      (more : List (Start S)) (house : House) (room : Room)
+      (more : List (Start S)) (config : Configuration) (room : Room)
       → AreStarts came_text told_text (first ∷ more) → All IsTrusted (first ∷ more)
-      → Stands (state g first.found).now.trees house room
-      → AreOneRun house.terminals first.zone (first ∷ more) room
+      → Stands (state g first.found).now.trees config room
+      → AreOneRun config.terminals first.setting (first ∷ more) room
 
   -- What serving gives once it has ended is a start of what was found, and the store at its end is
   -- closed.
   abbrev pub ServedIsAStart : Type 0
   ServedIsAStart =
       (wants : Bool) (begun_text : Head → List ℕ) (came_text : ℕ → List ℕ → List ℕ)
-      (told_text : List ℕ → List ℕ) (found : Held S) (old new : Store S → Service S) (most : ℕ)
-      (worked : Result Done Failure × Held S)
+      (told_text : List ℕ → List ℕ) (history : Bool) (found : Held S)
+      (old new : Store S → Service S) (most : ℕ) (worked : Result Done Failure × Held S)
       → ((store : Store S) → (old store).stage.store ≡ store)
       → ((store : Store S) → (new store).stage.store ≡ store)
-      → ServesRoom g wants begun_text came_text told_text found old new most worked
+      → ServesRoom g wants begun_text came_text told_text history found old new most worked
       → (s : Start S) × IsStart came_text told_text s × (s.found ≡ found)
-      × ((left_by s).conn ≡ worked.1)
+      × ((left_by s).conn ≡ worked.1) × (s.setting.history ≡ history)
 
   -- And so it is while it is served, after every number of calls: a room may be stopped at each.
   abbrev pub ServingIsAStart : Type 0
   ServingIsAStart =
       (came_text : ℕ → List ℕ → List ℕ) (told_text : List ℕ → List ℕ) (found : Held S)
-      (opened : Store S) (zone : Zone) (first now : Service S) (count : ℕ)
+      (opened : Store S) (setting : Setting) (first now : Service S) (count : ℕ)
       → (HasCleanDisk (state g opened.conn) → OpensRoom g found opened)
-      → IsPosixZone opened.plan.zone (zone_of zone) → LooksOnly g opened first.stage.store
-      → (served : HasServed g zone came_text told_text first now count)
+      → IsPosixZone opened.plan.zone (zone_of setting.zone) → LooksOnly g opened first.stage.store
+      → (served : HasServed g setting came_text told_text first now count)
       → IsStart came_text told_text (record {
         found = found;
         opened = opened;
-        zone = zone;
+        setting = setting;
         calls = served.calls;
         first = first;
         last = now;

@@ -1,14 +1,14 @@
 //! The connections of a room, served one after another.
 ghost use Rattle.std.specs.Prelude.{◌≡◌};
-ghost use Rattle.room_store.specs.Keeping.{IsReady};
+ghost use Rattle.room_store.specs.StoredRoom.{IsReady};
 ghost use Rattle.dispatch_room_serving.specs.Connections.{AttendsNext, Serves, done_or, fault_by};
 
 use crate::callers::Callers;
-use dispatch_room_endings::endings::{Done, Failure};
-use room_http::serving::{ServeEnd, serve};
-use room_http::witnesses::Witness;
+use dispatch_room_exit::exit_status::{Done, Failure};
+use room_http::observers::Observer;
+use room_http::session::{ServeEnd, serve};
+use room_http::settings::Setting;
 use room_http_time::clocks::Clock;
-use room_http_time::zones::Zone;
 use room_store::store::Store;
 use sqlite::Alter;
 use std::alloc::Global;
@@ -17,25 +17,25 @@ use std::alloc::Global;
 pub const MOST_READS: u32 = 100_000;
 
 /// Serves a room to so many calls, one after another, each as `serve_next` does.
-pub fn serve_each<S: Alter, P: Callers, C: Clock, N: Witness>(
+pub fn serve_each<S: Alter, P: Callers, C: Clock, N: Observer>(
     alloc: Global,
     callers: &mut P,
     room: &mut Store<S>,
-    zone: &Zone,
+    setting: &Setting,
     clock: &mut C,
-    witness: &mut N,
+    observer: &mut N,
     connections: u64,
 ) -> Result<Done, Failure>
     requires ready { IsReady S.Store room.old }
     ensures ready { IsReady S.Store room.new }
-    ensures served { Serves S.Store zone.now N.came N.told
+    ensures served { Serves S.Store setting.now N.came N.told
         (record {
           heard = P.heard callers.old;
           told = P.told callers.old;
           stage = record {
             given = C.given clock.old;
-            kept = N.held witness.old;
-            has_failed = N.has_failed witness.old;
+            kept = N.held observer.old;
+            has_failed = N.has_failed observer.old;
             store = room.old;
           };
         })
@@ -44,15 +44,15 @@ pub fn serve_each<S: Alter, P: Callers, C: Clock, N: Witness>(
           told = P.told callers.new;
           stage = record {
             given = C.given clock.new;
-            kept = N.held witness.new;
-            has_failed = N.has_failed witness.new;
+            kept = N.held observer.new;
+            has_failed = N.has_failed observer.new;
             store = room.new;
           };
         })
         connections result }
 {
     for _connection in 0..connections {
-        if let Err(fault) = serve_next(alloc, callers, room, zone, clock, witness) {
+        if let Err(fault) = serve_next(alloc, callers, room, setting, clock, observer) {
             return Err(fault);
         }
     }
@@ -61,26 +61,26 @@ pub fn serve_each<S: Alter, P: Callers, C: Clock, N: Witness>(
 
 /// Serves the next call. Where more is served after it, what held after the calls before holds
 /// after one more: so it does after every number of them, however long the room is served. A
-/// connection that ends badly doesn't end the service, but for want of memory, where the witness
+/// connection that ends badly doesn't end the service, but for lack of memory, where the witness
 /// could not keep what it was told, and where the store is not sound any longer.
-pub fn serve_next<S: Alter, P: Callers, C: Clock, N: Witness>(
+pub fn serve_next<S: Alter, P: Callers, C: Clock, N: Observer>(
     alloc: Global,
     callers: &mut P,
     room: &mut Store<S>,
-    zone: &Zone,
+    setting: &Setting,
     clock: &mut C,
-    witness: &mut N,
+    observer: &mut N,
 ) -> Result<(), Failure>
     requires ready { IsReady S.Store room.old }
     ensures ready { IsReady S.Store room.new }
-    ensures attended { AttendsNext S.Store zone.now N.came N.told
+    ensures attended { AttendsNext S.Store setting.now N.came N.told
         (record {
           heard = P.heard callers.old;
           told = P.told callers.old;
           stage = record {
             given = C.given clock.old;
-            kept = N.held witness.old;
-            has_failed = N.has_failed witness.old;
+            kept = N.held observer.old;
+            has_failed = N.has_failed observer.old;
             store = room.old;
           };
         })
@@ -89,8 +89,8 @@ pub fn serve_next<S: Alter, P: Callers, C: Clock, N: Witness>(
           told = P.told callers.new;
           stage = record {
             given = C.given clock.new;
-            kept = N.held witness.new;
-            has_failed = N.has_failed witness.new;
+            kept = N.held observer.new;
+            has_failed = N.has_failed observer.new;
             store = room.new;
           };
         })
@@ -104,9 +104,9 @@ pub fn serve_next<S: Alter, P: Callers, C: Clock, N: Witness>(
         &mut reader,
         &mut writer,
         room,
-        zone,
+        setting,
         clock,
-        witness,
+        observer,
         MOST_READS,
     );
     callers.done(reader, writer);

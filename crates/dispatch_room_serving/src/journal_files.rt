@@ -1,52 +1,56 @@
 //! The file of a journal: what a crash cut off is taken away, and records are appended.
 ghost use Rattle.std.specs.Prelude.{◌≡◌, ◌⊎◌, ℕ, List, false, if◌then◌else◌, nat_lt};
 ghost use Rattle.std.specs.Prelude.{Option, Some, None, IfErr, IsTrue, MatchResult};
-ghost use Rattle.dispatch_room_endings.specs.declared.endings.Failure.TheVariants as failure;
-ghost use Rattle.dispatch_room_journal.specs.Ends.{EndsWhole};
+ghost use Rattle.dispatch_room_exit.specs.declared.exit_status.Failure.TheVariants as failure;
+ghost use Rattle.dispatch_room_journal.specs.WholeEntries.{EndsWhole};
 ghost use Rattle.dispatch_room_serving.specs.Journals.{IsUnread};
 
 use crate::journals::Synced;
-use dispatch_room_endings::endings::Failure;
-use dispatch_room_journal::ends::whole_bytes;
-use dispatch_room_journal::inbox::JournalInbox;
+use dispatch_room_exit::exit_status::Failure;
+use dispatch_room_exit::explainer::Explainer;
+use dispatch_room_journal::entry_reader::EntryFault;
+use dispatch_room_journal::journal_inbox::JournalInbox;
+use dispatch_room_journal::whole_entries::whole_bytes;
 use room_http_messages::sinks::{Sink, WriteFailed};
 use room_http_messages::sources::Source;
-use room_http_messages::wires::Wire;
+use room_http_messages::standard_wires::Wire;
 use std::alloc::Global;
 use std::fs;
-use std::fs::{File, OpenOptions};
+use std::fs::{File, OpenOptions, TryLockError};
 use std::io::{Error, ErrorKind, Write};
 use std::os::fd::AsRawFd;
 use std::os::unix::fs::OpenOptionsExt;
 
 /// Opens the file of a journal behind its last whole record, and keeps others from writing it. One
-/// that is not there is made, for its owner alone. What a crash cut off is taken away, and told.
-/// What stands in the file then lasts, and so does its name.
+/// that is not there is made, for its owner only. What a crash cut off is taken away, and reported.
+/// What stands in the file then lasts, and so does its name. Where the file can't be opened, or is no
+/// journal, it is explained why.
 pub fn open_journal<E: Write>(
     rt: &HostRuntime,
+    explainer: Explainer<'_>,
     alloc: Global,
     path: &str,
     err: &mut E,
 ) -> Result<File, Failure>
     ensures { IfErr result (λ fault. (fault ≡ failure.Memory) ⊎ (fault ≡ failure.Journal)) }
 {
-    let file = opened(rt, path)?;
+    let file = opened(rt, explainer, path)?;
     if let Err(error) = settle(rt, path, &file) {
-        return Err(fault_of(&error));
+        return Err(fault_of(explainer, path, &error));
     }
-    let whole = whole_in(alloc, &mut Wire::new(&file))?;
+    let whole = whole_in(alloc, explainer, path, &mut Wire::new(&file))?;
     match cut(&file, whole) {
-        Ok(false) => Ok(file),
+        Ok(false) => {}
         Ok(true) => {
             let _ = writeln!(err, "journal: a record that was cut off is taken away");
-            Ok(file)
         }
-        Err(error) => Err(fault_of(&error)),
+        Err(error) => return Err(fault_of(explainer, path, &error)),
     }
+    Ok(file)
 }
 
 // The file of a journal, which nobody else has open for the same.
-fn opened(rt: &HostRuntime, path: &str) -> Result<File, Failure>
+fn opened(rt: &HostRuntime, explainer: Explainer<'_>, path: &str) -> Result<File, Failure>
     ensures { IfErr result (λ fault. (fault ≡ failure.Memory) ⊎ (fault ≡ failure.Journal)) }
 {
     match OpenOptions::new()
@@ -58,16 +62,20 @@ fn opened(rt: &HostRuntime, path: &str) -> Result<File, Failure>
     {
         Ok(file) => match file.try_lock() {
             Ok(()) => Ok(file),
-            Err(_) => Err(Failure::Journal),
+            Err(TryLockError::WouldBlock) => {
+                explainer.explain(format_args!("{path} is in use by another process"));
+                Err(Failure::Journal)
+            }
+            Err(TryLockError::Error(error)) => Err(fault_of(explainer, path, &error)),
         },
-        Err(error) => Err(fault_of(&error)),
+        Err(error) => Err(fault_of(explainer, path, &error)),
     }
 }
 
 // Makes what stands in a file last, and its name in its folder. An earlier program may have ended
 // at a sync that failed: then the system still shows what it has not written, and says yes to the
 // next sync. So first what can be written is, then the system's copies are dropped, and what is
-// read from here on is what the disk has. Only of that it is told how much is whole, what follows
+// read from here on is what the disk has. Only of that it is reported how much is whole, what follows
 // is cut off, and the cut is made to last.
 fn settle(rt: &HostRuntime, path: &str, file: &File) -> Result<(), Error> {
     file.sync_all()?;
@@ -85,8 +93,13 @@ fn folder_of(rt: &HostRuntime, path: &str) -> Result<File, Error> {
     File::open(rt, folder.as_str())
 }
 
-// How many bytes of what a reader gives are whole records.
-fn whole_in<R: Source>(alloc: Global, reader: &mut R) -> Result<u64, Failure>
+// How many bytes of what a reader gives are whole records, or it is explained why that is unknown.
+fn whole_in<R: Source>(
+    alloc: Global,
+    explainer: Explainer<'_>,
+    path: &str,
+    reader: &mut R,
+) -> Result<u64, Failure>
     requires sound { R.has_failed reader.old ≡ false }
     ensures fault { IfErr result (λ fault. (fault ≡ failure.Memory) ⊎ (fault ≡ failure.Journal)) }
     ensures whole { (text : List ℕ) → R.left reader.old ≡ Some text
@@ -97,7 +110,20 @@ fn whole_in<R: Source>(alloc: Global, reader: &mut R) -> Result<u64, Failure>
     };
     match whole_bytes(&mut inbox, reader) {
         Ok(bytes) => Ok(bytes),
-        Err(_) => Err(Failure::Journal),
+        Err(fault) => {
+            explain_unread(explainer, path, fault, inbox.taken());
+            Err(Failure::Journal)
+        }
+    }
+}
+
+// Explains why a file was not read as a journal behind so many bytes of whole records.
+fn explain_unread(explainer: Explainer<'_>, path: &str, fault: EntryFault, whole: u64) {
+    match fault {
+        EntryFault::Read => explainer.explain(format_args!("{path} can't be read")),
+        EntryFault::Foreign | EntryFault::Cut => explainer.explain(format_args!(
+            "{path} is no journal: no record begins at byte {whole}"
+        )),
     }
 }
 
@@ -121,9 +147,11 @@ fn cut_to(bytes: u64, whole: u64) -> Option<u64>
     if whole < bytes { Some(whole) } else { None }
 }
 
-fn fault_of(error: &Error) -> Failure
+// What an error of the file is to the program, and it is explained.
+fn fault_of(explainer: Explainer<'_>, path: &str, error: &Error) -> Failure
     ensures { (result ≡ failure.Memory) ⊎ (result ≡ failure.Journal) }
 {
+    explainer.explain(format_args!("{path}: {error}"));
     if error.kind() == ErrorKind::OutOfMemory {
         Failure::Memory
     } else {
@@ -142,12 +170,57 @@ pub trait Lasting: Write {
         ensures lasts { IsTrue result → lasting self.new ≡ Self.contents self.new };
 }
 
+/// A file of the system. Where it can't be written, it is explained why.
+#[derive(Drop)]
+pub struct SystemFile<'a> {
+    file: &'a File,
+    explainer: Explainer<'a>,
+    path: &'a str,
+}
+
+impl<'a> SystemFile<'a> {
+    /// A file that was opened at a path.
+    pub fn new(file: &'a File, explainer: Explainer<'a>, path: &'a str) -> SystemFile<'a> {
+        SystemFile {
+            file,
+            explainer,
+            path,
+        }
+    }
+
+    fn explain(&self, error: &Error) {
+        let path = self.path;
+        self.explainer.explain(format_args!("{path}: {error}"));
+    }
+}
+
 // What a file holds no contract can say, nor what of it lasts.
-impl<'a> Lasting for &'a File {
+impl<'a> Write for SystemFile<'a> {
+    fn write(&mut self, buf: &[u8]) -> Result<usize, Error> {
+        let mut file = self.file;
+        let written = file.write(buf);
+        if let Err(error) = &written {
+            self.explain(error);
+        }
+        written
+    }
+
+    fn flush(&mut self) -> Result<(), Error> {
+        Ok(())
+    }
+}
+
+impl<'a> Lasting for SystemFile<'a> {
     ghost lasting = { λ _. None };
 
     fn make_last(&mut self) -> bool {
-        self.sync_data().is_ok()
+        match self.file.sync_data() {
+            Ok(()) => true,
+            Err(error) => {
+                self.explain(&error);
+                false
+            }
+        }
     }
 }
 

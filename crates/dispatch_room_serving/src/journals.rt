@@ -4,15 +4,15 @@ ghost use Rattle.std.specs.Prelude.{◌≡◌, ◌&&◌, ◌||◌, ℕ, List, fa
 ghost use Rattle.room_http.specs.Arrivals.{IsBounded};
 ghost use Rattle.room_http.specs.Kept.{KeepsAll, came_of, told_of};
 ghost use Rattle.dispatch_room_journal.specs.Entries.{IsDigest, IsEntry, message};
-ghost use Rattle.dispatch_room_journal.specs.Records.{answer_text, message_text, room_text};
+ghost use Rattle.dispatch_room_journal.specs.JournalRecords.{answer_text, message_text, room_text};
 ghost use Rattle.dispatch_room_serving.specs.Journals.{FailsForGood, Lasts, is_message};
 
+use dispatch_room_journal::entry_writer::{put_answer, put_message, put_room};
 use dispatch_room_journal::statuses::status_of;
-use dispatch_room_journal::writing::{put_answer, put_message, put_room};
 use room_http::arrivals::Arrived;
-use room_http::witnesses::{Asked, Unkept, Witness};
+use room_http::observers::{Asked, Observer, Unkept};
 use room_http_messages::sinks::Sink;
-use room_service::digests::Head;
+use room_model::digests::Head;
 use room_types::numbers::Moment;
 
 /// Where a journal is written.
@@ -83,7 +83,7 @@ impl<W: Synced> Journal<W> {
     }
 }
 
-impl<W: Synced> Witness for Journal<W> {
+impl<W: Synced> Observer for Journal<W> {
     ghost held = { λ journal. W.held journal.out };
 
     ghost has_failed = { λ journal. journal.has_failed };

@@ -1,13 +1,14 @@
+//! Only the prover needs this to be a crate of its own.
 //! The connections of a room, one after another, over any storage.
 #![tactic(auto)]
 
 pub mod callers;
 pub mod connections;
 pub mod journal_files;
+pub mod journal_observers;
 pub mod journals;
 pub mod laws;
 pub mod log_lines;
+pub mod log_observers;
 pub mod logs;
-pub mod serving;
-pub mod watchers;
-pub mod watches;
+pub mod served_room;

@@ -4,7 +4,7 @@ ghost use Rattle.jiff.specs.Words.{civil_nanos};
 ghost use Rattle.dispatch_room_serving.specs.LogLines.{asker_text, path_of, visible, visible_byte};
 ghost use Rattle.dispatch_room_serving.specs.Logs.{asked_by, request_text, text_of};
 
-use dispatch_room_journal::lines::cut;
+use dispatch_room_journal::entry_lines::cut;
 use jiff::Timestamp;
 use jiff::civil::DateTime;
 use jiff::tz::Offset;
@@ -79,7 +79,7 @@ impl<'a> fmt::Display for Request<'a> {
 
 /// The line of a message.
 #[derive(Clone, Copy)]
-pub struct Line<'a> {
+pub struct LogLine<'a> {
     /// The moment of its answer, as a clock of UTC shows it.
     pub at: DateTime,
     pub asker: Asker,
@@ -89,7 +89,7 @@ pub struct Line<'a> {
     pub millis: u128,
 }
 
-impl<'a> fmt::Display for Line<'a> {
+impl<'a> fmt::Display for LogLine<'a> {
     ghost output = { λ line. Some (text_of line) };
 
     fn fmt<W: fmt::Write>(&self, f: &mut fmt::Formatter<W>) -> fmt::Result {

@@ -1,12 +1,15 @@
 //! A log of what is served: a line for each message.
 ghost use Rattle.std.specs.Prelude.{◌≡◌, [], None, false};
-ghost use Rattle.dispatch_room_serving.specs.Logged.{Logs, PutsAll, PutsLine, request_of};
+ghost use Rattle.dispatch_room_serving.specs.LoggedLines.{Logs, PutsAll, PutsLine, request_of};
 ghost use Rattle.dispatch_room_serving.specs.Logs.{asked_by};
 
-use crate::log_lines::{Asker, Line, Request, Visible, path_of, utc};
+use crate::log_lines::{Asker, LogLine, Request, Visible, path_of, utc};
+use dispatch_room_exit::explainer::Explainer;
 use dispatch_room_journal::statuses::status_in;
 use room_http::arrivals::Arrived;
-use room_http::witnesses::{Asked, Unkept, Witness};
+use room_http::observers::{Asked, Observer, Unkept};
+use room_http_requests::body_faults::fault_of;
+use room_http_requests::routes::Routes;
 use room_types::numbers::Moment;
 use std::alloc::Global;
 use std::io::{ErrorKind, Write};
@@ -17,11 +20,13 @@ const MOST_TRIES: u32 = u32::MAX;
 
 /// A log, with a line for each message that is answered: the moment of its answer, who asked, its
 /// method and path, the status, and the milliseconds from the message whole to the answer written,
-/// as `2026-03-29T08:15:00Z desk 1 GET /queue 200 3 ms`. It never has a token.
+/// as `2026-03-29T08:15:00Z desk 1 GET /queue 200 3 ms`. It never has a token. What is wrong with a
+/// body that is refused is explained after its line.
 #[derive(Drop)]
 pub struct Log<'a, E, T> {
     alloc: Global,
     clock: &'a T,
+    explainer: Explainer<'a>,
     out: &'a mut E,
     goes_on: bool,
     began: Duration,
@@ -29,10 +34,17 @@ pub struct Log<'a, E, T> {
 
 impl<'a, E: Write, T: Clock> Log<'a, E, T> {
     /// A log that is written, or one that is not.
-    pub fn new(alloc: Global, clock: &'a T, out: &'a mut E, is_written: bool) -> Log<'a, E, T> {
+    pub fn new(
+        alloc: Global,
+        clock: &'a T,
+        explainer: Explainer<'a>,
+        out: &'a mut E,
+        is_written: bool,
+    ) -> Log<'a, E, T> {
         Log {
             alloc,
             clock,
+            explainer,
             out,
             goes_on: is_written,
             began: Duration::ZERO,
@@ -49,12 +61,12 @@ impl<'a, E: Write, T: Clock> Log<'a, E, T> {
         self.clock.monotonic().unwrap_or(self.began)
     }
 
-    // Writes a line at once, and tells whether it could.
+    // Writes a line at once, and returns whether it could.
     fn put(&mut self, asked: &Asked<'_>, answer: &[u8]) -> bool
         ensures { PutsLine result (E.contents self.old.out.now) (E.contents self.new.out.now)
             asked.now answer.now }
     {
-        let line = Line {
+        let line = LogLine {
             at: utc(asked.at),
             asker: Asker { who: asked.who },
             request: request_of(asked.arrived),
@@ -70,7 +82,21 @@ impl<'a, E: Write, T: Clock> Log<'a, E, T> {
     }
 }
 
-// Writes all the bytes, and tells whether it could. A write that a signal interrupts is tried
+// Explains what is wrong with a body that was refused for it: no other message is answered with
+// this status.
+fn explain_body(alloc: Global, explainer: Explainer<'_>, asked: &Asked<'_>, answer: &[u8]) {
+    if status_in(answer) == b"400".as_slice()
+        && let Arrived::Message { message, .. } = asked.arrived
+        && let Ok(routes) = Routes::new(alloc)
+        && let Ok(target) = routes.route(true, message.method, message.target)
+        && let Some(fault) = fault_of(alloc, &target, message.body)
+    {
+        let request = request_of(asked.arrived);
+        explainer.explain(format_args!("{request}: {fault}"));
+    }
+}
+
+// Writes all the bytes, and returns whether it could. A write that a signal interrupts is tried
 // again.
 fn put_all<E: Write>(out: &mut E, bytes: &[u8]) -> bool
     ensures { PutsAll result (E.contents out.old) (E.contents out.new) bytes.now }
@@ -107,10 +133,10 @@ fn request_of<'a>(arrived: &Arrived<'a>) -> Request<'a>
     }
 }
 
-impl<'a, E: Write, T: Clock> Witness for Log<'a, E, T> {
+impl<'a, E: Write, T: Clock> Observer for Log<'a, E, T> {
     ghost held = { λ _. None };
 
-    // A log that can't be written is given up, and nobody is told.
+    // A log that can't be written is given up, and that is not reported.
     ghost has_failed = { λ _. false };
 
     ghost came = { λ _ _. [] };
@@ -126,13 +152,14 @@ impl<'a, E: Write, T: Clock> Witness for Log<'a, E, T> {
         Ok(())
     }
 
-    // Beside what each witness ensures: the line is written, unless the log is none or given up.
+    // Beside what each observer ensures: the line is written, unless the log is none or given up.
     fn answered(&mut self, asked: &Asked<'_>, answer: &[u8])
         ensures logged { Logs self.old.goes_on self.new.goes_on (E.contents self.old.out.now)
             (E.contents self.new.out.now) asked.now answer.now }
     {
         if self.goes_on {
             self.goes_on = self.put(asked, answer);
+            explain_body(self.alloc, self.explainer, asked, answer);
         }
     }
 }

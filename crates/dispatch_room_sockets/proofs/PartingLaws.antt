@@ -3,8 +3,8 @@ use Rattle.std.proofs.Common.{◌≡◌, ◌∙◌, ap, arith, append_assoc, len
 use Rattle.std.specs.Io.KnownBytes.{Consumes}
 use Rattle.std.proofs.KnownBytes.{Consumes-trans}
 use Rattle.std.specs.declared.time.Duration.{Duration}
-use Rattle.dispatch_room_sockets.specs.Partings.{Does, IsDrained, IsParted, Step, shut}
-use Rattle.dispatch_room_sockets.specs.Thrown.{ThrowsAway}
+use Rattle.dispatch_room_sockets.specs.LingeringClose.{Does, IsDrained, IsParted, Step, shut}
+use Rattle.dispatch_room_sockets.specs.Discards.{ThrowsAway}
 
 pub Does-more : (a b c : Option (List Step)) (xs ys : List Step) → Does a b xs → Does b c ys
     → Does a c (xs ++ ys)

@@ -1,4 +1,4 @@
 -- what is read from a peer and thrown away
-pub mod Thrown
+pub mod Discards
 -- how a peer is parted from
-pub mod Partings
+pub mod LingeringClose

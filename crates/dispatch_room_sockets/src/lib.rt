@@ -2,11 +2,11 @@
 //! before it, so that no peer holds the room, and an answer that closes a connection arrives.
 #![tactic(auto)]
 
-pub mod calling;
-mod paces;
-pub mod parting;
-pub mod readers;
-pub mod sides;
-mod tries;
-pub mod waits;
-pub mod writers;
+pub mod client;
+pub mod connection_halves;
+pub mod lingering_close;
+mod read_deadlines;
+mod retries;
+pub mod socket_readers;
+pub mod socket_writers;
+pub mod timeouts;

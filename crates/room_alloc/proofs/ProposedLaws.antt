@@ -1,4 +1,4 @@
--- What is proposed, in a room of the division's rows alone.
+-- What is proposed, in a room with only the division's rows.
 use Rattle.std.proofs.Common.{Bool, List, Ok, Some, ap, false, refl, sym, true, ℕ, ◌∙◌, ◌≡◌}
 use Rattle.std.specs.Prelude.{not}
 use Rattle.room_place.specs.declared.plans.Area.{Area}
@@ -14,9 +14,9 @@ use Rattle.room_model.specs.Decisions.{Verdict, answer_of, refuse_if, show, wher
 use Rattle.room_model.specs.Proposals.{all_proposed, candidates, propose, proposed}
 use Rattle.room_model.specs.Queries.{holders, incident_of, point_of, served}
 use Rattle.room_model.specs.Room.{IsInOrder, Room}
-use Rattle.room_model.specs.Slices.{room_of}
+use Rattle.room_model.specs.RoomSlices.{room_of}
 use Rattle.room_alloc.specs.Candidates.{unplanned}
-use Rattle.room_alloc.specs.Proposed.{AreForIncident}
+use Rattle.room_alloc.specs.ProposalAnswers.{AreForIncident}
 
 -- no proposal looks at the plan
 any_plan : (d : ℕ) (i : Incident) (at : ℕ) (plan : List Area) (s : DivisionRows)

@@ -9,7 +9,7 @@ use Rattle.room_model.specs.Decisions.{show}
 use Rattle.room_model.specs.Loans.{show_loans, show_offers}
 use Rattle.room_model.specs.Points.{point_line, show_points}
 use Rattle.room_model.specs.Queries.{assignment_of, holders}
-use Rattle.room_model.specs.Slices.{room_of}
+use Rattle.room_model.specs.RoomSlices.{room_of}
 use Rattle.room_model.specs.Vehicles.{show_vehicles, vehicle_line}
 use Rattle.room_alloc.specs.Candidates.{unplanned}
 

@@ -1,6 +1,6 @@
-pub mod Standby
+pub mod Cover
 pub mod Candidates
-pub mod Proposed
+pub mod ProposalAnswers
 pub mod Nearness
 pub mod NearnessOrder
 pub mod Rings

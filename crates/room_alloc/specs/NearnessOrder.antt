@@ -1,4 +1,4 @@
--- The order by nearness is total, and tells all apart.
+-- The order by nearness is total, and distinguishes all.
 use Rattle.std.proofs.Common.{ap, ℕ}
 use Rattle.std.proofs.lemmas.Cmp.{nat_cmp_total, on_total, then_total}
 use Rattle.std.proofs.lemmas.Map.Lookups.{CmpEqualImpliesEq, exact_pairs, exact_unsigned}

@@ -3,7 +3,7 @@ ghost use Rattle.std.specs.Prelude.{◌≡◌, filter, IfOk, IfErr};
 ghost use Rattle.room_types.specs.declared.refusals.Refusal.TheVariants.{Memory};
 ghost use Rattle.room_alloc.specs.Candidates.{AreShort, has_point, is_candidate, is_point_short, unplanned};
 
-use crate::standby::{holders, is_eligible};
+use crate::cover::{holders, is_eligible};
 use room_place::plans::DivisionNumber;
 use room_types::codes::Kind;
 use room_types::numbers::Moment;
@@ -20,7 +20,7 @@ pub(crate) fn short_points(alloc: Global, slice: &Slice, at: Moment) -> Result<R
         AreShort slice.now.division at (unplanned slice.now.rows) short) }
     ensures memory { IfErr result (λ e. e ≡ Memory) }
 {
-    // It also tells that the points are in order.
+    // It also says that the points are in order.
     let _in_order = slice.rows.points.as_slice();
     points_in_want(alloc, slice, at)
 }

@@ -5,9 +5,9 @@ ghost use Rattle.room_types.specs.declared.refusals.Refusal.TheVariants.{NoSuchO
 ghost use Rattle.room_model.specs.Decisions.{Decides};
 ghost use Rattle.room_model.specs.Loans.{accept, decline, give_back, lend, recall, withdraw};
 ghost use Rattle.room_model.specs.Queries.{offered_to};
-ghost use Rattle.room_model.specs.Slices.{room_of};
+ghost use Rattle.room_model.specs.RoomSlices.{room_of};
 
-use crate::held::{find, find_lent, held};
+use crate::held_vehicles::{find, find_lent, held};
 use room_place::plans::{DivisionNumber, Plan};
 use room_types::callsign::Callsign;
 use room_types::changes::Change;

@@ -2,14 +2,14 @@
 #![tactic(auto)]
 
 pub(crate) mod candidates;
-pub mod duty;
-pub mod held;
+pub mod cover;
+pub mod desk_views;
+pub mod held_shifts;
+pub mod held_vehicles;
 pub mod lending;
 pub(crate) mod near_rows;
 pub(crate) mod nearness;
 pub mod orders;
 pub mod posts;
 pub mod proposals;
-pub(crate) mod rings;
-pub mod standby;
-pub mod views;
+pub(crate) mod ring_search;

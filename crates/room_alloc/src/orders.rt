@@ -9,12 +9,12 @@ ghost use Rattle.room_types.specs.declared.refusals.Refusal.TheVariants.{Memory}
 ghost use Rattle.room_model.specs.Decisions.{Decides};
 ghost use Rattle.room_model.specs.Moments.{number_limit};
 ghost use Rattle.room_model.specs.Queries.{open_turn, served};
-ghost use Rattle.room_model.specs.Slices.{room_of};
+ghost use Rattle.room_model.specs.RoomSlices.{room_of};
 ghost use Rattle.room_model.specs.Vehicles.{assignment_row, mobilise, stand_down, turn_row, turn_stood_down};
 
-use crate::held::held;
-use room_incident::active::active;
-use room_incident::served::lack;
+use crate::held_vehicles::held;
+use room_incident::active_incidents::active;
+use room_incident::served_needs::lack;
 use room_types::answers::Answer;
 use room_types::callsign::Callsign;
 use room_types::changes::Change;
@@ -184,7 +184,7 @@ fn open_turn<'a>(slice: &'a Slice, callsign: &Callsign, vehicle: &Vehicle) -> Op
         → option_copied result ≡ open_turn slice.now.division callsign.now
         (room_of plan slice.now.rows) }
 {
-    // It also tells that the turns are in order, so that the first open one is this one.
+    // It also says that the turns are in order, so that the first open one is this one.
     let _in_order = slice.rows.turns.as_slice();
     slice.rows.open_turn(vehicle)
 }

@@ -3,10 +3,10 @@ ghost use Rattle.std.specs.Prelude.{List};
 ghost use Rattle.room_place.specs.declared.plans.Area.{Area};
 ghost use Rattle.room_model.specs.Decisions.{Decides};
 ghost use Rattle.room_model.specs.Points.{set_point};
-ghost use Rattle.room_model.specs.Slices.{room_of};
+ghost use Rattle.room_model.specs.RoomSlices.{room_of};
 ghost use Rattle.room_model.specs.Vehicles.{standby};
 
-use crate::held::held;
+use crate::held_vehicles::held;
 use room_place::places::Place;
 use room_types::callsign::Callsign;
 use room_types::changes::Change;

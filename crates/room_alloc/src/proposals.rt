@@ -9,16 +9,16 @@ ghost use Rattle.room_model.specs.Incidents.{lacking};
 ghost use Rattle.room_model.specs.Proposals.{all_proposed, is_before, propose, proposed};
 ghost use Rattle.room_model.specs.Queries.{incident_of};
 ghost use Rattle.room_model.specs.Room.{IsInOrder};
-ghost use Rattle.room_model.specs.Slices.{room_of};
+ghost use Rattle.room_model.specs.RoomSlices.{room_of};
 ghost use Rattle.room_alloc.specs.Candidates.{AreShort, unplanned};
-ghost use Rattle.room_alloc.specs.Proposed.{AreForIncident};
+ghost use Rattle.room_alloc.specs.ProposalAnswers.{AreForIncident};
 ghost use Rattle.room_alloc.specs.Rings.{AreApart, AreOfKind, ArePlaced, proposal_at};
 
 use crate::candidates::short_points;
 use crate::nearness::Candidate;
-use crate::rings::{candidates_round, nearest};
-use room_incident::active::active;
-use room_incident::served::lack;
+use crate::ring_search::{candidates_round, nearest};
+use room_incident::active_incidents::active;
+use room_incident::served_needs::lack;
 use room_types::answers::{Answer, Listed, Proposal};
 use room_types::codes::Kind;
 use room_types::decisions::Decision;
@@ -47,7 +47,7 @@ pub fn propose(
         → incident_of slice.now.division number (room_of plan slice.now.rows) ≡ Some i
         → AreForIncident slice.now.division i at (room_of plan slice.now.rows) x.answer) }
 {
-    in_order(&slice.rows);
+    lemma_in_order(&slice.rows);
     let incident = active(slice, number)?;
     let proposals = of_all_kinds(alloc, slice, incident, at)?;
     Ok(Decision::show(alloc, Answer::Proposals(proposals)))
@@ -106,7 +106,7 @@ fn by_rings(
         few ≡ proposed slice.now.division incident.now at (unplanned slice.now.rows) kind) }
     ensures memory { IfErr result (λ e. e ≡ Memory) }
 {
-    in_order(&slice.rows);
+    lemma_in_order(&slice.rows);
     let all = candidates_round(alloc, slice, incident, short, kind, at)?;
     let few = first_of_both(alloc, all.as_slice(), incident, kind, count as usize)?;
     Ok(few)
@@ -134,8 +134,8 @@ fn first_of_both(
     Ok(few)
 }
 
-// A slice's rows are in order, which each list tells of itself.
-fn in_order(rows: &DivisionRows)
+// A slice's rows are in order, which each list's type says.
+fn lemma_in_order(rows: &DivisionRows)
     ensures { (plan : List Area) → IsInOrder (room_of plan rows.now) }
 {
     let _divisions = rows.divisions.as_slice();

@@ -17,7 +17,7 @@ use Rattle.room_model.specs.Room.{Room}
 use Rattle.room_model.specs.Shares.{own}
 use Rattle.room_model.specs.WellFormed.{IsWellFormed}
 use Rattle.room_model.specs.Working.{working}
-use Rattle.room_core.specs.Deciding.{AreRead}
+use Rattle.room_core.specs.DecisionRows.{AreRead}
 
 module _ (d p : ℕ) (f : CallForm) (at : ℕ) (r : Room) (formed : IsWellFormed r)
     (none : kept_call p f.serial r ≡ None) (placed : division_of r.plan f.place ≡ Some d) where

@@ -2,6 +2,6 @@
 //! changes of rows and an answer, or to a refusal.
 #![tactic(auto)]
 
-pub mod calls;
-pub mod crews;
-pub mod desks;
+pub mod call_decisions;
+pub mod crew_decisions;
+pub mod desk_decisions;

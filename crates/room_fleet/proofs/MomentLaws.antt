@@ -6,7 +6,7 @@ use Rattle.room_types.specs.declared.codes.Button.TheVariants.{Home, Hospital, L
 use Rattle.room_types.specs.declared.tables.Turn.{Turn}
 use Rattle.room_model.specs.Moments.{first_of}
 use Rattle.room_model.specs.Reports.{turn_after}
-use Rattle.room_fleet.specs.Reported.{KeepsMoments, Stays, TurnKeepsMoments}
+use Rattle.room_fleet.specs.ReportedRows.{KeepsMoments, Stays, TurnKeepsMoments}
 
 stays : (m : Option ℕ) → Stays m m
 stays None = tt

@@ -27,9 +27,9 @@ use Rattle.room_model.specs.Decisions.{Verdict, tell}
 use Rattle.room_model.specs.Queries.{borrowed, held, kept_report, open_turn, vehicle_at}
 use Rattle.room_model.specs.Reports.{back_changes, drop_changes, ends_turn, is_due, is_home, outcome_of, report_acts, report_held, report_in, report_kept, report_made, report_somewhere, take_report, turn_after, turn_changes}
 use Rattle.room_model.specs.Room.{Room}
-use Rattle.room_model.specs.Slices.{AreCrewRows}
+use Rattle.room_model.specs.RoomSlices.{AreCrewRows}
 use Rattle.room_model.specs.WellFormed.{IsWellFormed, LoanAgrees, OpenAgrees, TurnAgrees}
-use Rattle.room_fleet.specs.Reported.{AreHolders, acted, goes_back, reported, reported_as}
+use Rattle.room_fleet.specs.ReportedRows.{AreHolders, acted, goes_back, reported, reported_as}
 use Rattle.room_fleet.specs.declared.reports.Reported.{Reported as Rows}
 
 -- ---- the changes are those of the rows that differ

@@ -44,7 +44,7 @@ pub fn press(status: Status, button: Button, acknowledged: bool) -> Outcome
     }
 }
 
-/// Whether a report of this outcome does what its button says, and is not kept alone.
+/// Whether a report of this outcome does what its button says, and is not only kept.
 pub fn acts(outcome: Outcome) -> bool
     ensures { result ≡ acts outcome }
 {

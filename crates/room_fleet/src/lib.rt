@@ -2,5 +2,5 @@
 #![tactic(auto)]
 
 pub mod buttons;
-pub mod duty;
 pub mod reports;
+pub mod shifts;

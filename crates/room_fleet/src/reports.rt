@@ -12,9 +12,9 @@ ghost use Rattle.room_model.specs.Moments.{first_of};
 ghost use Rattle.room_model.specs.Queries.{kept_report};
 ghost use Rattle.room_model.specs.Reports.{back_changes, drop_changes, ends_turn, is_due, outcome_of, report_held, report_in, report_row, take_report, turn_after, with_report};
 ghost use Rattle.room_model.specs.Room.{Room};
-ghost use Rattle.room_model.specs.Slices.{AreCrewRows};
+ghost use Rattle.room_model.specs.RoomSlices.{AreCrewRows};
 ghost use Rattle.room_model.specs.WellFormed.{IsWellFormed};
-ghost use Rattle.room_fleet.specs.Reported.{AreHolders, IsKeptAlone, TurnKeepsMoments, acted, kept_alone, reported};
+ghost use Rattle.room_fleet.specs.ReportedRows.{AreHolders, IsKeptAlone, TurnKeepsMoments, acted, kept_alone, reported};
 
 use crate::buttons::{acts, ends_turn, is_home, names_order, press as outcome_at, status_after};
 use room_types::answers::{Answer, Listed};
@@ -139,7 +139,7 @@ pub struct Reported {
 ///
 /// A number below the greatest is late. Else a button from Mobile to Return of another order than
 /// the last is stale. Else the outcome is the button's at the vehicle's status. A report that is
-/// late, stale or wrong is kept alone. Any other sets the place, the status and the turn's moment.
+/// late, stale or wrong is only kept. Any other sets the place, the status and the turn's moment.
 /// Return and Home end the turn, and Home gives a vehicle back to its lender where its loan is
 /// recalled or over.
 #[tactic(auto, using(crate::proofs::MomentLaws::turn_keeps, crate::proofs::MomentLaws::same_turn_keeps))]

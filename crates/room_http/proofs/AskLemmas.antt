@@ -15,16 +15,16 @@ use Rattle.room_http_time.specs.Dates.{Date}
 use Rattle.room_http_requests.specs.Targets.{routed}
 use Rattle.room_http_requests.specs.declared.targets.Target.{Target}
 use Rattle.room_http_requests.specs.declared.targets.Target.TheVariants as target
-use Rattle.room_http_requests.specs.Asking.{request_by}
-use Rattle.room_http_requests.specs.Bodies.{posted}
-use Rattle.room_http_requests.specs.Fields.{fields_of}
+use Rattle.room_http_requests.specs.RequestAsks.{request_by}
+use Rattle.room_http_requests.specs.Bodies.{ask_with_body}
+use Rattle.room_http_requests.specs.BodyFields.{fields_of}
 use Rattle.room_http_requests.specs.Roles.{is_known, is_of, role_of}
-use Rattle.room_http_requests.specs.declared.asking.Request.{Request}
-use Rattle.room_http_requests.specs.declared.asking.Request.TheVariants as request
+use Rattle.room_http_requests.specs.declared.request_asks.Request.{Request}
+use Rattle.room_http_requests.specs.declared.request_asks.Request.TheVariants as request
 use Rattle.room_http_requests.specs.declared.roles.Role.TheVariants as role
 use Rattle.room_http_requests.proofs.RoleLaws.{asked_is, addressed}
-use Rattle.room_http_time.specs.declared.zones.Zone.{Zone}
-use Rattle.room_http.specs.Events.{AsksAs, AsksAt, AsksBy, AsksFor, IsAskFor, named}
+use Rattle.room_http.specs.declared.settings.Setting.{Setting}
+use Rattle.room_http.specs.MessageEvents.{AsksAs, AsksAt, AsksBy, AsksFor, IsAskFor, named}
 
 -- what is posted is no day
 no_times : (posts : Option Ask) (day : Date)
@@ -36,35 +36,39 @@ no_times (Some a) day is = cc
 times_are_desks : (t : Target) (body : List ℕ) (day : Date)
     → request_by t body ≡ Some (request.Times day) → role_of t ≡ role.Desk
 unfolding request_by
-times_are_desks target.Call body day is = absurd (no_times (option_and_then (posted target.Call) (fields_of body)) day is)
+times_are_desks target.Call body day is = absurd (no_times (option_and_then (ask_with_body target.Call) (fields_of body)) day is)
 times_are_desks target.Order body day is = absurd (cc)
-times_are_desks target.Report body day is = absurd (no_times (option_and_then (posted target.Report) (fields_of body)) day is)
+times_are_desks target.Last body day is = absurd (cc)
+times_are_desks target.Report body day is = absurd (no_times (option_and_then (ask_with_body target.Report) (fields_of body)) day is)
 times_are_desks t body day is = refl
 
-pub request_addressed : (zone : Zone) (t : Target) (body : List ℕ) (given : Request) (asks : Ask)
+pub request_addressed : (setting : Setting) (t : Target) (body : List ℕ) (given : Request) (asks : Ask)
     (who : Who) (room : Room) → request_by t body ≡ Some given
-    → IsAskFor zone given asks → is_of (role_of t) who ≡ true → is_known who room ≡ true
+    → IsAskFor setting given asks → is_of (role_of t) who ≡ true → is_known who room ≡ true
     → is_for who asks room ≡ true
-request_addressed zone t body (request.Ask a) asks who room wants is may known =
+request_addressed setting t body (request.Ask a) asks who room wants is may known =
     ap (λ (x : Ask). is_for who x room) is ∙ addressed (role_of t) a who room (asked_is t body a wants).0 may ∙ known
-request_addressed zone t body (request.Times day) asks who room wants is may known =
+request_addressed setting t body (request.Times day) asks who room wants is may known =
     ap (λ (x : Ask). is_for who x room) is.2
     ∙ addressed role.Desk (ask.Times is.0.0 is.0.1) who room refl (rw (times_are_desks t body day wants) at may) ∙ known
 
 -- what a message asks for, found step by step
-pub asks_for : (zone : Zone) (terminals : List Terminal) (m : WholeMessage) (at : ℕ)
+pub asks_for : (setting : Setting) (terminals : List Terminal) (m : WholeMessage) (at : ℕ)
     (method bytes body : List ℕ) (field : Option (List ℕ))
     (t : Target) (who : Who) (given : Request) (asks : Ask)
     → method ≡ m.head.method → bytes ≡ m.head.target → body ≡ m.body → field ≡ terminal_of m.head
-    → routed method bytes ≡ Ok t → named terminals field ≡ Some who → is_of (role_of t) who ≡ true
-    → request_by t body ≡ Some given → IsAskFor zone given asks
-    → AsksFor zone terminals m at (Ok (record { who = who; ask = asks; at = at }))
-asks_for zone terminals m at method bytes body field t who given asks method_is target_is body_is field_is routed_is named_is may wants is =
+    → routed setting.history method bytes ≡ Ok t → named terminals field ≡ Some who
+    → is_of (role_of t) who ≡ true
+    → request_by t body ≡ Some given → IsAskFor setting given asks
+    → AsksFor setting terminals m at (Ok (record { who = who; ask = asks; at = at }))
+asks_for setting terminals m at method bytes body field t who given asks method_is target_is body_is field_is routed_is named_is may wants is =
     let found : Result Event Refusal = Ok (record { who = who; ask = asks; at = at }) in
-    let path : routed m.head.method m.head.target ≡ Ok t = ap (λ x. routed x m.head.target) (sym method_is) ∙ ap (λ x. routed method x) (sym target_is) ∙ routed_is in
+    let path : routed setting.history m.head.method m.head.target ≡ Ok t =
+    ap (λ x. routed setting.history x m.head.target) (sym method_is)
+    ∙ ap (λ x. routed setting.history method x) (sym target_is) ∙ routed_is in
     let shows : named terminals (terminal_of m.head) ≡ Some who = ap (named terminals) (sym field_is) ∙ named_is in
     let wanting : request_by t m.body ≡ Some given = ap (request_by t) (sym body_is) ∙ wants in
-    let by_body : AsksBy zone at who (request_by t m.body) found = subst (λ (g : Option Request). AsksBy zone at who g found) (sym wanting) (asks, is, refl) in
-    let by_role : AsksAs zone t m.body at (Some who) found = subst (λ (b : Bool). MatchBool b (AsksBy zone at who (request_by t m.body) found) (found ≡ Err WrongRole)) (sym may) by_body in
-    let by_terminal : AsksAt zone terminals m at (Ok t) found = subst (λ (w : Option Who). AsksAs zone t m.body at w found) (sym shows) by_role in
-    subst (λ (r : Result Target Refusal). AsksAt zone terminals m at r found) (sym path) by_terminal
+    let by_body : AsksBy setting at who (request_by t m.body) found = subst (λ (g : Option Request). AsksBy setting at who g found) (sym wanting) (asks, is, refl) in
+    let by_role : AsksAs setting t m.body at (Some who) found = subst (λ (b : Bool). MatchBool b (AsksBy setting at who (request_by t m.body) found) (found ≡ Err WrongRole)) (sym may) by_body in
+    let by_terminal : AsksAt setting terminals m at (Ok t) found = subst (λ (w : Option Who). AsksAs setting t m.body at w found) (sym shows) by_role in
+    subst (λ (r : Result Target Refusal). AsksAt setting terminals m at r found) (sym path) by_terminal

@@ -1,5 +1,5 @@
--- An exchange in another zone that the same text tells, and one for an event at any moment.
-use Rattle.std.proofs.Common.{◌≡◌, ◌≤◌, arith, refl, ℕ, List, [], ◌∷◌, Bool, true, false, Option, Some, None, Result, Ok, Err}
+-- An exchange in another setting of the same zone's text and history, and one for an event at any moment.
+use Rattle.std.proofs.Common.{◌≡◌, ◌≤◌, arith, refl, subst, ℕ, List, [], ◌∷◌, Bool, true, false, Option, Some, None, Result, Ok, Err}
 use Rattle.std.specs.Prelude.{MatchBool, pos}
 use Rattle.jiff.specs.Placed.{IsPosixZone}
 use Rattle.jiff_core.specs.Calendar.{days_from_civil}
@@ -11,29 +11,30 @@ use Rattle.room_types.specs.declared.refusals.Refusal.{Refusal}
 use Rattle.room_types.specs.declared.refusals.Refusal.TheVariants.{WrongRole}
 use Rattle.room_model.specs.Room.{Room}
 use Rattle.room_model.specs.Step.{answer_to}
-use Rattle.room_service.specs.Rooms.{machine}
+use Rattle.room_model.specs.Rooms.{machine}
 use Rattle.room_http_messages.specs.Messages.{terminal_of}
-use Rattle.room_http_requests.specs.Asking.{request_by}
+use Rattle.room_http_requests.specs.RequestAsks.{request_by}
 use Rattle.room_http_requests.specs.Roles.{is_of, role_of}
 use Rattle.room_http_requests.specs.Targets.{routed}
-use Rattle.room_http_requests.specs.declared.asking.Request.{Request}
-use Rattle.room_http_requests.specs.declared.asking.Request.TheVariants as request
+use Rattle.room_http_requests.specs.declared.request_asks.Request.{Request}
+use Rattle.room_http_requests.specs.declared.request_asks.Request.TheVariants as request
 use Rattle.room_http_requests.specs.declared.targets.Target.{Target}
 use Rattle.room_http_answers.proofs.Moments.{always_there_law}
 use Rattle.room_http_time.specs.Days.{zone_of}
 use Rattle.room_http_time.specs.declared.moments.TheConstants.{LAST_MOMENT}
-use Rattle.room_http_time.specs.declared.zones.Zone.{Zone}
+use Rattle.room_http.specs.declared.settings.Setting.{Setting}
 use Rattle.room_http_time.proofs.ZoneLaws.{one_zone_law}
 use Rattle.room_http.specs.Arrivals.{is_closing, is_head_only, message, refused}
-use Rattle.room_http.specs.Events.{AsksAs, AsksAt, AsksBy, IsAskFor, named}
+use Rattle.room_http.specs.MessageEvents.{AsksAs, AsksAt, AsksBy, IsAskFor, named}
 use Rattle.room_http.specs.Runs.{AreAnswered, Exchange}
+use Rattle.room_http.specs.Settings.{IsSetting}
 use Rattle.room_http.specs.Talk.{Finds, Timed, replied}
 
-module _ (text : List ℕ) (a b : Zone) (in_a : IsPosixZone text (zone_of a))
-    (in_b : IsPosixZone text (zone_of b)) where
+module _ (text : List ℕ) (a b : Setting) (in_a : IsSetting text b.history a)
+    (in_b : IsPosixZone text (zone_of b.zone)) where
   ask_in : (given : Request) (asks : Ask) → IsAskFor a given asks → IsAskFor b given asks
   ask_in (request.Ask q) asks is = is
-  ask_in (request.Times day) asks is = (is.0, one_zone_law text a b in_a in_b (days_from_civil (pos day.year) day.month day.day) is.0 is.1, is.2)
+  ask_in (request.Times day) asks is = (is.0, one_zone_law text a.zone b.zone in_a.zone in_b (days_from_civil (pos day.year) day.month day.day) is.0 is.1, is.2)
 
   by_in : (at : ℕ) (who : Who) (given : Option Request) (found : Result Event Refusal)
       → AsksBy a at who given found → AsksBy b at who given found
@@ -53,7 +54,9 @@ module _ (text : List ℕ) (a b : Zone) (in_a : IsPosixZone text (zone_of a))
 
   pub found_in : (terminals : List Terminal) (x : Timed) (found : Result Event Refusal)
       → Finds a terminals x found → Finds b terminals x found
-  found_in terminals (message m, at) found asks = at_in (routed m.head.method m.head.target) asks
+  found_in terminals (message m, at) found asks =
+      at_in (routed b.history m.head.method m.head.target)
+      (subst (λ history. AsksAt a terminals m at (routed history m.head.method m.head.target) found) in_a.history asks)
     where
       at_in : (target : Result Target Refusal) → AsksAt a terminals m at target found → AsksAt b terminals m at target found
       at_in (Ok target) asks = as_in target m.body at (named terminals (terminal_of m.head)) found asks
@@ -70,10 +73,10 @@ module _ (text : List ℕ) (a b : Zone) (in_a : IsPosixZone text (zone_of a))
   )
 
 -- an event that was found, with the bytes that the room answers it with
-pub exchange_of : (zone : Zone) (terminals : List Terminal) (x : Timed) (event : Event) (room : Room)
-    → x.1 ≤ LAST_MOMENT → Finds zone terminals x (Ok event)
+pub exchange_of : (setting : Setting) (terminals : List Terminal) (x : Timed) (event : Event) (room : Room)
+    → x.1 ≤ LAST_MOMENT → Finds setting terminals x (Ok event)
     → (done : Exchange) × (done.arrival ≡ x) × (done.found ≡ Ok event)
-    × AreAnswered zone terminals (done ∷ []) room
-exchange_of zone terminals x event room within finds =
+    × AreAnswered setting terminals (done ∷ []) room
+exchange_of setting terminals x event room within finds =
     let reply = always_there_law (answer_to event room) x.1 (is_head_only x.0) (is_closing x.0) (omega (arith, within)) in
     (record { arrival = x; found = Ok event; bytes = reply.0 }, refl, refl, (finds, reply.1, tt))

@@ -1,4 +1,4 @@
--- Lemmas on what a witness keeps.
+-- Lemmas on what a observer keeps.
 use Rattle.std.proofs.Common.{◌≡◌, ◌∙◌, ◌≤◌, ap, sym, refl, inl, inr, ℕ, List, [], ◌∷◌, ◌++◌, map, append-nil, append_assoc, Bool, false, Option, Some, None, Result, Ok, Err, All}
 use Rattle.std.proofs.lemmas.List.{map-append}
 use Rattle.std.proofs.lemmas.List.Elements.{All-nil, All-push}
@@ -8,16 +8,16 @@ use Rattle.std.specs.Io.KnownBytes.{Appends, Keeps}
 use Rattle.room_types.specs.declared.fleet.Terminal.{Terminal}
 use Rattle.room_types.specs.declared.refusals.Refusal.{Refusal}
 use Rattle.room_model.specs.Room.{Room}
-use Rattle.room_http_answers.specs.Replies.{fixed_bytes}
+use Rattle.room_http_answers.specs.ReplyMessages.{fixed_bytes}
 use Rattle.room_http_messages.proofs.StreamLemmas.{Appends-more, Appends-none}
 use Rattle.room_http_time.specs.declared.moments.TheConstants.{LAST_MOMENT}
-use Rattle.room_http_time.specs.declared.zones.Zone.{Zone}
-use Rattle.room_http_time.specs.Moments.{HasNoMoment}
-use Rattle.room_service.specs.Rooms.{IsWant, Step}
+use Rattle.room_http.specs.declared.settings.Setting.{Setting}
+use Rattle.room_http_time.specs.ClockMoments.{HasNoMoment}
+use Rattle.room_model.specs.Rooms.{IsWant, Step}
 use Rattle.room_http.specs.declared.arrivals.Arrived.{Arrived}
 use Rattle.room_http.specs.declared.arrivals.Arrived.TheVariants.{Message, Refused}
-use Rattle.room_http.specs.declared.serving.ServeEnd.{ServeEnd}
-use Rattle.room_http.specs.declared.serving.ServeEnd.TheVariants.{Closed, Cut, ReadFault, WriteFault, ClockFault, Unkept, ReadsSpent, Memory}
+use Rattle.room_http.specs.declared.session.ServeEnd.{ServeEnd}
+use Rattle.room_http.specs.declared.session.ServeEnd.TheVariants.{Closed, Cut, ReadFault, WriteFault, ClockFault, Unkept, ReadsSpent, Memory}
 use Rattle.room_http.specs.Arrivals.{Arrival, message, refused, is_closing, is_head_only, Begins, HasNext, IsShown}
 use Rattle.room_http.specs.Kept.{Acts, ActsOnEach, AreKept, AreReplies, DoesNothing, Grow, IsBegun, IsCome, IsRecord, KeepsEach, KeepsOne, Tapes, Unmoved, answer_kept, came_of, told_of}
 use Rattle.room_http.specs.Talk.{Timed, IsFront, IsReplyTo}
@@ -35,16 +35,16 @@ nothing_done given gives kept held was_none (inl none) = ([], inl refl, record {
 nothing_done given gives kept held was_none (inr late) = (late.0 ∷ [], inr (late.0, late.1, refl), record { given = late.2; kept = Appends-none kept; held = Appends-none held })
 
 -- one arrival more
-AreReplies-push : (step : Step) (zone : Zone) (terminals : List Terminal) (room mid after : Room)
+AreReplies-push : (step : Step) (setting : Setting) (terminals : List Terminal) (room mid after : Room)
     (outs : List Timed) (answers : List (List ℕ)) (x : Timed) (answer : List ℕ)
-    → AreReplies step zone terminals room outs answers mid
-    → IsReplyTo step zone terminals mid x after answer
-    → AreReplies step zone terminals room (outs ++ x ∷ []) (answers ++ answer ∷ []) after
-AreReplies-push step zone terminals room mid after [] [] x answer are is = (after, rw are at is, refl)
-AreReplies-push step zone terminals room mid after [] (y ∷ answers) x answer are is = absurd are
-AreReplies-push step zone terminals room mid after (y ∷ outs) [] x answer are is = absurd are
-AreReplies-push step zone terminals room mid after (y ∷ outs) (z ∷ answers) x answer are is =
-    (are.0, are.1, AreReplies-push step zone terminals are.0 mid after outs answers x answer are.2 is)
+    → AreReplies step setting terminals room outs answers mid
+    → IsReplyTo step setting terminals mid x after answer
+    → AreReplies step setting terminals room (outs ++ x ∷ []) (answers ++ answer ∷ []) after
+AreReplies-push step setting terminals room mid after [] [] x answer are is = (after, rw are at is, refl)
+AreReplies-push step setting terminals room mid after [] (y ∷ answers) x answer are is = absurd are
+AreReplies-push step setting terminals room mid after (y ∷ outs) [] x answer are is = absurd are
+AreReplies-push step setting terminals room mid after (y ∷ outs) (z ∷ answers) x answer are is =
+    (are.0, are.1, AreReplies-push step setting terminals are.0 mid after outs answers x answer are.2 is)
 
 module _ (came : ℕ → List ℕ → List ℕ) (told : List ℕ → List ℕ) where
   come : (arrived : Arrived) (o : Arrival) (at : ℕ) → at ≤ LAST_MOMENT → IsShown arrived o
@@ -178,7 +178,7 @@ module _ (came : ℕ → List ℕ → List ℕ) (told : List ℕ → List ℕ) w
 
   -- the arrivals were answered, all of them stay open, and these bytes are left; and the record of
   -- each was kept
-  pub record Noted (step : Step) (zone : Zone) (left : Option (List ℕ)) (old : Tapes)
+  pub record Noted (step : Step) (setting : Setting) (left : Option (List ℕ)) (old : Tapes)
       (remains : Option (List ℕ)) (new : Tapes) (trusted : Type 0)
       (stood stands : List Terminal → Room → Type 0) (outs : List Timed)
       (answers : List (List ℕ)) : Type 0 where
@@ -188,11 +188,11 @@ module _ (came : ℕ → List ℕ → List ℕ) (told : List ℕ → List ℕ) w
     pub stay : All (λ x. is_closing x.0 ≡ false) outs
     pub kept : AreKept came told outs answers text
     pub grew : Grow old new (map (λ x. x.1) outs) text (concat answers)
-    pub moved : ActsOnEach step zone trusted stood stands outs answers
+    pub moved : ActsOnEach step setting trusted stood stands outs answers
 
-  module _ (step : Step) (zone : Zone) (left : Option (List ℕ)) (old : Tapes) where
+  module _ (step : Step) (setting : Setting) (left : Option (List ℕ)) (old : Tapes) where
     pub Noted-none : (trusted : Type 0) (stood : List Terminal → Room → Type 0)
-        → Noted step zone left old left old trusted stood stood [] []
+        → Noted step setting left old left old trusted stood stood [] []
     Noted-none trusted stood = record {
       text = [];
       begins = λ stream known. (stream, known, refl);
@@ -206,8 +206,8 @@ module _ (came : ℕ → List ℕ → List ℕ) (told : List ℕ → List ℕ) w
     pub Noted-kept : (remains after : Option (List ℕ)) (new : Tapes) (trusted : Type 0)
         (stood stands : List Terminal → Room → Type 0) (outs : List Timed)
         (answers : List (List ℕ))
-        → Noted step zone left old remains new trusted stood stands outs answers → Keeps remains after
-        → Noted step zone left old after new trusted stood stands outs answers
+        → Noted step setting left old remains new trusted stood stands outs answers → Keeps remains after
+        → Noted step setting left old after new trusted stood stands outs answers
     Noted-kept remains after new trusted stood stands outs answers before same = record {
       text = before.text;
       begins = λ stream known. still_begins stream outs remains after (before.begins stream known) same;
@@ -221,9 +221,9 @@ module _ (came : ℕ → List ℕ → List ℕ) (told : List ℕ → List ℕ) w
     pub Noted-ends : (remains : Option (List ℕ)) (new : Tapes) (trusted : Type 0)
         (stood stands : List Terminal → Room → Type 0) (outs : List Timed)
         (answers : List (List ℕ))
-        → Noted step zone left old remains new trusted stood stands outs answers
+        → Noted step setting left old remains new trusted stood stands outs answers
         → (end : ServeEnd) (lasts : Type 0) → lasts
-        → KeepsEach came told lasts (ActsOnEach step zone trusted stood stands) left old new end
+        → KeepsEach came told lasts (ActsOnEach step setting trusted stood stands) left old new end
         (record { outs = outs; answers = answers; last = None })
     Noted-ends remains new trusted stood stands outs answers before end lasts same = record {
       text = before.text;
@@ -235,31 +235,31 @@ module _ (came : ℕ → List ℕ → List ℕ) (told : List ℕ → List ℕ) w
     module _ (early_left remains : Option (List ℕ)) (mid : Tapes) (early late : Type 0)
         (stood stays stands : List Terminal → Room → Type 0) (earlier : late → early)
         (outs : List Timed) (answers : List (List ℕ))
-        (noted : Noted step zone left old early_left mid early stood stays outs answers) (same : Keeps early_left remains) (new : Tapes) (after : Option (List ℕ)) (o : Arrival) (pass : Passes remains after o) (at : ℕ)
+        (noted : Noted step setting left old early_left mid early stood stays outs answers) (same : Keeps early_left remains) (new : Tapes) (after : Option (List ℕ)) (o : Arrival) (pass : Passes remains after o) (at : ℕ)
         (lasts later : Type 0) (both : later → lasts) where
-      before : Noted step zone left old remains mid early stood stays outs answers
+      before : Noted step setting left old remains mid early stood stays outs answers
       before = Noted-kept early_left remains mid early stood stays outs answers noted same
 
       abbrev Course-to : ServeEnd → Course
       Course-to e = record { outs = outs; answers = answers; last = last_of e (o, at) }
 
       abbrev Now : List Timed → List (List ℕ) → Type 0
-      Now = ActsOnEach step zone late stood stands
+      Now = ActsOnEach step setting late stood stands
 
       abbrev One : Result (Unit {0}) ServeEnd → Type 0
-      One = KeepsOne came told later (Unmoved late stays stands) (Acts step zone late stays stands) mid new at o
+      One = KeepsOne came told later (Unmoved late stays stands) (Acts step setting late stays stands) mid new at o
 
       same_moves : Unmoved late stays stands → Now outs answers
       same_moves still trust terminals room standing =
           let first = before.moved (earlier trust) terminals room standing in
           (first.0, first.1, still trust terminals first.0 first.2)
 
-      one_moves : (answer : List ℕ) → Acts step zone late stays stands (o, at) answer
+      one_moves : (answer : List ℕ) → Acts step setting late stays stands (o, at) answer
           → Now (outs ++ (o, at) ∷ []) (answers ++ answer ∷ [])
       one_moves answer acts trust terminals room standing =
           let first = before.moved (earlier trust) terminals room standing in
           let second = acts trust terminals first.0 first.2 in
-          (second.0, AreReplies-push step zone terminals room first.0 second.0 outs answers (o, at) answer first.1 second.1, second.2)
+          (second.0, AreReplies-push step setting terminals room first.0 second.0 outs answers (o, at) answer first.1 second.1, second.2)
 
       begins_more : (stream : List ℕ) → left ≡ Some stream
           → (next : List ℕ) × (after ≡ Some next)
@@ -299,7 +299,7 @@ module _ (came : ℕ → List ℕ → List ℕ) (told : List ℕ → List ℕ) w
 
       -- it was answered, and stays open
       pub Noted-more : (one : One (Ok tt)) → is_closing o ≡ false
-          → Noted step zone left old after new late stood stands (outs ++ (o, at) ∷ [])
+          → Noted step setting left old after new late stood stands (outs ++ (o, at) ∷ [])
           (answers ++ one.0 ∷ [])
       Noted-more one open_ = record {
         text = before.text ++ one.1;
@@ -341,7 +341,7 @@ module _ (came : ℕ → List ℕ → List ℕ) (told : List ℕ → List ℕ) w
 
       begun_after : (end : ServeEnd) (tail wrote : List ℕ)
           → IsBegun came told end later (Unmoved late stays stands)
-          (Acts step zone late stays stands (o, at)) (o, at) tail wrote
+          (Acts step setting late stays stands (o, at)) (o, at) tail wrote
           → IsBegun came told end lasts (Now outs answers)
           (λ answer. Now (outs ++ (o, at) ∷ []) (answers ++ answer ∷ []))
           (o, at) tail wrote
@@ -351,7 +351,7 @@ module _ (came : ℕ → List ℕ → List ℕ) (told : List ℕ → List ℕ) w
 
       begun : (end : ServeEnd) (tail wrote : List ℕ)
           → IsBegun came told end later (Unmoved late stays stands)
-          (Acts step zone late stays stands (o, at)) (o, at) tail wrote
+          (Acts step setting late stays stands (o, at)) (o, at) tail wrote
           → Grow mid new (at ∷ []) tail wrote
           → KeepsEach came told lasts Now left old new end
           (record { outs = outs; answers = answers; last = Some (o, at) })

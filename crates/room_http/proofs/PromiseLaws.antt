@@ -29,9 +29,9 @@ use Rattle.room_model.specs.Shares.{mine, own}
 use Rattle.room_model.specs.Step.{IsAddressed, answer_to, room_after}
 use Rattle.room_model.specs.WellFormed.{IsWellFormed}
 use Rattle.room_http_answers.proofs.Dates.{one_reply_law}
-use Rattle.room_http_answers.specs.Replies.{IsReply}
-use Rattle.room_http_time.specs.declared.zones.Zone.{Zone}
-use Rattle.room_service.specs.Rooms.{machine}
+use Rattle.room_http_answers.specs.ReplyMessages.{IsReply}
+use Rattle.room_http.specs.declared.settings.Setting.{Setting}
+use Rattle.room_model.specs.Rooms.{machine}
 use Rattle.room_http.specs.Arrivals.{is_closing, is_head_only}
 use Rattle.room_http.specs.Promises.{ActsOnce, IsDeskAlike, AreSentOnce, Promises, StaysOutside}
 use Rattle.room_http.specs.Runs.{AreAnswered, AreTold, Exchange, IsRun, IsTold, answers_of, arrivals_of, asker, event_then, events_of, is_by_desk, room_by, with_desk}
@@ -68,23 +68,23 @@ module _ (known : Room) where
       go (Err r) early all = early all
 
 -- what an arrival is answered, after those before it
-told_at : (zone : Zone) (terminals : List Terminal) (before rest : List Exchange) (x : Exchange)
-    (room : Room) → AreAnswered zone terminals (before ++ x ∷ rest) room
+told_at : (setting : Setting) (terminals : List Terminal) (before rest : List Exchange) (x : Exchange)
+    (room : Room) → AreAnswered setting terminals (before ++ x ∷ rest) room
     → IsTold x (replied machine x.found (room_by before room)).1
-told_at zone terminals [] rest x room are = are.1
-told_at zone terminals (y ∷ before) rest x room are =
+told_at setting terminals [] rest x room are = are.1
+told_at setting terminals (y ∷ before) rest x room are =
     subst (λ r. IsTold x (replied machine x.found r).1) (sym (run_first y.found (events_of before) room))
-    (told_at zone terminals before rest x (replied machine y.found room).0 are.2)
+    (told_at setting terminals before rest x (replied machine y.found room).0 are.2)
 
 -- who asks of one of them
-asked_in : (zone : Zone) (terminals : List Terminal) (xs : List Exchange) (room : Room)
-    → AreAnswered zone terminals xs room
+asked_in : (setting : Setting) (terminals : List Terminal) (xs : List Exchange) (room : Room)
+    → AreAnswered setting terminals xs room
     → (x : Exchange) (event : Event) → Among x xs → x.found ≡ Ok event
     → (asker terminals x.arrival.0 ≡ Some event.who) × (event.at ≡ x.arrival.1)
-asked_in zone terminals [] room are x event there is = absurd there
-asked_in zone terminals (y ∷ xs) room are x event (inl same) is =
-    found_asked_by zone terminals x.arrival (Ok event) (rw is at (subst (λ (z : Exchange). Finds zone terminals z.arrival z.found) (sym same) are.0))
-asked_in zone terminals (y ∷ xs) room are x event (inr there) is = asked_in zone terminals xs (replied machine y.found room).0 are.2 x event there is
+asked_in setting terminals [] room are x event there is = absurd there
+asked_in setting terminals (y ∷ xs) room are x event (inl same) is =
+    found_asked_by setting terminals x.arrival (Ok event) (rw is at (subst (λ (z : Exchange). Finds setting terminals z.arrival z.found) (sym same) are.0))
+asked_in setting terminals (y ∷ xs) room are x event (inr there) is = asked_in setting terminals xs (replied machine y.found room).0 are.2 x event there is
 
 -- ---- what a desk is answered
 told_apart : (d : ℕ) (b : Bool) (x : Exchange) (xs : List Exchange)
@@ -94,11 +94,11 @@ told_apart : (d : ℕ) (b : Bool) (x : Exchange) (xs : List Exchange)
 told_apart d true x xs answer answers first rest = (first, rest)
 told_apart d false x xs answer answers first rest = rest
 
-desk_answered : (zone : Zone) (terminals : List Terminal) (d : ℕ) (xs : List Exchange)
-    (room : Room) → AreAnswered zone terminals xs room
+desk_answered : (setting : Setting) (terminals : List Terminal) (d : ℕ) (xs : List Exchange)
+    (room : Room) → AreAnswered setting terminals xs room
     → AreTold (with_desk d xs) (told d (events_of xs) room)
-desk_answered zone terminals d [] room are = tt
-desk_answered zone terminals d (x ∷ xs) room are = go x.found are.1 (desk_answered zone terminals d xs (replied machine x.found room).0 are.2)
+desk_answered setting terminals d [] room are = tt
+desk_answered setting terminals d (x ∷ xs) room are = go x.found are.1 (desk_answered setting terminals d xs (replied machine x.found room).0 are.2)
   where
     go : (found : Result Event Refusal) → IsTold x (replied machine found room).1
         → AreTold (with_desk d xs) (told d (events_of xs) (replied machine found room).0)
@@ -129,8 +129,8 @@ sent_once_in room formed = record {
   together = λ a t here there unended same. let is = of_one_order room formed a t here there unended same in (is.0, is.1);
 }
 
-module _ (zone : Zone) (terminals : List Terminal) (xs : List Exchange) (room : Room)
-    (formed : IsWellFormed room) (run : IsRun zone terminals xs room) where
+module _ (setting : Setting) (terminals : List Terminal) (xs : List Exchange) (room : Room)
+    (formed : IsWellFormed room) (run : IsRun setting terminals xs room) where
   -- every room on the way is well-formed
   formed_at : (before rest : List Exchange) → xs ≡ before ++ rest
       → IsWellFormed (room_by before room)
@@ -141,7 +141,7 @@ module _ (zone : Zone) (terminals : List Terminal) (xs : List Exchange) (room : 
       → IsTold x (replied machine found (room_by before room)).1
   told_in before rest x found split is =
       subst (λ (found : Result Event Refusal). IsTold x (replied machine found (room_by before room)).1) is
-      (told_at zone terminals before rest x room (subst (λ l. AreAnswered zone terminals l room) split run.answered))
+      (told_at setting terminals before rest x room (subst (λ l. AreAnswered setting terminals l room) split run.answered))
 
   room_on : (before : List Exchange) (x : Exchange) (found : Result Event Refusal)
       → x.found ≡ found → room_by (before ++ x ∷ []) room
@@ -165,7 +165,7 @@ module _ (zone : Zone) (terminals : List Terminal) (xs : List Exchange) (room : 
       room_split before (first ∷ between) room ∙ run_first first.found (events_of between) (room_by before room)
       ∙ ap (λ (found : Result Event Refusal). room_run (events_of between) (replied machine found (room_by before room)).0) is
 
-  alike : (d : ℕ) (zone_there : Zone) (terminals_there : List Terminal) (ys : List Exchange)
+  alike : (d : ℕ) (zone_there : Setting) (terminals_there : List Terminal) (ys : List Exchange)
       (other : Room) → IsWellFormed other → IsRun zone_there terminals_there ys other
       → own d room ≡ own d other → received (crossings d (events_of xs) room)
       ≡ received (crossings d (events_of ys) other) → IsDeskAlike d xs ys room other
@@ -173,7 +173,7 @@ module _ (zone : Zone) (terminals : List Terminal) (xs : List Exchange) (room : 
       let meets = meet_well_formed (events_of xs) room formed run.addressed in
       let meet = meet_well_formed (events_of ys) other good runs.addressed in
       let answers = equal_answers d (events_of xs) (events_of ys) room other meets meet same handed in
-      let here = desk_answered zone terminals d xs room run.answered in
+      let here = desk_answered setting terminals d xs room run.answered in
       let there = desk_answered zone_there terminals_there d ys other runs.answered in
       record {
         told = told_alike (with_desk d xs) (with_desk d ys) (told d (events_of ys) other) (subst (AreTold (with_desk d xs)) answers here) there;
@@ -243,10 +243,10 @@ module _ (zone : Zone) (terminals : List Terminal) (xs : List Exchange) (room : 
   promises_kept =
       let meets = meet_well_formed (events_of xs) room formed run.addressed in
       record {
-        asked_by = asked_in zone terminals xs room run.answered;
+        asked_by = asked_in setting terminals xs room run.answered;
         share = λ d. run_share d (events_of xs) room meets;
-        desk_told = λ d. desk_answered zone terminals d xs room run.answered;
-        desk_apart = λ d. subst (AreTold (with_desk d xs)) (run_told d (events_of xs) room meets) (desk_answered zone terminals d xs room run.answered);
+        desk_told = λ d. desk_answered setting terminals d xs room run.answered;
+        desk_apart = λ d. subst (AreTold (with_desk d xs)) (run_told d (events_of xs) room meets) (desk_answered setting terminals d xs room run.answered);
         desk_alike = alike;
         desk_by_itself = λ d unlent nobody. run_everyday d (events_of xs) room (unlent_run (events_of xs) room formed run.addressed unlent nobody).0;
         crew_alike = crew;

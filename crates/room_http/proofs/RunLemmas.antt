@@ -14,90 +14,90 @@ use Rattle.room_model.specs.Room.{Room}
 use Rattle.room_model.specs.Run.{room_run}
 use Rattle.room_model.specs.Step.{IsAddressed}
 use Rattle.room_http_messages.specs.Messages.{WholeMessage, terminal_of}
-use Rattle.room_http_requests.specs.Asking.{request_by}
+use Rattle.room_http_requests.specs.RequestAsks.{request_by}
 use Rattle.room_http_requests.specs.Roles.{is_known, is_of, role_of}
 use Rattle.room_http_requests.specs.Targets.{routed}
-use Rattle.room_http_requests.specs.declared.asking.Request.{Request}
-use Rattle.room_http_requests.specs.declared.asking.Request.TheVariants as request
+use Rattle.room_http_requests.specs.declared.request_asks.Request.{Request}
+use Rattle.room_http_requests.specs.declared.request_asks.Request.TheVariants as request
 use Rattle.room_http_requests.specs.declared.targets.Target.{Target}
 use Rattle.room_http_requests.proofs.RoleLaws.{asked_is}
-use Rattle.room_http_time.specs.declared.zones.Zone.{Zone}
-use Rattle.room_service.specs.Rooms.{machine, who_at}
+use Rattle.room_http.specs.declared.settings.Setting.{Setting}
+use Rattle.room_model.specs.Rooms.{machine, who_at}
 use Rattle.room_http.specs.Arrivals.{message, refused}
-use Rattle.room_http.specs.Events.{AsksAs, AsksAt, AsksBy, AsksFor, IsAskFor, named, token_of}
+use Rattle.room_http.specs.MessageEvents.{AsksAs, AsksAt, AsksBy, AsksFor, IsAskFor, named, token_of}
 use Rattle.room_http.specs.Runs.{AreAnswered, Exchange, IsRun, IsRunOf, arrivals_of, asker, bytes_of, event_then, events_of, room_by}
 use Rattle.room_http.specs.Talk.{Finds, IsTalk, Timed, replied}
 use Rattle.room_http.proofs.AskLemmas.{request_addressed}
 use Rattle.room_http.proofs.TerminalLemmas.{found_known}
 
 -- ---- what a message asks for: what holds of refusals, and of events that are found step by step
-module _ (zone : Zone) (terminals : List Terminal) (m : WholeMessage) (at : ℕ)
+module _ (setting : Setting) (terminals : List Terminal) (m : WholeMessage) (at : ℕ)
     (Holds : Result Event Refusal → Type 0) (refusals : (r : Refusal) → Holds (Err r))
     (events : (t : Target) (who : Who) (given : Request) (asks : Ask) → named terminals (terminal_of m.head) ≡ Some who → is_of (role_of t) who ≡ true
-    → request_by t m.body ≡ Some given → IsAskFor zone given asks
+    → request_by t m.body ≡ Some given → IsAskFor setting given asks
     → Holds (Ok (record { who = who; ask = asks; at = at }))) where
   by_body : (t : Target) (who : Who) (given : Option Request) (found : Result Event Refusal)
       → named terminals (terminal_of m.head) ≡ Some who → is_of (role_of t) who ≡ true
-      → request_by t m.body ≡ given → AsksBy zone at who given found → Holds found
+      → request_by t m.body ≡ given → AsksBy setting at who given found → Holds found
   by_body t who None found shows may wants asks = rw asks (refusals BadBody)
   by_body t who (Some given) found shows may wants asks = rw asks.2 (events t who given asks.0 shows may wants asks.1)
 
   by_role : (may : Bool) (t : Target) (who : Who) (found : Result Event Refusal)
       → named terminals (terminal_of m.head) ≡ Some who → is_of (role_of t) who ≡ may
-      → MatchBool may (AsksBy zone at who (request_by t m.body) found) (found ≡ Err WrongRole)
+      → MatchBool may (AsksBy setting at who (request_by t m.body) found) (found ≡ Err WrongRole)
       → Holds found
   by_role true t who found shows may asks = by_body t who (request_by t m.body) found shows may refl asks
   by_role false t who found shows may asks = rw asks (refusals WrongRole)
 
   by_terminal : (t : Target) (who : Option Who) (found : Result Event Refusal)
-      → named terminals (terminal_of m.head) ≡ who → AsksAs zone t m.body at who found → Holds found
+      → named terminals (terminal_of m.head) ≡ who → AsksAs setting t m.body at who found → Holds found
   by_terminal t None found shows asks = rw asks (refusals NoTerminal)
   by_terminal t (Some who) found shows asks = by_role (is_of (role_of t) who) t who found shows refl asks
 
   by_target : (target : Result Target Refusal) (found : Result Event Refusal)
-      → AsksAt zone terminals m at target found → Holds found
+      → AsksAt setting terminals m at target found → Holds found
   by_target (Ok t) found asks = by_terminal t (named terminals (terminal_of m.head)) found refl asks
   by_target (Err r) found asks = rw asks (refusals r)
 
-  by_steps : (found : Result Event Refusal) → AsksFor zone terminals m at found → Holds found
-  by_steps found asks = by_target (routed m.head.method m.head.target) found asks
+  by_steps : (found : Result Event Refusal) → AsksFor setting terminals m at found → Holds found
+  by_steps found asks = by_target (routed setting.history m.head.method m.head.target) found asks
 
 -- ---- who asks
 abbrev IsAskedBy : List Terminal → Timed → Result Event Refusal → Type 0
 IsAskedBy terminals o (Ok event) = (asker terminals o.0 ≡ Some event.who) × (event.at ≡ o.1)
 IsAskedBy terminals o (Err r) = Unit {0}
 
-pub found_asked_by : (zone : Zone) (terminals : List Terminal) (o : Timed)
-    (found : Result Event Refusal) → Finds zone terminals o found → IsAskedBy terminals o found
-found_asked_by zone terminals (message m, at) found finds =
-    by_steps zone terminals m at (IsAskedBy terminals (message m, at)) (λ r. tt) (λ t who given asks shows may wants is. (shows, refl)) found finds
-found_asked_by zone terminals (refused r head_only, at) found finds = rw finds tt
+pub found_asked_by : (setting : Setting) (terminals : List Terminal) (o : Timed)
+    (found : Result Event Refusal) → Finds setting terminals o found → IsAskedBy terminals o found
+found_asked_by setting terminals (message m, at) found finds =
+    by_steps setting terminals m at (IsAskedBy terminals (message m, at)) (λ r. tt) (λ t who given asks shows may wants is. (shows, refl)) found finds
+found_asked_by setting terminals (refused r head_only, at) found finds = rw finds tt
 
 -- ---- what is asked is addressed
 -- what is asked has a number from 1
-request_numbered : (zone : Zone) (t : Target) (body : List ℕ) (given : Request) (asks : Ask)
-    → request_by t body ≡ Some given → IsAskFor zone given asks → IsNumbered asks
-request_numbered zone t body (request.Ask a) asks wants is = rw is (asked_is t body a wants).1
-request_numbered zone t body (request.Times day) asks wants is = rw is.2 tt
+request_numbered : (setting : Setting) (t : Target) (body : List ℕ) (given : Request) (asks : Ask)
+    → request_by t body ≡ Some given → IsAskFor setting given asks → IsNumbered asks
+request_numbered setting t body (request.Ask a) asks wants is = rw is (asked_is t body a wants).1
+request_numbered setting t body (request.Times day) asks wants is = rw is.2 tt
 
 -- an event, if one was found, is of those that the room knows
 abbrev IsKnownEvent : Room → Result Event Refusal → Type 0
 IsKnownEvent room (Ok event) = IsAddressed event room × IsNumbered event.ask
 IsKnownEvent room (Err r) = Unit {0}
 
-module _ (zone : Zone) (terminals : List Terminal) (room : Room)
+module _ (setting : Setting) (terminals : List Terminal) (room : Room)
     (fit : AreTerminals room terminals) where
   named_known : (token : Option Token) (who : Who)
       → option_and_then (who_at terminals) token ≡ Some who → is_known who room ≡ true
   named_known None who is = cc
   named_known (Some token) who is = found_known room terminals token who fit (sym is)
 
-  found_event : (o : Timed) (found : Result Event Refusal) → Finds zone terminals o found
+  found_event : (o : Timed) (found : Result Event Refusal) → Finds setting terminals o found
       → IsKnownEvent room found
   found_event (message m, at) found finds =
-      by_steps zone terminals m at (IsKnownEvent room) (λ r. tt) (λ t who given asks shows may wants is. (
-        request_addressed zone t m.body given asks who room wants is may (named_known (token_of (terminal_of m.head)) who shows),
-        request_numbered zone t m.body given asks wants is,
+      by_steps setting terminals m at (IsKnownEvent room) (λ r. tt) (λ t who given asks shows may wants is. (
+        request_addressed setting t m.body given asks who room wants is may (named_known (token_of (terminal_of m.head)) who shows),
+        request_numbered setting t m.body given asks wants is,
       )) found finds
   found_event (refused r head_only, at) found finds = rw finds tt
 
@@ -107,7 +107,7 @@ module _ (zone : Zone) (terminals : List Terminal) (room : Room)
   known_first (Err r) events first rest = rest
 
   -- what arrivals ask for is addressed
-  all_addressed : (xs : List Exchange) (now : Room) → AreAnswered zone terminals xs now
+  all_addressed : (xs : List Exchange) (now : Room) → AreAnswered setting terminals xs now
       → AreAddressed (events_of xs) room
   all_addressed [] now are = tt
   all_addressed (x ∷ xs) now are =
@@ -132,44 +132,44 @@ pub room_push : (before : List Exchange) (x : Exchange) (room : Room)
     → room_by (before ++ x ∷ []) room ≡ (replied machine x.found (room_by before room)).0
 room_push before x room = room_split before (x ∷ []) room ∙ run_first x.found [] (room_by before room)
 
-module _ (zone : Zone) (terminals : List Terminal) where
+module _ (setting : Setting) (terminals : List Terminal) where
   pub answered_join : (before rest : List Exchange) (room : Room)
-      → AreAnswered zone terminals before room
-      → AreAnswered zone terminals rest (room_by before room)
-      → AreAnswered zone terminals (before ++ rest) room
+      → AreAnswered setting terminals before room
+      → AreAnswered setting terminals rest (room_by before room)
+      → AreAnswered setting terminals (before ++ rest) room
   answered_join [] rest room first second = second
   answered_join (x ∷ before) rest room first second = (
     first.0,
     first.1,
-    answered_join before rest (replied machine x.found room).0 first.2 (subst (AreAnswered zone terminals rest) (run_first x.found (events_of before) room) second),
+    answered_join before rest (replied machine x.found room).0 first.2 (subst (AreAnswered setting terminals rest) (run_first x.found (events_of before) room) second),
   )
 
   pub run_of : (room : Room) (xs : List Exchange) → AreTerminals room terminals
-      → AreAnswered zone terminals xs room → IsRun zone terminals xs room
-  run_of room xs fit answered = record { addressed = all_addressed zone terminals room fit xs room answered; answered = answered }
+      → AreAnswered setting terminals xs room → IsRun setting terminals xs room
+  run_of room xs fit answered = record { addressed = all_addressed setting terminals room fit xs room answered; answered = answered }
 
   pub run_join : (room : Room) (xs ys : List Exchange) → AreTerminals room terminals
-      → IsRun zone terminals xs room → IsRun zone terminals ys (room_by xs room)
-      → IsRun zone terminals (xs ++ ys) room
+      → IsRun setting terminals xs room → IsRun setting terminals ys (room_by xs room)
+      → IsRun setting terminals (xs ++ ys) room
   run_join room xs ys fit first second = run_of room (xs ++ ys) fit (answered_join xs ys room first.answered second.answered)
 
 -- ---- a talk
-module _ (zone : Zone) (terminals : List Terminal) where
+module _ (setting : Setting) (terminals : List Terminal) where
   -- the exchanges of a talk
   record Exchanged (outs : List Timed) (after : Room) (bytes : List ℕ) (xs : List Exchange)
       (room : Room) : Type 0 where
-    answered : AreAnswered zone terminals xs room
+    answered : AreAnswered setting terminals xs room
     arrivals : arrivals_of xs ≡ outs
     leads : room_by xs room ≡ after
     told : bytes_of xs ≡ bytes
 
   exchanged : (room : Room) (outs : List Timed) (after : Room) (bytes : List ℕ)
-      → IsTalk machine zone terminals room outs after bytes
+      → IsTalk machine setting terminals room outs after bytes
       → (xs : List Exchange) × Exchanged outs after bytes xs room
   exchanged room [] after bytes talk = ([], record { answered = tt; arrivals = refl; leads = sym talk.0; told = sym talk.1 })
   exchanged room (o ∷ more) after bytes (next, first, others, joins, (found, finds, is, replies), talk) =
       let x : Exchange = record { arrival = o; found = found; bytes = first } in
-      let rest = exchanged (replied machine found room).0 more after others (subst (λ r. IsTalk machine zone terminals r more after others) is talk) in (
+      let rest = exchanged (replied machine found room).0 more after others (subst (λ r. IsTalk machine setting terminals r more after others) is talk) in (
         x ∷ rest.0,
         record {
           answered = (finds, replies, rest.1.answered);
@@ -180,13 +180,13 @@ module _ (zone : Zone) (terminals : List Terminal) where
       )
 
   pub talk_run : (room : Room) (outs : List Timed) (after : Room) (bytes : List ℕ)
-      → AreTerminals room terminals → IsTalk machine zone terminals room outs after bytes
-      → (xs : List Exchange) × IsRunOf zone terminals outs after bytes xs room
+      → AreTerminals room terminals → IsTalk machine setting terminals room outs after bytes
+      → (xs : List Exchange) × IsRunOf setting terminals outs after bytes xs room
   talk_run room outs after bytes fit talk =
       let of = exchanged room outs after bytes talk in (
         of.0,
         record {
-          run = run_of zone terminals room of.0 fit of.1.answered;
+          run = run_of setting terminals room of.0 fit of.1.answered;
           arrivals = of.1.arrivals;
           leads = of.1.leads;
           told = of.1.told;

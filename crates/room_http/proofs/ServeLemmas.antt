@@ -8,30 +8,30 @@ use Rattle.room_types.specs.declared.fleet.Terminal.{Terminal}
 use Rattle.room_types.specs.declared.refusals.Refusal.{Refusal}
 use Rattle.room_model.specs.Room.{Room}
 use Rattle.room_http_messages.specs.declared.messages.Layout.{Layout}
-use Rattle.room_http_messages.specs.declared.unread.Unread.{Unread}
-use Rattle.room_http_messages.specs.declared.unread.Unread.TheVariants.{End, Cut as UnreadCut, ReadFault as Fault, ReadsSpent as Spent, Refused}
+use Rattle.room_http_messages.specs.declared.read_faults.Unread.{Unread}
+use Rattle.room_http_messages.specs.declared.read_faults.Unread.TheVariants.{End, Cut as UnreadCut, ReadFault as Fault, ReadsSpent as Spent, Refused}
 use Rattle.room_http_messages.specs.Messages.{IsCut, IsPart}
 use Rattle.room_http_messages.specs.Readings.{SaysOf}
 use Rattle.room_http_messages.specs.Streams.{CountsBy}
 use Rattle.room_http_messages.proofs.StreamLemmas.{Appends-more, Appends-none}
 use Rattle.room_http_time.specs.declared.moments.TheConstants.{LAST_MOMENT}
-use Rattle.room_http.specs.declared.serving.ServeEnd.{ServeEnd}
-use Rattle.room_http.specs.declared.serving.ServeEnd.TheVariants.{Closed, Cut, ReadFault, WriteFault, ClockFault, Unkept, ReadsSpent, Memory}
-use Rattle.room_http_answers.specs.Replies.{fixed_bytes}
-use Rattle.room_http.specs.Answering.{Answers, EndsAnswering}
-use Rattle.room_http_time.specs.Moments.{HasNoMoment}
+use Rattle.room_http.specs.declared.session.ServeEnd.{ServeEnd}
+use Rattle.room_http.specs.declared.session.ServeEnd.TheVariants.{Closed, Cut, ReadFault, WriteFault, ClockFault, Unkept, ReadsSpent, Memory}
+use Rattle.room_http_answers.specs.ReplyMessages.{fixed_bytes}
+use Rattle.room_http.specs.ArrivalAnswers.{Answers, EndsAnswering}
+use Rattle.room_http_time.specs.ClockMoments.{HasNoMoment}
 use Rattle.room_http.specs.Arrivals.{Arrival, is_closing, is_head_only, Begins, HasNext}
-use Rattle.room_http_time.specs.declared.zones.Zone.{Zone}
-use Rattle.room_service.specs.Rooms.{Step}
+use Rattle.room_http.specs.declared.settings.Setting.{Setting}
+use Rattle.room_model.specs.Rooms.{Step}
 use Rattle.room_http.specs.Course.{Course}
-use Rattle.room_http.specs.Reads.{EndsAs}
-use Rattle.room_http.specs.Serving.{Sides, Finish, Answered, Unserved, Unwritten, Broken, LeavesPart, MissesNone, ServeIs}
+use Rattle.room_http.specs.ConnectionReads.{EndsAs}
+use Rattle.room_http.specs.Session.{Sides, Finish, Answered, Unserved, Unwritten, Broken, LeavesPart, MissesNone, ServeIs}
 use Rattle.room_http.specs.Talk.{Timed, IsCaused, IsFront, BreaksOff, Stays, Talks, Wants}
 use Rattle.room_http.proofs.StreamLemmas.{Passes, Begins-push, nothing_left}
 use Rattle.room_http.proofs.TalkLemmas.{Talks-append, Talks-as, Talks-none}
 
 -- the arrivals were answered, all of them stay open, and these bytes are left
-pub record Going (step : Step) (zone : Zone) (old : Sides) (left held given : Option (List ℕ))
+pub record Going (step : Step) (setting : Setting) (old : Sides) (left held given : Option (List ℕ))
     (trusted : Type 0) (stood stands : List Terminal → Room → Type 0)
     (outs : List Timed) : Type 0 where
   pub begins : (stream : List ℕ) → old.left ≡ Some stream
@@ -39,7 +39,7 @@ pub record Going (step : Step) (zone : Zone) (old : Sides) (left held given : Op
   pub stay : All (λ x. is_closing x.0 ≡ false) outs
   pub timed : All (λ x. x.1 ≤ LAST_MOMENT) outs
   pub moments : Appends old.given given (map (λ x. x.1) outs)
-  pub talk : Talks step zone trusted stood old.held held outs
+  pub talk : Talks step setting trusted stood old.held held outs
       (λ terminals after tail. stands terminals after × (tail ≡ []))
 
 -- the arrival with which serving ended, if it had a moment
@@ -82,24 +82,24 @@ ends_missing_none left remains given gives Memory ends = tt
 ends_missing_none left remains given gives ReadFault ends = absurd ends
 ends_missing_none left remains given gives ReadsSpent ends = absurd ends
 
-module _ (step : Step) (zone : Zone) (old : Sides) where
+module _ (step : Step) (setting : Setting) (old : Sides) where
   pub Going-none : (trusted : Type 0) (stood stands : List Terminal → Room → Type 0)
       → ((terminals : List Terminal) (room : Room) → stood terminals room → stands terminals room)
-      → Going step zone old old.left old.held old.given trusted stood stands []
+      → Going step setting old old.left old.held old.given trusted stood stands []
   Going-none trusted stood stands is = record {
     begins = λ stream known. (stream, known, refl);
     stay = All-nil (λ (x : Timed). is_closing x.0 ≡ false);
     timed = All-nil (λ (x : Timed). x.1 ≤ LAST_MOMENT);
     moments = Appends-none old.given;
-    talk = Talks-none step zone trusted stood stands old.held is;
+    talk = Talks-none step setting trusted stood stands old.held is;
   }
 
   module _ (early : Type 0) (stood stays : List Terminal → Room → Type 0)
       (left held given : Option (List ℕ)) (outs : List Timed) where
     -- the bytes that are left come from the reader to the inbox
     pub Going-kept : (after : Option (List ℕ))
-        → Going step zone old left held given early stood stays outs → Keeps left after
-        → Going step zone old after held given early stood stays outs
+        → Going step setting old left held given early stood stays outs → Keeps left after
+        → Going step setting old after held given early stood stays outs
     Going-kept after before same = record {
       begins = λ stream known. still_begins stream outs left after (before.begins stream known) same;
       stay = before.stay;
@@ -110,10 +110,10 @@ module _ (step : Step) (zone : Zone) (old : Sides) where
 
     -- serving ended between arrivals
     pub Going-ends : (reads : Option ℕ)
-        (read_failed read_ended write_failed was_none witness_failed : Bool)
-        (follows : List ℕ → Type 0) → Going step zone old left held given early stood stays outs
+        (read_failed read_ended write_failed was_none observer_failed : Bool)
+        (follows : List ℕ → Type 0) → Going step setting old left held given early stood stays outs
         → ((rest : List ℕ) → left ≡ Some rest → follows rest)
-        → Answered step zone old (record {
+        → Answered step setting old (record {
           reads = reads;
           held = held;
           given = given;
@@ -123,9 +123,9 @@ module _ (step : Step) (zone : Zone) (old : Sides) where
           write_failed = write_failed;
           was_none =
               was_none;
-          witness_failed = witness_failed;
+          observer_failed = observer_failed;
         }) early stood stays outs follows
-    Going-ends reads read_failed read_ended write_failed was_none witness_failed follows before then = record {
+    Going-ends reads read_failed read_ended write_failed was_none observer_failed follows before then = record {
       begins = λ stream known. let begins = before.begins stream known in (begins.0, begins.2, then begins.0 begins.1);
       timed = (before.timed, before.moments);
       talk = before.talk;
@@ -134,7 +134,7 @@ module _ (step : Step) (zone : Zone) (old : Sides) where
     -- of what was read, all is answered but what is in the inbox
     pub leaves_part : (kept : List ℕ) (remains : Option (List ℕ))
         → left ≡ prepend_known kept remains
-        → Going step zone old left held given early stood stays outs
+        → Going step setting old left held given early stood stays outs
         → IsPart kept → LeavesPart old.left remains old.given given
     leaves_part kept None is before part = λ stream known. absurd (let begins = before.begins stream known in cc)
     leaves_part kept (Some rest) is before part = λ stream known.
@@ -152,9 +152,9 @@ module _ (step : Step) (zone : Zone) (old : Sides) where
   -- Serving ended where reading stopped: these bytes are in the inbox, and that is to come.
   module _ (early : Type 0) (stood stays : List Terminal → Room → Type 0)
       (begun held given : Option (List ℕ)) (outs : List Timed)
-      (first : Going step zone old begun held given early stood stays outs)
+      (first : Going step setting old begun held given early stood stays outs)
       (kept : List ℕ) (remains : Option (List ℕ)) (same : Keeps begun (prepend_known kept remains)) (granted : ℕ) (read_failed read_ended : Bool) where
-    reached : Going step zone old (prepend_known kept remains) held given early stood stays outs
+    reached : Going step setting old (prepend_known kept remains) held given early stood stays outs
     reached = Going-kept early stood stays begun held given outs (prepend_known kept remains) first same
 
     abbrev Says : Result Layout Unread → Type 0
@@ -169,20 +169,20 @@ module _ (step : Step) (zone : Zone) (old : Sides) where
     stops_missing_none (Err Fault) e says is = rw is (leaves_part early stood stays (prepend_known kept remains) held given outs kept remains refl reached says.0)
     stops_missing_none (Err Spent) e says is = rw is (leaves_part early stood stays (prepend_known kept remains) held given outs kept remains refl reached says.0)
 
-    module _ (reads : Option ℕ) (write_failed was_none witness_failed : Bool)
+    module _ (reads : Option ℕ) (write_failed was_none observer_failed : Bool)
         (wants : Timed → List Terminal → Room → Type 0) (failed : Type 0)
         (answers : List (List ℕ)) (budget : ℕ)
         (count : CountsBy (budget - granted) old.reads reads) where
       abbrev new : Finish
-      new = record { reads = reads; held = held; given = given; read_failed = read_failed; read_ended = read_ended; write_failed = write_failed; was_none = was_none; witness_failed = witness_failed }
+      new = record { reads = reads; held = held; given = given; read_failed = read_failed; read_ended = read_ended; write_failed = write_failed; was_none = was_none; observer_failed = observer_failed }
 
       answered : (follows : List ℕ → Type 0)
           → ((rest : List ℕ) → prepend_known kept remains ≡ Some rest → follows rest)
-          → Answered step zone old new early stood stays outs follows
-      answered follows then = Going-ends early stood stays (prepend_known kept remains) held given outs reads read_failed read_ended write_failed was_none witness_failed follows reached then
+          → Answered step setting old new early stood stays outs follows
+      answered follows then = Going-ends early stood stays (prepend_known kept remains) held given outs reads read_failed read_ended write_failed was_none observer_failed follows reached then
 
       pub stops : (read : Result Layout Unread) (e : ServeEnd) → Says read → EndsAs read e
-          → ServeIs step zone old new early stood stays wants failed
+          → ServeIs step setting old new early stood stays wants failed
           (record { outs = outs; answers = answers; last = None }) budget e
       stops (Ok layout) e says is = absurd is
       stops (Err (Refused r head_only)) e says is = absurd is
@@ -197,24 +197,24 @@ module _ (step : Step) (zone : Zone) (old : Sides) where
   module _ (was early : Type 0) (stood stays : List Terminal → Room → Type 0)
       (lefts : List Terminal → List Room → Type 0) (begun left held given : Option (List ℕ))
       (outs : List Timed)
-      (first : Going step zone old begun held given early stood (Stays was stays lefts) outs) (same : Keeps begun left) (new : Finish) (is_kept late failed : Type 0) (stands : List Terminal → Room → Type 0) (leaves : List Terminal → List Room → Type 0)
+      (first : Going step setting old begun held given early stood (Stays was stays lefts) outs) (same : Keeps begun left) (new : Finish) (is_kept late failed : Type 0) (stands : List Terminal → Room → Type 0) (leaves : List Terminal → List Room → Type 0)
       (earlier : late → early) (kept : late → was → is_kept) (after : Option (List ℕ)) (o : Arrival) (pass : Passes left after o) where
-    before : Going step zone old left held given early stood (Stays was stays lefts) outs
+    before : Going step setting old left held given early stood (Stays was stays lefts) outs
     before = Going-kept early stood (Stays was stays lefts) begun held given outs left first same
 
     abbrev AnswersHere : ℕ → Result (Unit {0}) ServeEnd → Type 0
-    AnswersHere at = Answers step zone held new.held given new.given new.write_failed new.was_none new.witness_failed late stays (Stays is_kept stands leaves) (Wants step zone is_kept stands leaves) failed at o
+    AnswersHere at = Answers step setting held new.held given new.given new.write_failed new.was_none new.observer_failed late stays (Stays is_kept stands leaves) (Wants step setting is_kept stands leaves) failed at o
 
     abbrev ServeHere : Course → ℕ → ServeEnd → Type 0
-    ServeHere = ServeIs step zone old new late stood (Stays was stands leaves) (Wants step zone was stands leaves) failed
+    ServeHere = ServeIs step setting old new late stood (Stays was stands leaves) (Wants step setting was stands leaves) failed
 
     still : late → (terminals : List Terminal) (room : Room)
         → Stays is_kept stands leaves terminals room → Stays was stands leaves terminals room
     still trust terminals room it = (it.0, λ before. it.1 (kept trust before))
 
     still_wants : late → (x : Timed) (terminals : List Terminal) (room : Room)
-        → Wants step zone is_kept stands leaves x terminals room
-        → Wants step zone was stands leaves x terminals room
+        → Wants step setting is_kept stands leaves x terminals room
+        → Wants step setting was stands leaves x terminals room
     still_wants trust x terminals room it = (it.0, λ before. it.1 (kept trust before))
 
     begins_more : (at : ℕ) (stream : List ℕ) → old.left ≡ Some stream
@@ -244,30 +244,30 @@ module _ (step : Step) (zone : Zone) (old : Sides) where
     talk_more : (more : List Timed) (says less : List Terminal → Room → List ℕ → Type 0)
         → (late → (terminals : List Terminal) (room : Room) (tail : List ℕ)
         → says terminals room tail → less terminals room tail)
-        → Talks step zone late stays held new.held more says
-        → Talks step zone late stood old.held new.held (outs ++ more) less
+        → Talks step setting late stays held new.held more says
+        → Talks step setting late stood old.held new.held (outs ++ more) less
     talk_more more says less tells talk =
-        Talks-append step zone early late stood (Stays was stays lefts) old.held held new.held outs more less earlier before.talk
-        (Talks-as step zone late stays (Stays was stays lefts) held new.held more says less (λ terminals room it. it.0) tells talk)
+        Talks-append step setting early late stood (Stays was stays lefts) old.held held new.held outs more less earlier before.talk
+        (Talks-as step setting late stays (Stays was stays lefts) held new.held more says less (λ terminals room it. it.0) tells talk)
 
     talk_kept : (says less : List Terminal → Room → List ℕ → Type 0)
         → (late → (terminals : List Terminal) (room : Room) (tail : List ℕ)
         → says terminals room tail → less terminals room tail)
-        → Talks step zone late stays held new.held [] says
-        → Talks step zone late stood old.held new.held outs less
+        → Talks step setting late stays held new.held [] says
+        → Talks step setting late stood old.held new.held outs less
     talk_kept says less tells talk = rw append-nil at (talk_more [] says less tells talk)
 
     abbrev Said : Type 0 → (List ℕ → Type 0) → List Terminal → Room → List ℕ → Type 0
     Said before tells terminals room tail = Stays before stands leaves terminals room × tells tail
 
     more_said : (more : List Timed) (tells : List ℕ → Type 0)
-        → Talks step zone late stays held new.held more (Said is_kept tells)
-        → Talks step zone late stood old.held new.held (outs ++ more) (Said was tells)
+        → Talks step setting late stays held new.held more (Said is_kept tells)
+        → Talks step setting late stood old.held new.held (outs ++ more) (Said was tells)
     more_said more tells talk = talk_more more (Said is_kept tells) (Said was tells) (λ trust terminals room tail it. (still trust terminals room it.0, it.1)) talk
 
     -- one more was answered, and stays open
     pub Going-more : (at : ℕ) → AnswersHere at (Ok tt) → is_closing o ≡ false
-        → Going step zone old after new.held new.given late stood
+        → Going step setting old after new.held new.given late stood
         (Stays was stands leaves) (outs ++ (o, at) ∷ [])
     Going-more at answers open_ = record {
       begins = begins_more at;
@@ -296,31 +296,31 @@ module _ (step : Step) (zone : Zone) (old : Sides) where
 
     wanted : (at : ℕ) (r : Refusal) (more : List ℕ → List ℕ → Type 0) → at ≤ LAST_MOMENT
         → Appends given new.given (at ∷ []) → IsCaused failed r
-        → Talks step zone late stays held new.held []
-        (λ terminals room tail. Wants step zone is_kept stands leaves (o, at) terminals room
+        → Talks step setting late stays held new.held []
+        (λ terminals room tail. Wants step setting is_kept stands leaves (o, at) terminals room
         × more tail (fixed_bytes r (is_head_only o)))
-        → Unserved step zone old new late stood (Stays was stands leaves)
-        (Wants step zone was stands leaves) failed outs (o, at) more
+        → Unserved step setting old new late stood (Stays was stands leaves)
+        (Wants step setting was stands leaves) failed outs (o, at) more
     wanted at r more within moment want talk = record {
       begins = has_next;
       next = λ stream known. let begins = begins_more at stream known in (begins.0, begins.2, tt);
       timed = (timed_more at within, moments_more at moment);
       refusal = r;
       want = want;
-      talk = talk_kept (λ terminals room tail. Wants step zone is_kept stands leaves (o, at) terminals room × more tail (fixed_bytes r (is_head_only o)))
-          (λ terminals room tail. Wants step zone was stands leaves (o, at) terminals room × more tail (fixed_bytes r (is_head_only o))) (λ trust terminals room tail it. (still_wants trust (o, at) terminals room it.0, it.1)) talk;
+      talk = talk_kept (λ terminals room tail. Wants step setting is_kept stands leaves (o, at) terminals room × more tail (fixed_bytes r (is_head_only o)))
+          (λ terminals room tail. Wants step setting was stands leaves (o, at) terminals room × more tail (fixed_bytes r (is_head_only o))) (λ trust terminals room tail it. (still_wants trust (o, at) terminals room it.0, it.1)) talk;
     }
 
     broken : (at : ℕ) → at ≤ LAST_MOMENT → Appends given new.given (at ∷ [])
-        → Talks step zone late stays held new.held []
-        (λ terminals room tail. BreaksOff step zone terminals
+        → Talks step setting late stays held new.held []
+        (λ terminals room tail. BreaksOff step setting terminals
         (Stays is_kept stands leaves) room (o, at) tail)
-        → Broken step zone old new late stood (Stays was stands leaves) outs (o, at)
+        → Broken step setting old new late stood (Stays was stands leaves) outs (o, at)
     broken at within moment talk = record {
       begins = λ stream known. let begins = begins_more at stream known in (begins.0, begins.2, tt);
       timed = (timed_more at within, moments_more at moment);
-      talk = talk_kept (λ terminals room tail. BreaksOff step zone terminals (Stays is_kept stands leaves) room (o, at) tail)
-          (λ terminals room tail. BreaksOff step zone terminals (Stays was stands leaves) room (o, at) tail)
+      talk = talk_kept (λ terminals room tail. BreaksOff step setting terminals (Stays is_kept stands leaves) room (o, at) tail)
+          (λ terminals room tail. BreaksOff step setting terminals (Stays was stands leaves) room (o, at) tail)
           (λ trust terminals room tail it. (it.0, it.1, it.2, still trust terminals it.0 it.3, it.4)) talk;
     }
 
@@ -329,9 +329,9 @@ module _ (step : Step) (zone : Zone) (old : Sides) where
         → (late → (terminals : List Terminal) (room : Room) → says terminals room
         → less terminals room)
         → at ≤ LAST_MOMENT → Appends given new.given (at ∷ [])
-        → Talks step zone late stays held new.held []
+        → Talks step setting late stays held new.held []
         (λ terminals room tail. says terminals room × (tail ≡ []))
-        → Unwritten step zone old new late stood (Stays was stands leaves) outs (o, at) less
+        → Unwritten step setting old new late stood (Stays was stands leaves) outs (o, at) less
     unwritten at says less tells within moment talk = record {
       begins = has_next;
       next = λ stream known. let begins = begins_more at stream known in (begins.0, begins.2, tt);
@@ -341,7 +341,7 @@ module _ (step : Step) (zone : Zone) (old : Sides) where
     }
 
     abbrev Acted : Type 0 → ℕ → List Terminal → Room → Type 0
-    Acted before at terminals room = BreaksOff step zone terminals (Stays before stands leaves) room (o, at) []
+    Acted before at terminals room = BreaksOff step setting terminals (Stays before stands leaves) room (o, at) []
 
     -- serving ended with one more
     pub ends : (told : List (List ℕ)) (budget at : ℕ) (e : ServeEnd) → AnswersHere at (Err e)

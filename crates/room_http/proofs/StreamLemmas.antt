@@ -11,13 +11,13 @@ use Rattle.room_http_messages.specs.declared.messages.Layout.{Layout}
 use Rattle.room_http_messages.specs.Layouts.{IsLayout, IsWhole}
 use Rattle.room_http_messages.specs.Messages.{WholeMessage, HasMessage, IsRefused}
 use Rattle.room_http_messages.specs.Streams.{CountsBy}
-use Rattle.room_http_messages.specs.declared.unread.Unread.{Unread}
-use Rattle.room_http_messages.specs.declared.unread.Unread.TheVariants.{End, Cut, ReadFault, ReadsSpent, Refused}
+use Rattle.room_http_messages.specs.declared.read_faults.Unread.{Unread}
+use Rattle.room_http_messages.specs.declared.read_faults.Unread.TheVariants.{End, Cut, ReadFault, ReadsSpent, Refused}
 use Rattle.room_http_messages.specs.Readings.{SaysOf}
 use Rattle.room_http.specs.declared.arrivals.Arrived.{Arrived}
 use Rattle.room_http.specs.declared.arrivals.Arrived.TheVariants.{Message, Refused as Shut}
 use Rattle.room_http.specs.Arrivals.{Arrival, message, refused, is_closing, BeginsWith, Begins, IsAlone, IsBounded, IsShown}
-use Rattle.room_http.specs.Reads.{IsReadAs, kept_after}
+use Rattle.room_http.specs.ConnectionReads.{IsReadAs, kept_after}
 
 pub CountsBy-none : (known : Option ℕ) → CountsBy 0 known known
 CountsBy-none None = refl

@@ -4,14 +4,14 @@ use Rattle.std.specs.Io.KnownBytes.{Appends}
 use Rattle.room_types.specs.declared.fleet.Terminal.{Terminal}
 use Rattle.room_model.specs.Room.{Room}
 use Rattle.room_http_messages.proofs.StreamLemmas.{Appends-more, Appends-none}
-use Rattle.room_http_time.specs.declared.zones.Zone.{Zone}
-use Rattle.room_service.specs.Rooms.{Step}
+use Rattle.room_http.specs.declared.settings.Setting.{Setting}
+use Rattle.room_model.specs.Rooms.{Step}
 use Rattle.room_http.specs.Talk.{Timed, IsReplyTo, IsTalk, Talks}
 
-module _ (step : Step) (zone : Zone) (terminals : List Terminal) where
+module _ (step : Step) (setting : Setting) (terminals : List Terminal) where
   pub IsTalk-append : (room mid after : Room) (xs ys : List Timed) (bytes more : List ℕ)
-      → IsTalk step zone terminals room xs mid bytes → IsTalk step zone terminals mid ys after more
-      → IsTalk step zone terminals room (xs ++ ys) after (bytes ++ more)
+      → IsTalk step setting terminals room xs mid bytes → IsTalk step setting terminals mid ys after more
+      → IsTalk step setting terminals room (xs ++ ys) after (bytes ++ more)
   IsTalk-append room mid after [] ys bytes more first second = rw (← first.0, first.1) second
   IsTalk-append room mid after (x ∷ xs) ys bytes more first second = (
     first.0,
@@ -23,8 +23,8 @@ module _ (step : Step) (zone : Zone) (terminals : List Terminal) where
   )
 
   pub IsTalk-one : (room after : Room) (x : Timed) (bytes : List ℕ)
-      → IsReplyTo step zone terminals room x after bytes
-      → IsTalk step zone terminals room (x ∷ []) after bytes
+      → IsReplyTo step setting terminals room x after bytes
+      → IsTalk step setting terminals room (x ∷ []) after bytes
   IsTalk-one room after x bytes is = (after, bytes, [], sym (append-nil bytes), is, (refl, refl))
 
 -- what was written, and then more
@@ -35,11 +35,11 @@ joined a b c first none second tail is one two =
     let whole : Appends a b first = rw (is, append-nil) at one in
     rw append_assoc (Appends-more a b c first (second ++ tail) whole two)
 
-module _ (step : Step) (zone : Zone) where
+module _ (step : Step) (setting : Setting) where
   pub Talks-none : (trusted : Type 0) (stood stands : List Terminal → Room → Type 0)
       (held : Option (List ℕ)) → ((terminals : List Terminal) (room : Room) → stood terminals room
       → stands terminals room)
-      → Talks step zone trusted stood held held []
+      → Talks step setting trusted stood held held []
       (λ terminals after tail. stands terminals after × (tail ≡ []))
   Talks-none trusted stood stands held is = λ _ terminals room standing. (room, [], [], (refl, refl), (is terminals room standing, refl), Appends-none held)
 
@@ -50,8 +50,8 @@ module _ (step : Step) (zone : Zone) where
       → ((terminals : List Terminal) (room : Room) → knows terminals room → stood terminals room)
       → (trusted → (terminals : List Terminal) (room : Room) (tail : List ℕ)
       → says terminals room tail → less terminals room tail)
-      → Talks step zone trusted stood held holds outs says
-      → Talks step zone trusted knows held holds outs less
+      → Talks step setting trusted stood held holds outs says
+      → Talks step setting trusted knows held holds outs less
   Talks-as trusted stood knows held holds outs says less is tells talk trust terminals room standing =
       let x = talk trust terminals room (is terminals room standing) in
       (x.0, x.1, x.2, x.3, tells trust terminals x.0 x.2 x.4, x.5)
@@ -60,17 +60,17 @@ module _ (step : Step) (zone : Zone) where
   pub Talks-append : (early late : Type 0) (stood stays : List Terminal → Room → Type 0)
       (a b c : Option (List ℕ)) (outs more : List Timed)
       (says : List Terminal → Room → List ℕ → Type 0) → (late → early)
-      → Talks step zone early stood a b outs
+      → Talks step setting early stood a b outs
       (λ terminals after tail. stays terminals after × (tail ≡ []))
-      → Talks step zone late stays b c more says
-      → Talks step zone late stood a c (outs ++ more) says
+      → Talks step setting late stays b c more says
+      → Talks step setting late stood a c (outs ++ more) says
   Talks-append early late stood stays a b c outs more says earlier first second trust terminals room stood_for =
       let one = first (earlier trust) terminals room stood_for in
       let two = second trust terminals one.0 one.4.0 in (
         two.0,
         one.1 ++ two.1,
         two.2,
-        IsTalk-append step zone terminals room one.0 two.0 outs more one.1 two.1 one.3 two.3,
+        IsTalk-append step setting terminals room one.0 two.0 outs more one.1 two.1 one.3 two.3,
         two.4,
         joined a b c one.1 one.2 two.1 two.2 one.4.1 one.5 two.5,
       )

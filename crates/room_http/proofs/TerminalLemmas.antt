@@ -12,8 +12,8 @@ use Rattle.room_model.specs.Enrol.{AreTerminals, terminal_at, terminal_key, toke
 use Rattle.room_model.specs.Queries.{vehicle_at}
 use Rattle.room_model.specs.Room.{Room}
 use Rattle.room_model.proofs.Tests.{row_key}
-use Rattle.room_http.specs.Events.{token_of}
-use Rattle.room_service.specs.Rooms.{who_at}
+use Rattle.room_http.specs.MessageEvents.{token_of}
+use Rattle.room_model.specs.Rooms.{who_at}
 
 -- what is no text is no token
 pub no_token : (text : List ℕ) → ¬ (IsUtf8 text) → None ≡ token_of (Some text)

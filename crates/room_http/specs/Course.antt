@@ -1,6 +1,6 @@
 -- One run over a connection.
 use Rattle.std.specs.Prelude.{◌≡◌, ◌⊎◌, ℕ, List, [], ◌∷◌, ◌++◌, Option, Some}
-use Rattle.room_http.specs.Served.{AreFirst}
+use Rattle.room_http.specs.ServedRuns.{AreFirst}
 use Rattle.room_http.specs.Talk.{Timed}
 
 -- The arrivals that were answered wholly, at their moments, the bytes of their answers, and the
@@ -20,9 +20,9 @@ abbrev pub AreFirstIn : Course → Option (List ℕ) → Option (List ℕ) → O
     → Type 0
 AreFirstIn course left given gives outs = AreOf course outs × AreFirst left given gives outs
 
--- Of one course all this holds: how serving ended, what is promised, and what the witness kept.
+-- Of one course all this holds: how serving ended, what is promised, and what the observer kept.
 pub record OneCourse (says promises keeps : Course → Type 0) : Type 0 where
   pub course : Course
   pub talk : says course
   pub promised : promises course
-  pub witnessed : keeps course
+  pub observed : keeps course

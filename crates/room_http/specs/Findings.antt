@@ -8,20 +8,20 @@ use Rattle.room_types.specs.declared.refusals.Refusal.{Refusal}
 use Rattle.room_types.specs.declared.refusals.Refusal.TheVariants.{BadBody, Memory, NoTerminal, Storage}
 use Rattle.room_model.specs.Room.{Room}
 use Rattle.room_model.specs.Step.{IsAddressed}
-use Rattle.room_http_requests.specs.declared.asking.Request.{Request}
+use Rattle.room_http_requests.specs.declared.request_asks.Request.{Request}
 use Rattle.room_http_requests.specs.Roles.{is_known}
 use Rattle.room_http_messages.specs.declared.messages.Message.{Message}
 use Rattle.room_http_messages.specs.Layouts.{Shows}
 use Rattle.room_http_messages.specs.Messages.{WholeMessage}
-use Rattle.room_http.specs.Events.{AsksFor, IsAskFor, named}
-use Rattle.room_http_time.specs.declared.zones.Zone.{Zone}
-use Rattle.room_service.specs.Rooms.{IsWant}
+use Rattle.room_http.specs.MessageEvents.{AsksFor, IsAskFor, named}
+use Rattle.room_http.specs.declared.settings.Setting.{Setting}
+use Rattle.room_model.specs.Rooms.{IsWant}
 
 -- what is wanted was found, or there was no memory to find it
-abbrev pub FindsAsk : Zone → Option Request → Result Ask Refusal → Type 0
-FindsAsk zone given result =
+abbrev pub FindsAsk : Setting → Option Request → Result Ask Refusal → Type 0
+FindsAsk setting given result =
     MatchResult result
-    (λ asks. (w : Request) × (given ≡ Some w) × IsAskFor zone w asks)
+    (λ asks. (w : Request) × (given ≡ Some w) × IsAskFor setting w asks)
     (λ refusal. (refusal ≡ Memory) ⊎ ((refusal ≡ BadBody) × (given ≡ None)))
 
 -- The room was asked who shows the token of a field, and stayed as it was. Storage is wanting only
@@ -41,17 +41,17 @@ pub record FindsTerminal {M : Type 0} (is_trusted has_failed : M → Type 0)
 -- The room was asked who shows a token, and stayed as it was. What was found holds of each message
 -- that is shown, whatever room is kept. Storage is wanting only where that call was refused.
 pub record FindsMessage {M : Type 0} (is_trusted has_failed : M → Type 0)
-    (stands : M → List Terminal → Room → Type 0) (old new : M) (zone : Zone) (shown : Message)
+    (stands : M → List Terminal → Room → Type 0) (old new : M) (setting : Setting) (shown : Message)
     (at : ℕ) (result : Result Event Refusal) : Type 0 where
   pub trusted : is_trusted new → is_trusted old
   pub same : is_trusted new → (terminals : List Terminal) (room : Room) → stands old terminals room
       → stands new terminals room
   pub says : is_trusted new → (terminals : List Terminal) (room : Room) → stands old terminals room
       → MatchResult result
-      (λ event. ((m : WholeMessage) → Shows shown m → AsksFor zone terminals m at (Ok event))
+      (λ event. ((m : WholeMessage) → Shows shown m → AsksFor setting terminals m at (Ok event))
       × IsAddressed event room)
       (λ refusal. IsWant refusal
-      ⊎ ((m : WholeMessage) → Shows shown m → AsksFor zone terminals m at (Err refusal)))
+      ⊎ ((m : WholeMessage) → Shows shown m → AsksFor setting terminals m at (Err refusal)))
   pub failed : result ≡ Err Storage → has_failed new
 
 -- What was held is still kept, unless memory or storage was wanting; and even then a stop leaves

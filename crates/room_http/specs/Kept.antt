@@ -1,23 +1,23 @@
--- What a witness keeps of what is served.
+-- What a observer keeps of what is served.
 use Rattle.std.specs.Prelude.{◌≡◌, ◌⊎◌, ◌<◌, ◌≤◌, ⊤, ℕ, List, [], ◌∷◌, ◌++◌, map, Option, Some, None, Result, Ok, Err}
 use Rattle.std.specs.Io.KnownBytes.{Appends}
 use Rattle.std.specs.List.{concat}
 use Rattle.room_types.specs.declared.fleet.Terminal.{Terminal}
 use Rattle.room_types.specs.declared.refusals.Refusal.{Refusal}
 use Rattle.room_model.specs.Room.{Room}
-use Rattle.room_http_answers.specs.Replies.{fixed_bytes}
+use Rattle.room_http_answers.specs.ReplyMessages.{fixed_bytes}
 use Rattle.room_http_time.specs.declared.moments.TheConstants.{LAST_MOMENT}
-use Rattle.room_http_time.specs.declared.zones.Zone.{Zone}
-use Rattle.room_service.specs.Rooms.{IsWant, Step}
+use Rattle.room_http.specs.declared.settings.Setting.{Setting}
+use Rattle.room_model.specs.Rooms.{IsWant, Step}
 use Rattle.room_http.specs.declared.arrivals.Arrived.{Arrived}
 use Rattle.room_http.specs.declared.arrivals.Arrived.TheVariants.{Message, Refused}
-use Rattle.room_http.specs.declared.serving.ServeEnd.{ServeEnd}
-use Rattle.room_http.specs.declared.serving.ServeEnd.TheVariants.{ClockFault, Unkept}
+use Rattle.room_http.specs.declared.session.ServeEnd.{ServeEnd}
+use Rattle.room_http.specs.declared.session.ServeEnd.TheVariants.{ClockFault, Unkept}
 use Rattle.room_http.specs.Arrivals.{Arrival, Begins, HasNext, IsAlone, is_head_only, message, refused}
 use Rattle.room_http.specs.Course.{Course}
 use Rattle.room_http.specs.Talk.{IsFront, IsReplyTo, Timed}
 
--- the witness keeps all these bytes more, or could keep some of the first of them
+-- the observer keeps all these bytes more, or could keep some of the first of them
 abbrev pub KeepsAll : {E : Type 0} → Option (List ℕ) → Option (List ℕ) → List ℕ
     → Result (Unit {0}) E → Type 0
 KeepsAll held holds bytes (Ok done) = Appends held holds bytes
@@ -35,7 +35,7 @@ abbrev pub told_of : (List ℕ → List ℕ) → Arrived → List ℕ → List �
 told_of told (Message shown bytes) answer = told answer
 told_of told (Refused r head_only) answer = []
 
--- what is known of the moments that were given, of what the witness keeps, and of what the writer
+-- what is known of the moments that were given, of what the observer keeps, and of what the writer
 -- holds
 pub record Tapes : Type 0 where
   pub given : Option (List ℕ)
@@ -68,14 +68,14 @@ abbrev pub Unmoved : Type 0 → (List Terminal → Room → Type 0) → (List Te
 Unmoved trusted stood stands = trusted → (terminals : List Terminal) (room : Room)
     → stood terminals room → stands terminals room
 
-module _ (step : Step) (zone : Zone) where
+module _ (step : Step) (setting : Setting) where
   -- these are the answers to the arrivals, one to each, and the room afterwards
   abbrev pub AreReplies : List Terminal → Room → List Timed → List (List ℕ) → Room → Type 0
   AreReplies terminals room [] [] after = after ≡ room
   AreReplies terminals room [] (answer ∷ answers) after = ⊥
   AreReplies terminals room (x ∷ outs) [] after = ⊥
   AreReplies terminals room (x ∷ outs) (answer ∷ answers) after =
-      (next : Room) × IsReplyTo step zone terminals room x next answer
+      (next : Room) × IsReplyTo step setting terminals room x next answer
       × AreReplies terminals next outs answers after
 
   module _ (trusted : Type 0) (stood stands : List Terminal → Room → Type 0) where
@@ -83,7 +83,7 @@ module _ (step : Step) (zone : Zone) where
     abbrev pub Acts : Timed → List ℕ → Type 0
     Acts x answer =
         trusted → (terminals : List Terminal) (room : Room) → stood terminals room
-        → (after : Room) × IsReplyTo step zone terminals room x after answer
+        → (after : Room) × IsReplyTo step setting terminals room x after answer
         × stands terminals after
 
     -- it has acted on these arrivals, one after another, and these are their answers
@@ -92,7 +92,7 @@ module _ (step : Step) (zone : Zone) where
         trusted → (terminals : List Terminal) (room : Room) → stood terminals room
         → (after : Room) × AreReplies terminals room outs answers after × stands terminals after
 
--- what a witness keeps of a message at its moment, and of an answer
+-- what a observer keeps of a message at its moment, and of an answer
 module _ (came : ℕ → List ℕ → List ℕ) (told : List ℕ → List ℕ) where
   -- what is kept of an arrival at its moment as it comes: a message's bytes as they came, and
   -- nothing of what is refused
@@ -161,9 +161,9 @@ module _ (came : ℕ → List ℕ → List ℕ) (told : List ℕ → List ℕ) w
       × Grow old new (at ∷ []) tail wrote
 
   -- What was kept and written of a connection that ended so, where `moved` says on which arrivals
-  -- the room has acted, and what their answers are, and `lasts` that what was kept of the room still
-  -- is: the arrivals of the course were answered, each after its record was kept, and no more was
-  -- done; or of the last one so much.
+  -- the room has acted, and what their answers are, and `lasts` that what was kept of the room
+  -- still is: the arrivals of the course were answered, each after its record was kept, and no more
+  -- was done; or of the last one so much.
   pub record KeepsEach (lasts : Type 0) (moved : List Timed → List (List ℕ) → Type 0)
       (left : Option (List ℕ)) (old new : Tapes) (end : ServeEnd) (course : Course) : Type 0 where
     pub text : List ℕ

@@ -1,9 +1,9 @@
--- What a stream alone decides, and what its arrivals, their moments and the room do.
+-- What a stream itself decides, and what its arrivals, their moments and the room do.
 use Rattle.std.specs.Prelude.{◌≡◌, ◌≤◌, ⊤, ℕ, List, [], ◌∷◌, length}
 use Rattle.room_types.specs.declared.fleet.Terminal.{Terminal}
 use Rattle.room_model.specs.Room.{Room}
-use Rattle.room_http_time.specs.declared.zones.Zone.{Zone}
-use Rattle.room_service.specs.Rooms.{Step}
+use Rattle.room_http.specs.declared.settings.Setting.{Setting}
+use Rattle.room_model.specs.Rooms.{Step}
 use Rattle.room_http.specs.Arrivals.{Arrival, message, refused, Begins}
 use Rattle.room_http.specs.Talk.{Timed, IsTalk}
 
@@ -31,8 +31,8 @@ IsOneStream =
 -- equal arrivals at equal moments, in equal rooms, leave equal rooms and get equal bytes
 abbrev pub IsOneTalk : Type 0
 IsOneTalk =
-    (step : Step) (zone : Zone) (terminals : List Terminal) (room : Room) (outs : List Timed)
+    (step : Step) (setting : Setting) (terminals : List Terminal) (room : Room) (outs : List Timed)
     (after other : Room) (bytes others : List ℕ)
-    → IsTalk step zone terminals room outs after bytes
-    → IsTalk step zone terminals room outs other others
+    → IsTalk step setting terminals room outs after bytes
+    → IsTalk step setting terminals room outs other others
     → (after ≡ other) × (bytes ≡ others)

@@ -25,7 +25,7 @@ use Rattle.room_model.specs.Run.{told}
 use Rattle.room_model.specs.Shares.{mine, own}
 use Rattle.room_model.specs.Step.{answer_to, room_after}
 use Rattle.room_model.specs.WellFormed.{IsWellFormed}
-use Rattle.room_http_time.specs.declared.zones.Zone.{Zone}
+use Rattle.room_http.specs.declared.settings.Setting.{Setting}
 use Rattle.room_http.specs.Runs.{AreTold, Exchange, IsRun, IsTold, answers_of, arrivals_of, asker, events_of, room_by, with_desk}
 
 -- no vehicle is sent to two incidents
@@ -50,7 +50,7 @@ pub record IsDeskAlike (d : ℕ) (xs ys : List Exchange) (room other : Room) : T
   pub shares : own d (room_by xs room) ≡ own d (room_by ys other)
 
 -- A message of some kind whose first answer is of this sort, and that is sent again anywhere later,
--- is told its first answer and changes nothing.
+-- gets its first answer and changes nothing.
 abbrev pub ActsOnce : List Exchange → Room → (ℕ → Event) → (Result Answer Refusal → Type 0) → Type 0
 ActsOnce xs room sent lasts =
     (before between rest : List Exchange) (first again : Exchange) (at later : ℕ)
@@ -85,13 +85,13 @@ pub record Promises (terminals : List Terminal) (xs : List Exchange) (room : Roo
       ≡ alone d (crossings d (events_of xs) room) (own d room)
   -- its desk was answered with the bytes of what the room told it
   pub desk_told : (d : ℕ) → AreTold (with_desk d xs) (told d (events_of xs) room)
-  -- and they are of what its first rows and what it was handed tell
+  -- and they are of what its first rows and what it was handed determine
   pub desk_apart : (d : ℕ) → AreTold (with_desk d xs)
       (told_alone d (crossings d (events_of xs) room) (own d room))
   -- in whatever other room, a desk of an equal share that is handed the same is answered alike
-  pub desk_alike : (d : ℕ) (zone : Zone) (others : List Terminal) (ys : List Exchange)
+  pub desk_alike : (d : ℕ) (setting : Setting) (others : List Terminal) (ys : List Exchange)
       (other : Room)
-      → IsWellFormed other → IsRun zone others ys other → own d room ≡ own d other
+      → IsWellFormed other → IsRun setting others ys other → own d room ≡ own d other
       → received (crossings d (events_of xs) room) ≡ received (crossings d (events_of ys) other)
       → IsDeskAlike d xs ys room other
   -- where nothing is lent or offered, and nobody offers a vehicle but so that it is refused, a
@@ -106,7 +106,7 @@ pub record Promises (terminals : List Terminal) (xs : List Exchange) (room : Roo
       → mine c (room_by before room) ≡ mine c other
       → IsTold x (answer_to (by_crew c ask at) other)
       × (mine c (room_by (before ++ x ∷ []) room) ≡ mine c (room_after (by_crew c ask at) other))
-  -- what is refused before it reaches the room is told so in every room, and changes nothing
+  -- what is refused before it reaches the room is answered so in every room, and changes nothing
   pub refused_alike : (before rest : List Exchange) (x : Exchange) (r : Refusal)
       → xs ≡ before ++ x ∷ rest → x.found ≡ Err r
       → IsTold x (Err r) × (room_by (before ++ x ∷ []) room ≡ room_by before room)

@@ -5,21 +5,21 @@ use Rattle.room_types.specs.declared.refusals.Refusal.{Refusal}
 use Rattle.room_model.specs.Room.{Room}
 use Rattle.room_http.specs.declared.arrivals.Arrived.{Arrived}
 use Rattle.room_http.specs.Arrivals.{Arrival, IsShown}
-use Rattle.room_http_time.specs.declared.zones.Zone.{Zone}
-use Rattle.room_service.specs.Rooms.{Step}
+use Rattle.room_http.specs.declared.settings.Setting.{Setting}
+use Rattle.room_model.specs.Rooms.{Step}
 use Rattle.room_http.specs.Talk.{IsCaused, IsReplyTo, LeavesNext}
 
 -- the bytes are the answer, and the room is the one after it; or memory or storage is wanting, and
 -- the room is as it was
 pub record Replies {M A : Type 0} (step : Step) (is_trusted has_failed : M → Type 0)
-    (stands : M → List Terminal → Room → Type 0) (old new : M) (zone : Zone) (request : Arrived)
-    (at : ℕ) (result : Result (Vec ℕ A) Refusal) : Type 0 where
+    (stands : M → List Terminal → Room → Type 0) (old new : M) (setting : Setting)
+    (request : Arrived) (at : ℕ) (result : Result (Vec ℕ A) Refusal) : Type 0 where
   pub trusted : is_trusted new → is_trusted old
   pub wants : IfErr result (IsCaused (has_failed new))
   pub says : is_trusted new → (terminals : List Terminal) (room : Room) → stands old terminals room
       → MatchResult result
       (λ bytes. (o : Arrival) → IsShown request o
-      → (after : Room) × IsReplyTo step zone terminals room (o, at) after bytes.items
+      → (after : Room) × IsReplyTo step setting terminals room (o, at) after bytes.items
       × stands new terminals after)
       (λ _. stands new terminals room)
 
@@ -27,11 +27,11 @@ pub record Replies {M A : Type 0} (step : Step) (is_trusted has_failed : M → T
 -- as it was, or the one after the event.
 pub record KeepsReply {M A : Type 0} (step : Step) (is_trusted is_kept : M → Type 0)
     (stands : M → List Terminal → Room → Type 0) (leaves : M → List Terminal → List Room → Type 0)
-    (old new : M) (zone : Zone) (request : Arrived) (at : ℕ)
+    (old new : M) (setting : Setting) (request : Arrived) (at : ℕ)
     (result : Result (Vec ℕ A) Refusal) : Type 0 where
   pub kept : is_trusted new → OnOk result (is_kept old → is_kept new)
   pub left : is_trusted new → OnErr result
       (is_kept old → (terminals : List Terminal) (room : Room) → stands old terminals room
       → (o : Arrival) → IsShown request o
       → leaves new terminals (room ∷ [])
-      ⊎ LeavesNext step zone (leaves new) (o, at) terminals room)
+      ⊎ LeavesNext step setting (leaves new) (o, at) terminals room)

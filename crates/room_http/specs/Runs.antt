@@ -10,11 +10,11 @@ use Rattle.room_model.specs.Events.{AreAddressed}
 use Rattle.room_model.specs.Room.{Room}
 use Rattle.room_model.specs.Run.{is_desk, room_run}
 use Rattle.room_http_messages.specs.Messages.{terminal_of}
-use Rattle.room_http_answers.specs.Replies.{IsReply}
-use Rattle.room_http_time.specs.declared.zones.Zone.{Zone}
-use Rattle.room_service.specs.Rooms.{machine}
+use Rattle.room_http_answers.specs.ReplyMessages.{IsReply}
+use Rattle.room_http.specs.declared.settings.Setting.{Setting}
+use Rattle.room_model.specs.Rooms.{machine}
 use Rattle.room_http.specs.Arrivals.{Arrival, is_closing, is_head_only, message, refused}
-use Rattle.room_http.specs.Events.{named}
+use Rattle.room_http.specs.MessageEvents.{named}
 use Rattle.room_http.specs.Talk.{Finds, Timed, replied}
 
 -- an arrival, the event that it asked for or the refusal in its place, and the bytes that it was
@@ -74,12 +74,12 @@ AreTold [] (answer ∷ answers) = ⊥
 AreTold (x ∷ xs) [] = ⊥
 AreTold (x ∷ xs) (answer ∷ answers) = IsTold x answer × AreTold xs answers
 
-module _ (zone : Zone) (terminals : List Terminal) where
+module _ (setting : Setting) (terminals : List Terminal) where
   -- each is of what the arrival asks for, and is answered as the room answers at its turn
   abbrev pub AreAnswered : List Exchange → Room → Type 0
   AreAnswered [] room = ⊤
   AreAnswered (x ∷ xs) room =
-      Finds zone terminals x.arrival x.found × IsTold x (replied machine x.found room).1
+      Finds setting terminals x.arrival x.found × IsTold x (replied machine x.found room).1
       × AreAnswered xs (replied machine x.found room).0
 
   -- a run: its events are of those that the room knows

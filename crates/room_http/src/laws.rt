@@ -1,12 +1,12 @@
-//! What a stream alone decides, and what its arrivals, their moments and the room do. A law is the
+//! What a stream itself decides, and what its arrivals, their moments and the room do. A law is the
 //! contract of a function that does nothing.
 ghost use Rattle.std.specs.Prelude.{◌≡◌, ◌++◌, ℕ, List};
 ghost use Rattle.room_types.specs.declared.fleet.Terminal.{Terminal};
 ghost use Rattle.room_model.specs.Enrol.{AreTerminals};
 ghost use Rattle.room_model.specs.Room.{Room};
 ghost use Rattle.room_model.specs.WellFormed.{IsWellFormed};
-ghost use Rattle.room_http_time.specs.declared.zones.Zone.{Zone};
-ghost use Rattle.room_service.specs.Rooms.{machine};
+ghost use Rattle.room_http.specs.declared.settings.Setting.{Setting};
+ghost use Rattle.room_model.specs.Rooms.{machine};
 ghost use Rattle.room_http.specs.Kept.{AreReplies};
 ghost use Rattle.room_http.specs.Laws.{IsOneStream, IsOneTalk};
 ghost use Rattle.room_http.specs.Promises.{Promises};
@@ -25,20 +25,21 @@ pub fn one_talk()
 {}
 
 /// A talk with the dispatch machine is a run: its messages ask for events that the room knows, they
-/// lead to the room after it, and each is told what the room answers at its turn.
+/// lead to the room after it, and each gets what the room answers at its turn.
 pub fn a_talk_is_a_run()
-    ensures { (zone : Zone) (terminals : List Terminal) (room : Room) (outs : List Timed)
+    ensures { (setting : Setting) (terminals : List Terminal) (room : Room) (outs : List Timed)
         (after : Room) (bytes : List ℕ) →
-        AreTerminals room terminals → IsTalk machine zone terminals room outs after bytes →
-        (xs : List Exchange) × IsRunOf zone terminals outs after bytes xs room }
+        AreTerminals room terminals → IsTalk machine setting terminals room outs after bytes →
+        (xs : List Exchange) × IsRunOf setting terminals outs after bytes xs room }
 {}
 
 /// A run goes on where another one ended: over any connections, one after another, the two are one.
 pub fn a_run_goes_on()
-    ensures run { (zone : Zone) (terminals : List Terminal) (room : Room) (xs ys : List Exchange) →
+    ensures run { (setting : Setting) (terminals : List Terminal) (room : Room)
+        (xs ys : List Exchange) →
         AreTerminals room terminals →
-        IsRun zone terminals xs room → IsRun zone terminals ys (room_by xs room) →
-        IsRun zone terminals (xs ++ ys) room }
+        IsRun setting terminals xs room → IsRun setting terminals ys (room_by xs room) →
+        IsRun setting terminals (xs ++ ys) room }
     ensures leads { (room : Room) (xs ys : List Exchange) →
         room_by (xs ++ ys) room ≡ room_by ys (room_by xs room) }
 {}
@@ -46,16 +47,16 @@ pub fn a_run_goes_on()
 /// Every run keeps the promises: a division sees of the others what it is handed, no vehicle is
 /// sent to two incidents, and what is sent again acts once.
 pub fn a_run_keeps_the_promises()
-    ensures { (zone : Zone) (terminals : List Terminal) (xs : List Exchange) (room : Room) →
-        IsWellFormed room → IsRun zone terminals xs room →
+    ensures { (setting : Setting) (terminals : List Terminal) (xs : List Exchange) (room : Room) →
+        IsWellFormed room → IsRun setting terminals xs room →
         Promises terminals xs room }
 {}
 
 /// The answers that are kept of a course are those of its run: what is answered to equal arrivals
 /// at equal moments, one after another, is the same, each answer by itself.
 pub fn one_course()
-    ensures { (zone : Zone) (terminals : List Terminal) (room after : Room) (outs : List Timed)
-        (answers : List (List ℕ)) (xs : List Exchange) →
-        AreReplies machine zone terminals room outs answers after →
-        IsRun zone terminals xs room → arrivals_of xs ≡ outs → answers_of xs ≡ answers }
+    ensures { (setting : Setting) (terminals : List Terminal) (room after : Room)
+        (outs : List Timed) (answers : List (List ℕ)) (xs : List Exchange) →
+        AreReplies machine setting terminals room outs answers after →
+        IsRun setting terminals xs room → arrivals_of xs ≡ outs → answers_of xs ≡ answers }
 {}

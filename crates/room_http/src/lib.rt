@@ -1,11 +1,12 @@
 //! The engine of the room: it serves a connection, from the bytes read to the bytes written.
 #![tactic(auto)]
 
-pub mod answering;
+pub mod arrival_answers;
 pub mod arrivals;
-pub mod events;
+pub mod digest_replies;
 pub mod laws;
+pub mod message_events;
+pub mod observers;
 pub mod replies;
-pub mod serving;
-pub mod towards;
-pub mod witnesses;
+pub mod session;
+pub mod settings;

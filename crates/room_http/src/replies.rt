@@ -1,27 +1,27 @@
 //! The answer to what has arrived, and what becomes of the room.
 ghost use Rattle.std.specs.Prelude.{◌≡◌, Err, IfErr, IfOk};
 ghost use Rattle.room_types.specs.declared.refusals.Refusal.TheVariants as refusals;
-ghost use Rattle.room_http_answers.specs.Replies.{IsReply};
+ghost use Rattle.room_http_answers.specs.ReplyMessages.{IsReply};
 ghost use Rattle.room_http.specs.Replies.{KeepsReply, Replies};
 
 use crate::arrivals::Arrived;
-use crate::events::event_of;
-use room_http_answers::replies::render;
+use crate::message_events::event_of;
+use crate::settings::Setting;
+use room_http_answers::reply_messages::render;
 use room_http_requests::routes::Routes;
-use room_http_time::zones::Zone;
-use room_service::rooms::Room;
+use room_model::rooms::Room;
 use room_types::asks::Who;
 use room_types::numbers::Moment;
 use room_types::refusals::Refusal;
 use std::alloc::Global;
 
 /// The bytes of the answer to what has arrived. The room has acted on it once they are there. A
-/// refusal is want of memory or of storage; it leaves the room as it was. Whose terminal asks, is
+/// refusal is lack of memory or of storage; it leaves the room as it was. Whose terminal asks, is
 /// noted once it is known.
 pub fn reply<M: Room>(
     alloc: Global,
     routes: &Routes,
-    zone: &Zone,
+    setting: &Setting,
     room: &mut M,
     arrived: &Arrived,
     at: Moment,
@@ -30,10 +30,10 @@ pub fn reply<M: Room>(
     requires { M.is_ready room.old }
     ensures ready { M.is_ready room.new }
     ensures zone { M.zone room.new ≡ M.zone room.old }
-    ensures reply { Replies M.step M.is_trusted M.has_failed M.stands room.old room.new zone.now
+    ensures reply { Replies M.step M.is_trusted M.has_failed M.stands room.old room.new setting.now
         arrived.now at result }
     ensures keeps { KeepsReply M.step M.is_trusted M.is_kept M.stands M.leaves_one_of
-        room.old room.new zone.now arrived.now at result }
+        room.old room.new setting.now arrived.now at result }
 {
     let (head_only, closing) = (arrived.head_only(), arrived.is_closing());
     let message = match arrived {
@@ -42,7 +42,7 @@ pub fn reply<M: Room>(
             return refused(alloc, *refusal, at, head_only, closing);
         }
     };
-    match event_of(alloc, routes, zone, room, message, at, asker) {
+    match event_of(alloc, routes, setting, room, message, at, asker) {
         Ok(event) => room.act(alloc, &event, |answer| {
             render(alloc, answer, at, head_only, closing)
         }),
@@ -52,7 +52,7 @@ pub fn reply<M: Room>(
     }
 }
 
-// The bytes of the answer that tells a refusal.
+// The bytes of the answer that reports a refusal.
 fn refused(
     alloc: Global,
     refusal: Refusal,

@@ -2,7 +2,7 @@
 use Rattle.std.proofs.Common.{ap, sym, ℕ, List, ◌≡◌, ◌∙◌}
 use Rattle.httpdate.specs.Text.{imf_fixdate}
 use Rattle.httpdate.proofs.Theorems.{unix_secs_injective}
-use Rattle.room_http_answers.specs.Replies.{IsDateOf, reply_bytes}
+use Rattle.room_http_answers.specs.ReplyMessages.{IsDateOf, reply_bytes}
 use Rattle.room_http_answers.specs.Laws.{IsOneReply}
 
 IsDateOf-one : (at : ℕ) (s t : List ℕ) → IsDateOf at s → IsDateOf at t → s ≡ t

@@ -1,7 +1,7 @@
 -- Lines of a head.
 use Rattle.std.proofs.Common.{List, append_assoc, codes, IfSome, None, Option, Some, ℕ, ◌++◌, ◌≡◌}
 use Rattle.std.specs.Fmt.{AppendsText, ◌++?◌}
-use Rattle.room_http_answers.specs.Replies.{field, line}
+use Rattle.room_http_answers.specs.ReplyMessages.{field, line}
 
 pub field_added :
     (head new name : List ℕ) (value : Option (List ℕ)) → AppendsText head new (Some name ++? Some (codes ": ") ++? value ++? Some (codes "\r\n"))

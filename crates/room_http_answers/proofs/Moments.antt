@@ -7,7 +7,7 @@ use Rattle.httpdate.specs.Date.{date_text, unix_secs}
 use Rattle.httpdate.specs.declared.date.HttpDate.{HttpDate}
 use Rattle.httpdate.proofs.CalendarLemmas.{days_of_months_all, days_of_months_more, days_of_years_closed}
 use Rattle.room_http_answers.specs.Laws.{IsAlwaysThere}
-use Rattle.room_http_answers.specs.Replies.{IsDateOf, reply_bytes}
+use Rattle.room_http_answers.specs.ReplyMessages.{IsDateOf, reply_bytes}
 
 -- the calendar's day that so many days come before
 record DayAt (n : ℕ) : Type 0 where

@@ -4,23 +4,27 @@ use Rattle.serde_json.specs.Data.{Data, boolean, number, string}
 use Rattle.serde_json.specs.Find.{of_integer}
 use Rattle.serde_json.specs.Written.{compact_text}
 use Rattle.room_place.specs.declared.places.Place.{Place}
-use Rattle.room_types.specs.Codes.{kind_number, outcome_name, status_number}
+use Rattle.room_types.specs.Codes.{kind_number, merged_into, outcome_name, state_number, status_number}
 use Rattle.room_types.specs.Refusals.{refusal_name, refusal_number}
 use Rattle.room_types.specs.declared.answers.Answer.{Answer}
 use Rattle.room_types.specs.declared.answers.Answer.TheVariants as answer
 use Rattle.room_types.specs.declared.answers.Entry.{Entry}
+use Rattle.room_types.specs.declared.answers.History.{History}
 use Rattle.room_types.specs.declared.answers.IncidentLine.{IncidentLine}
 use Rattle.room_types.specs.declared.answers.PointLine.{PointLine}
 use Rattle.room_types.specs.declared.answers.Proposal.{Proposal}
+use Rattle.room_types.specs.declared.answers.Served.{Served}
 use Rattle.room_types.specs.declared.answers.Times.{Times}
 use Rattle.room_types.specs.declared.answers.TimesLine.{TimesLine}
 use Rattle.room_types.specs.declared.answers.VehicleLine.{VehicleLine}
 use Rattle.room_types.specs.declared.needs.Counts.{Counts}
 use Rattle.room_types.specs.declared.refusals.Refusal.{Refusal}
 use Rattle.room_types.specs.declared.tables.Assignment.{Assignment}
+use Rattle.room_types.specs.declared.tables.Call.{Call}
 use Rattle.room_types.specs.declared.tables.Loan.{Loan}
 use Rattle.room_types.specs.declared.tables.Offer.{Offer}
-use Rattle.room_http_answers.specs.Shapes.{whole, or_null, list_of, object_of}
+use Rattle.room_types.specs.declared.tables.Turn.{Turn}
+use Rattle.room_http_answers.specs.JsonShapes.{whole, or_null, list_of, object_of}
 
 -- metres east and north
 abbrev pub place_json : Place → Data
@@ -29,6 +33,9 @@ place_json p = list_of whole (p.east ∷ p.north ∷ [])
 -- a number for each kind of vehicle
 abbrev pub counts_json : Counts → Data
 counts_json n = list_of whole (n.ambulances ∷ n.cars ∷ n.support ∷ [])
+
+abbrev pub served_json : Served → Data
+served_json n = list_of whole (n.ambulances ∷ n.cars ∷ n.support ∷ [])
 
 abbrev pub incident_json : IncidentLine → Data
 incident_json l =
@@ -137,6 +144,51 @@ assignment_json a =
     ∷ (codes "place", place_json a.place)
     ∷ [])
 
+abbrev pub call_json : Call → Data
+call_json c =
+    object_of (
+    (codes "class", whole c.class)
+    ∷ (codes "linked", boolean c.linked)
+    ∷ (codes "moment", whole c.at)
+    ∷ (codes "needs", counts_json c.needs)
+    ∷ (codes "note", string c.note)
+    ∷ (codes "place", place_json c.place)
+    ∷ (codes "position", whole c.position)
+    ∷ (codes "serial", whole c.serial)
+    ∷ [])
+
+abbrev pub turn_json : Turn → Data
+turn_json t =
+    object_of (
+    (codes "acknowledged", or_null whole t.acknowledged)
+    ∷ (codes "ended", or_null whole t.ended)
+    ∷ (codes "hospital", or_null whole t.hospital)
+    ∷ (codes "kind", whole (kind_number t.kind))
+    ∷ (codes "left", or_null whole t.left)
+    ∷ (codes "order", whole t.order)
+    ∷ (codes "ordered", whole t.ordered)
+    ∷ (codes "scene", or_null whole t.scene)
+    ∷ (codes "stood_down", boolean t.stood_down)
+    ∷ (codes "vehicle", string t.callsign)
+    ∷ [])
+
+-- an incident with its calls and its turns; of one that was merged the incident that it went into
+abbrev pub history_json : History → Data
+history_json h =
+    object_of (
+    (codes "calls", list_of call_json h.calls)
+    ∷ (codes "class", whole h.incident.class)
+    ∷ (codes "first_order", or_null whole h.incident.first_order)
+    ∷ (codes "into", or_null whole (merged_into h.incident.state))
+    ∷ (codes "needs", counts_json h.incident.needs)
+    ∷ (codes "number", whole h.incident.number)
+    ∷ (codes "opened", whole h.incident.opened)
+    ∷ (codes "place", place_json h.incident.place)
+    ∷ (codes "served", served_json h.served)
+    ∷ (codes "state", whole (state_number h.incident.state))
+    ∷ (codes "turns", list_of turn_json h.turns)
+    ∷ [])
+
 abbrev pub answer_json : Answer → Data
 answer_json (answer.Called division incident linked) =
     object_of ((codes "division", whole division) ∷ (codes "incident", whole incident)
@@ -145,6 +197,7 @@ answer_json (answer.Incidents lines) =
     object_of ((codes "incidents", list_of incident_json lines) ∷ [])
 answer_json (answer.Proposals lines) =
     object_of ((codes "proposals", list_of proposal_json lines) ∷ [])
+answer_json (answer.Incident history) = history_json history
 answer_json (answer.Mobilised order callsign) =
     object_of ((codes "order", whole order) ∷ (codes "vehicle", string callsign) ∷ [])
 answer_json answer.Done = object_of ((codes "done", boolean true) ∷ [])
@@ -161,6 +214,9 @@ answer_json (answer.Order assignment post status) =
 answer_json (answer.Reported report outcome status) =
     object_of ((codes "number", whole report) ∷ (codes "outcome", string (outcome_name outcome))
     ∷ (codes "status", whole (status_number status)) ∷ [])
+answer_json (answer.LastReport report order) =
+    object_of ((codes "number", whole report) ∷ (codes "order", whole order) ∷ [])
+answer_json (answer.LastSerial serial) = object_of ((codes "serial", whole serial) ∷ [])
 
 abbrev pub refusal_json : Refusal → Data
 refusal_json r = object_of ((codes "error", string (refusal_name r))

@@ -1,8 +1,8 @@
--- What an answer and its moment alone decide.
+-- What follows only from an answer and its moment.
 use Rattle.std.specs.Prelude.{◌≡◌, ◌<◌, ℕ, List, Bool, Result}
 use Rattle.room_types.specs.declared.answers.Answer.{Answer}
 use Rattle.room_types.specs.declared.refusals.Refusal.{Refusal}
-use Rattle.room_http_answers.specs.Replies.{IsReply}
+use Rattle.room_http_answers.specs.ReplyMessages.{IsReply}
 
 -- equal answers at equal moments have equal bytes
 abbrev pub IsOneReply : Type 0

@@ -1,5 +1,5 @@
-pub mod Shapes
+pub mod JsonShapes
 pub mod Contents
 pub mod Objects
-pub mod Replies
+pub mod ReplyMessages
 pub mod Laws

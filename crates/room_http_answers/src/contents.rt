@@ -3,17 +3,17 @@ ghost use Rattle.std.specs.Prelude.{◌≡◌, IfOk};
 ghost use Rattle.room_http_answers.specs.Objects.{Sends};
 ghost use Rattle.room_http_answers.specs.Contents.{answer_json, refusal_json, json_of, content};
 
-use crate::json::Tell;
-use crate::objects::{begin, end, member, single};
+use crate::json::ToJson;
+use crate::objects::{begin, end, member, pair, single};
 use room_types::answers::Answer;
 use room_types::refusals::Refusal;
 use serde::{Described, Serialize, Serializer};
 use std::alloc::{AllocError, Global};
 
-impl Tell for Answer {
+impl ToJson for Answer {
     ghost json = { answer_json };
 
-    fn tell<S: Serializer>(&self, out: &mut S) -> Result<(), S::Error> {
+    fn write_json<S: Serializer>(&self, out: &mut S) -> Result<(), S::Error> {
         match self {
             Answer::Called(division, incident, linked) => {
                 begin(out, 3)?;
@@ -24,19 +24,15 @@ impl Tell for Answer {
             }
             Answer::Incidents(lines) => single(out, "incidents", lines),
             Answer::Proposals(proposals) => single(out, "proposals", proposals),
-            Answer::Mobilised(order, callsign) => {
-                begin(out, 2)?;
-                member(out, "order", order)?;
-                member(out, "vehicle", callsign)?;
-                end(out)
-            }
+            Answer::Incident(history) => history.write_json(out),
+            Answer::Mobilised(order, callsign) => pair(out, "order", order, "vehicle", callsign),
             Answer::Done => single(out, "done", &true),
             Answer::Vehicles(lines) => single(out, "vehicles", lines),
             Answer::Queue(entries) => single(out, "queue", entries),
             Answer::Points(lines) => single(out, "points", lines),
             Answer::Loans(loans) => single(out, "loans", loans),
             Answer::Offers(offers) => single(out, "offers", offers),
-            Answer::Times(times) => times.tell(out),
+            Answer::Times(times) => times.write_json(out),
             Answer::Order(assignment, post, status) => {
                 begin(out, 3)?;
                 member(out, "order", assignment)?;
@@ -51,14 +47,16 @@ impl Tell for Answer {
                 member(out, "status", status)?;
                 end(out)
             }
+            Answer::LastReport(number, order) => pair(out, "number", number, "order", order),
+            Answer::LastSerial(serial) => single(out, "serial", serial),
         }
     }
 }
 
-impl Tell for Refusal {
+impl ToJson for Refusal {
     ghost json = { refusal_json };
 
-    fn tell<S: Serializer>(&self, out: &mut S) -> Result<(), S::Error> {
+    fn write_json<S: Serializer>(&self, out: &mut S) -> Result<(), S::Error> {
         let (name, number) = (self.name(), self.number());
         begin(out, 2)?;
         member(out, "error", &name)?;
@@ -67,7 +65,7 @@ impl Tell for Refusal {
     }
 }
 
-/// An answer or a refusal that is to be told, as serde takes it.
+/// An answer or a refusal that is to be sent, as serde takes it.
 #[derive(Drop)]
 struct Told<'a>(&'a Result<Answer, Refusal>);
 
@@ -78,13 +76,13 @@ impl Described for Told<'_> {
 impl Serialize for Told<'_> {
     fn serialize<S: Serializer>(&self, out: &mut S) -> Result<(), S::Error> {
         match self.0 {
-            Ok(answer) => answer.tell(out),
-            Err(refusal) => refusal.tell(out),
+            Ok(answer) => answer.write_json(out),
+            Err(refusal) => refusal.write_json(out),
         }
     }
 }
 
-/// The content of the message that tells an answer or a refusal. Only memory can be wanting, since
+/// The content of the message that gives an answer or a refusal. Only memory can be wanting, since
 /// no answer has a key or a number that JSON doesn't take.
 #[tactic(auto, unfolding(crate::specs::Contents::content))]
 pub fn content(alloc: Global, answer: &Result<Answer, Refusal>) -> Result<Vec<u8>, AllocError>

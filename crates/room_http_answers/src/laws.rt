@@ -1,4 +1,4 @@
-//! What an answer and its moment alone decide. A law is the contract of a function that does
+//! What follows only from an answer and its moment. A law is the contract of a function that does
 //! nothing.
 ghost use Rattle.room_http_answers.specs.Laws.{IsAlwaysThere, IsOneReply};
 
@@ -7,7 +7,7 @@ pub fn one_reply()
     ensures { IsOneReply }
 {}
 
-/// It has bytes at each moment before the year 10000, the last that a date of HTTP can tell.
+/// It has bytes at each moment before the year 10000, the last that a date of HTTP can express.
 pub fn a_reply_is_there()
     ensures { IsAlwaysThere }
 {}

@@ -5,7 +5,7 @@ ghost use Rattle.serde_json.specs.Data.{Members, no_members, member as one_more,
 ghost use Rattle.serde_json.specs.Events.{members_len};
 ghost use Rattle.room_http_answers.specs.Objects.{Sends, SendsRest};
 
-use crate::json::Tell;
+use crate::json::ToJson;
 use serde::Serializer;
 
 /// Begins an object that gets so many members.
@@ -19,12 +19,12 @@ pub fn begin<S: Serializer>(out: &mut S, count: usize) -> Result<(), S::Error>
 
 /// Sends a member of the object that is begun.
 #[tactic(auto, unfolding(crate::specs::Objects::Sends, crate::specs::Objects::SendsRest))]
-pub fn member<S: Serializer, T: Tell>(out: &mut S, name: &str, value: &T) -> Result<(), S::Error>
+pub fn member<S: Serializer, T: ToJson>(out: &mut S, name: &str, value: &T) -> Result<(), S::Error>
     ensures { OnOk result ((ms : Members) (end : Log) → SendsRest ms (S.written out.new) end
         → SendsRest (one_more name.now (T.json value.now) ms) (S.written out.old) end) }
 {
     out.key(name)?;
-    value.tell(out)
+    value.write_json(out)
 }
 
 /// Ends the object.
@@ -36,11 +36,29 @@ pub fn end<S: Serializer>(out: &mut S) -> Result<(), S::Error>
 }
 
 /// An object of one member.
-pub fn single<S: Serializer, T: Tell>(out: &mut S, name: &str, value: &T) -> Result<(), S::Error>
+pub fn single<S: Serializer, T: ToJson>(out: &mut S, name: &str, value: &T) -> Result<(), S::Error>
     ensures { OnOk result (Sends (object (one_more name.now (T.json value.now) no_members))
         (S.written out.old) (S.written out.new)) }
 {
     begin(out, 1)?;
     member(out, name, value)?;
+    end(out)
+}
+
+/// An object of two members.
+pub fn pair<S: Serializer, T: ToJson, U: ToJson>(
+    out: &mut S,
+    first: &str,
+    value: &T,
+    second: &str,
+    other: &U,
+) -> Result<(), S::Error>
+    ensures { OnOk result (Sends (object (one_more first.now (T.json value.now)
+        (one_more second.now (U.json other.now) no_members)))
+        (S.written out.old) (S.written out.new)) }
+{
+    begin(out, 2)?;
+    member(out, first, value)?;
+    member(out, second, other)?;
     end(out)
 }

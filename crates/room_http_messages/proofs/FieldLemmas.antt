@@ -8,9 +8,9 @@ use Rattle.std.proofs.lemmas.List.Elements.{filter-append, All-get_or}
 use Rattle.httparse.specs.declared.spans.Span.{Span}
 use Rattle.httparse.specs.declared.spans.HeaderSpan.{HeaderSpan}
 use Rattle.httparse.specs.Spans.{span_bytes, header_bytes, IsWithin, IsHeaderWithin}
-use Rattle.room_http_messages.specs.declared.fields.Found.{Found}
-use Rattle.room_http_messages.specs.declared.fields.Found.TheVariants.{Nowhere, Once, Repeated}
-use Rattle.room_http_messages.specs.Fields.{is_named, values_of, found_with, AreWithin, FoundIs}
+use Rattle.room_http_messages.specs.declared.head_fields.Found.{Found}
+use Rattle.room_http_messages.specs.declared.head_fields.Found.TheVariants.{Nowhere, Once, Repeated}
+use Rattle.room_http_messages.specs.HeadFields.{is_named, values_of, found_with, AreWithin, FoundIs}
 
 -- one field more
 pub values_of-named : (name : List ℕ) (fields : List (List ℕ × List ℕ)) (field : List ℕ × List ℕ)

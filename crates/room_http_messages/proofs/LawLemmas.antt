@@ -1,4 +1,4 @@
--- What the stream alone decides.
+-- What the stream decides by itself.
 use Rattle.std.proofs.Common.{◌≡◌, ◌∙◌, sym, ap, subst, refl, arith, ℕ, ◌+◌, ◌-◌, ◌<◌, ◌≤◌, List, [], ◌∷◌, ◌++◌, length, take, drop, append-nil, length-append, ◌⊎◌, inl, inr, Bool, false, None, All}
 use Rattle.std.proofs.lemmas.List.{take_at, drop_at, take-append-drop}
 use Rattle.std.proofs.lemmas.Bool.{cases_lt}
@@ -8,8 +8,8 @@ use Rattle.httparse.specs.Grammar.{RequestHead, print_request, HasNoRequest}
 use Rattle.httparse.proofs.GrammarLemmas.{request_unique}
 use Rattle.room_types.specs.declared.refusals.Refusal.{Refusal}
 use Rattle.room_http_messages.specs.declared.limits.TheConstants.{HEAD_LIMIT, FIELD_LIMIT}
-use Rattle.room_http_messages.specs.declared.unread.Unread.{Unread}
-use Rattle.room_http_messages.specs.declared.unread.Unread.TheVariants.{End, Cut, ReadFault, ReadsSpent, Refused}
+use Rattle.room_http_messages.specs.declared.read_faults.Unread.{Unread}
+use Rattle.room_http_messages.specs.declared.read_faults.Unread.TheVariants.{End, Cut, ReadFault, ReadsSpent, Refused}
 use Rattle.room_http_messages.specs.Laws.{IsOneMessage, IsNoEnd, IsOneSplit, IsOneReading}
 use Rattle.room_http_messages.specs.Messages.{WholeMessage, window, HasHead, HasMessage, IsRefused, no_head, too_long, by_rule, IsPart, in_head, in_body, EndsWith, Splits, closes}
 use Rattle.room_http_messages.proofs.LookLemmas.{head_not_empty}

@@ -3,8 +3,8 @@ use Rattle.std.proofs.Common.{◌≡◌, ◌∙◌, ap, refl, arith, ℕ, ◌+�
 use Rattle.std.specs.Io.KnownBytes.{prepend_known, Keeps, Consumes, IsAtEnd}
 use Rattle.std.proofs.lemmas.List.{nil_from_length, drop-append-le}
 use Rattle.httparse.specs.Grammar.{print_request}
-use Rattle.room_http_messages.specs.declared.unread.Unread.{Unread}
-use Rattle.room_http_messages.specs.declared.unread.Unread.TheVariants.{End, Cut, ReadFault, ReadsSpent, Refused}
+use Rattle.room_http_messages.specs.declared.read_faults.Unread.{Unread}
+use Rattle.room_http_messages.specs.declared.read_faults.Unread.TheVariants.{End, Cut, ReadFault, ReadsSpent, Refused}
 use Rattle.room_http_messages.specs.declared.messages.Layout.{Layout}
 use Rattle.room_http_messages.specs.Messages.{WholeMessage, HasMessage, IsPart}
 use Rattle.room_http_messages.specs.Readings.{StopsAs, SaysOf, FirstIs, end_of}

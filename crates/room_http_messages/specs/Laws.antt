@@ -1,6 +1,6 @@
--- What the stream alone decides, however it was cut into pieces.
+-- What the stream decides by itself, however it was cut into pieces.
 use Rattle.std.specs.Prelude.{◌≡◌, ℕ, ◌≤◌, List, ◌++◌, length}
-use Rattle.room_http_messages.specs.declared.unread.Unread.{Unread}
+use Rattle.room_http_messages.specs.declared.read_faults.Unread.{Unread}
 use Rattle.room_http_messages.specs.Messages.{WholeMessage, HasMessage, EndsWith, Splits}
 
 -- a stream begins with at most one message

@@ -7,10 +7,10 @@ use Rattle.httparse.specs.Spans.{IsWithin, span_bytes}
 use Rattle.room_http_messages.specs.declared.limits.TheConstants.{INBOX_ROOM}
 use Rattle.room_http_messages.specs.declared.messages.Layout.{Layout}
 use Rattle.room_http_messages.specs.declared.messages.Message.{Message}
-use Rattle.room_http_messages.specs.declared.looks.Look.{Look}
-use Rattle.room_http_messages.specs.declared.looks.Look.TheVariants.{Whole, Refused, Wants}
-use Rattle.room_http_messages.specs.Fields.{Fields, values_of, only_value}
-use Rattle.room_http_messages.specs.Connection.{is_closing}
+use Rattle.room_http_messages.specs.declared.message_prefixes.MessagePrefix.{MessagePrefix}
+use Rattle.room_http_messages.specs.declared.message_prefixes.MessagePrefix.TheVariants.{Whole, Refused, Wants}
+use Rattle.room_http_messages.specs.HeadFields.{Fields, values_of, only_value}
+use Rattle.room_http_messages.specs.ConnectionOptions.{is_closing}
 use Rattle.room_http_messages.specs.Messages.{WholeMessage, is_head, closes, terminal_of, HasMessage, IsRefused, IsPart}
 
 -- the parts of a message that is in the bytes
@@ -60,7 +60,7 @@ IsWhole bytes layout =
 
 -- What a look at the first bytes of a stream says of it, whatever bytes follow: the message at its
 -- front, the refusal, or the number of bytes below which it stays a part of a message.
-abbrev pub LookIs : List ℕ → Look → Type 0
+abbrev pub LookIs : List ℕ → MessagePrefix → Type 0
 LookIs bytes (Whole layout) = IsWhole bytes layout
 LookIs bytes (Refused r head_only) = (more : List ℕ) → IsRefused (bytes ++ more) r head_only
 LookIs bytes (Wants count) =

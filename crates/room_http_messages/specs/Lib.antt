@@ -1,5 +1,5 @@
-pub mod Fields
-pub mod Connection
+pub mod HeadFields
+pub mod ConnectionOptions
 pub mod Rules
 pub mod Messages
 pub mod Layouts

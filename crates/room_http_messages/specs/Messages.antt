@@ -5,10 +5,10 @@ use Rattle.httparse.specs.Spans.{RequestOverflows}
 use Rattle.room_types.specs.declared.refusals.Refusal.{Refusal}
 use Rattle.room_types.specs.declared.refusals.Refusal.TheVariants.{BadMessage, HeadTooLong}
 use Rattle.room_http_messages.specs.declared.limits.TheConstants.{HEAD_LIMIT, FIELD_LIMIT}
-use Rattle.room_http_messages.specs.declared.unread.Unread.{Unread}
-use Rattle.room_http_messages.specs.declared.unread.Unread.TheVariants.{End, Cut, ReadFault, ReadsSpent, Refused}
-use Rattle.room_http_messages.specs.Fields.{values_of, only_value}
-use Rattle.room_http_messages.specs.Connection.{is_closing}
+use Rattle.room_http_messages.specs.declared.read_faults.Unread.{Unread}
+use Rattle.room_http_messages.specs.declared.read_faults.Unread.TheVariants.{End, Cut, ReadFault, ReadsSpent, Refused}
+use Rattle.room_http_messages.specs.HeadFields.{values_of, only_value}
+use Rattle.room_http_messages.specs.ConnectionOptions.{is_closing}
 use Rattle.room_http_messages.specs.Rules.{head_fields, fault_of, body_length}
 
 -- a message as it was sent

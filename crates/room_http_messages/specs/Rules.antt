@@ -8,13 +8,13 @@ use Rattle.httparse.specs.Spans.{name_and_value}
 use Rattle.room_types.specs.declared.refusals.Refusal.{Refusal}
 use Rattle.room_types.specs.declared.refusals.Refusal.TheVariants.{BadMessage, BodyTooLong, Expectation, Coding}
 use Rattle.room_http_messages.specs.declared.limits.TheConstants.{BODY_LIMIT}
-use Rattle.room_http_messages.specs.Fields.{Fields, values_of, is_there}
+use Rattle.room_http_messages.specs.HeadFields.{Fields, values_of, is_there}
 
 -- the fields of a head, as names and values
 abbrev pub head_fields : RequestHead → Fields
 head_fields h = map name_and_value h.fields
 
--- digits alone
+-- only digits
 abbrev pub is_numeral : List ℕ → Bool
 is_numeral value = nat_lt 0 (length value) && list_all is_ascii_digit value
 
@@ -24,7 +24,7 @@ has_host_fault minor [] = minor == 1
 has_host_fault minor (host ∷ []) = false
 has_host_fault minor (host ∷ other ∷ more) = true
 
--- there is at most one length, of digits alone
+-- there is at most one length, of only digits
 abbrev pub has_length_fault : List (List ℕ) → Bool
 has_length_fault [] = false
 has_length_fault (value ∷ []) = not (is_numeral value)

@@ -2,10 +2,10 @@
 ghost use Rattle.std.specs.Prelude.{◌≡◌, ◌≤◌, ◌||◌, ◌==◌, map, length, reverse};
 ghost use Rattle.httparse.specs.Grammar.{skip_ows};
 ghost use Rattle.httparse.specs.Spans.{header_bytes, IsHeaderWithin};
-ghost use Rattle.room_http_messages.specs.Connection.{asks_for_close, has_option, is_close_field, is_closing, is_option};
-ghost use Rattle.room_http_messages.specs.Fields.{AreWithin};
+ghost use Rattle.room_http_messages.specs.ConnectionOptions.{asks_for_close, has_option, is_close_field, is_closing, is_option};
+ghost use Rattle.room_http_messages.specs.HeadFields.{AreWithin};
 
-use crate::fields::has_name;
+use crate::head_fields::has_name;
 use httparse::spans::HeaderSpan;
 
 /// The bytes from the first that is no space or tab.
@@ -46,7 +46,7 @@ fn has_option(list: &[u8], option: &[u8]) -> bool
 }
 
 /// Whether a field is a Connection field with the option `close`.
-#[tactic(auto, unfolding(crate::specs::Connection::is_close_field))]
+#[tactic(auto, unfolding(crate::specs::ConnectionOptions::is_close_field))]
 fn is_close_field(buf: &[u8], header: HeaderSpan) -> bool
     requires { IsHeaderWithin (length buf.now) header }
     ensures { result ≡ is_close_field (header_bytes buf.now header) }

@@ -1,4 +1,4 @@
-//! What the stream alone decides, however it was cut into pieces. Each law is the contract of a
+//! What the stream decides by itself, however it was cut into pieces. Each law is the contract of a
 //! function that does nothing.
 ghost use Rattle.room_http_messages.specs.Laws.{IsNoEnd, IsOneMessage, IsOneReading, IsOneSplit};
 

@@ -5,15 +5,15 @@
 #![tactic(auto)]
 
 pub mod connection;
-pub mod fields;
+pub mod head_fields;
 pub mod inbox;
 pub mod laws;
 pub mod limits;
-pub mod looks;
+pub mod message_prefixes;
+pub mod message_reader;
 pub mod messages;
-pub mod reading;
+pub mod read_faults;
 pub mod rules;
 pub mod sinks;
 pub mod sources;
-pub mod unread;
-pub mod wires;
+pub mod standard_wires;

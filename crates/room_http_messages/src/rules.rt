@@ -2,10 +2,10 @@
 ghost use Rattle.std.specs.Prelude.{◌≡◌, ◌≤◌, codes, map, min, MatchOption, MatchResult, None, Some, true, false};
 ghost use Rattle.std.specs.Str.Parse.{digits_value};
 ghost use Rattle.httparse.specs.Spans.{header_bytes};
-ghost use Rattle.room_http_messages.specs.Fields.{AreWithin, values_of};
+ghost use Rattle.room_http_messages.specs.HeadFields.{AreWithin, values_of};
 ghost use Rattle.room_http_messages.specs.Rules.{body_length, fault_of, has_host_fault, has_length_fault, is_numeral, length_of};
 
-use crate::fields::{Found, find_field, has_field};
+use crate::head_fields::{Found, find_field, has_field};
 use crate::limits::BODY_LIMIT;
 use httparse::spans::HeaderSpan;
 use room_types::refusals::Refusal;
@@ -13,7 +13,7 @@ use room_types::refusals::Refusal;
 /// What stands for every number above the limit of a body.
 const TOO_LONG: usize = BODY_LIMIT + 1;
 
-/// The number that digits alone write, or `TOO_LONG` where it is above the limit of a body. So any
+/// The number that only digits write, or `TOO_LONG` where it is above the limit of a body. So any
 /// number of digits is read.
 fn numeral(value: &[u8]) -> Option<usize>
     ensures { MatchOption result (is_numeral value.now ≡ false)
@@ -64,7 +64,7 @@ fn announced_length(buf: &[u8], headers: &[HeaderSpan]) -> Option<usize>
 ///   more than one (RFC 9112, section 3.2);
 /// - `Coding`, at any Transfer-Encoding field (our profile: RFC 9112, section 6.1, lets a server
 ///   refuse the codings that it doesn't know);
-/// - `BadMessage`, at more than one Content-Length field, or one that is not digits alone (our
+/// - `BadMessage`, at more than one Content-Length field, or one that is not only digits (our
 ///   profile: RFC 9110, section 8.6, lets a recipient take equal values as one; here they are
 ///   refused);
 /// - `Expectation`, at any Expect field of a request of HTTP/1.1; one of HTTP/1.0 is not looked at

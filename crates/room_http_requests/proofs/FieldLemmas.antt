@@ -13,7 +13,7 @@ use Rattle.serde_json.specs.declared.value.Value.{Value}
 use Rattle.room_types.specs.Codes.{Decodes, button_name}
 use Rattle.room_types.specs.declared.codes.Button.{Button}
 use Rattle.room_types.specs.declared.codes.Button.TheVariants.{Position, Mobile, Scene, Leave, Hospital, Return, Home}
-use Rattle.room_http_requests.specs.Fields.{button_of, buttons, fields_of, members_count, needs_at, needs_of}
+use Rattle.room_http_requests.specs.BodyFields.{button_of, buttons, fields_of, members_count, needs_at, needs_of}
 
 -- the members of a map are as many as its entries
 pub members_count-view : (entries : List (String Global × Value))

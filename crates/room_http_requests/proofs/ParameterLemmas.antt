@@ -27,7 +27,7 @@ pub unwrap_or-now : (text : Option (Bor (List ℕ))) (other : Bor (List ℕ))
 unwrap_or-now None other = refl
 unwrap_or-now (Some t) other = refl
 
--- digits alone have a number
+-- only digits have a number
 pub numerals : IsNumeralModel (λ text. are_digits text ≡ true) (digits_value 10)
 numerals = numerals_by_value _ (search rules)
 

@@ -1,5 +1,5 @@
 -- That what a request asks for is of its target's role.
-use Rattle.std.proofs.Common.{◌≡◌, ◌≤◌, ℕ, List, Bool, true, false, refl}
+use Rattle.std.proofs.Common.{◌≡◌, ◌&&◌, ◌≤◌, ℕ, List, Bool, true, false, refl}
 use Rattle.std.specs.Prelude.{if◌then◌else◌, Option, None, Some, IfSome, option_and_then, option_map}
 use Rattle.std.proofs.lemmas.Bool.{and_parts}
 use borrow.Author.Tests.{leb-true}
@@ -15,12 +15,12 @@ use Rattle.room_http_requests.specs.declared.targets.Target.TheVariants as targe
 use Rattle.room_model.specs.Events.{IsNumbered}
 use Rattle.room_model.specs.Room.{Room}
 use Rattle.room_model.specs.Step.{is_crews, is_desks, is_for, is_positions}
-use Rattle.room_http_requests.specs.Asking.{request_by}
-use Rattle.room_http_requests.specs.Bodies.{and_then, call_form, exactly, duty, lend, merge, mobilise, needs_change, point_form, posted, press, standby}
-use Rattle.room_http_requests.specs.Fields.{fields_of, has_members, number_at, number_in}
+use Rattle.room_http_requests.specs.RequestAsks.{request_by}
+use Rattle.room_http_requests.specs.Bodies.{and_then, call_form, exactly, duty, lend, merge, mobilise, needs_change, point_form, ask_with_body, press, standby}
+use Rattle.room_http_requests.specs.BodyFields.{fields_of, has_members, number_at, number_in}
 use Rattle.room_http_requests.specs.Roles.{is_known, is_of, role_of}
-use Rattle.room_http_requests.specs.declared.asking.Request.{Request}
-use Rattle.room_http_requests.specs.declared.asking.Request.TheVariants as request
+use Rattle.room_http_requests.specs.declared.request_asks.Request.{Request}
+use Rattle.room_http_requests.specs.declared.request_asks.Request.TheVariants as request
 use Rattle.room_http_requests.specs.declared.roles.Role.{Role}
 use Rattle.room_http_requests.specs.declared.roles.Role.TheVariants as role
 
@@ -92,6 +92,7 @@ abbrev pub role_asks : Role → Ask → Bool
 role_asks role.Desk a = is_desks a
 role_asks role.Position a = is_positions a
 role_asks role.Crew a = is_crews a
+role_asks role.Sender a = is_crews a && is_positions a
 
 -- the ask is of the target's role, and the number of a report is from 1
 abbrev pub IsAskOf : Target → Ask → Type 0
@@ -107,7 +108,7 @@ press_numbered fields =
     some_exactly _ _ _ _ (some_then _ (λ n. 1 ≤ n) _ _ (numbered 1 2147483647 _ fields)
     (λ n least. some_next _ _ _ (λ button. some_next _ _ _ (λ order. some_next _ _ _ (λ place. least)))))
 
-posted_is : (t : Target) (fields : Data) → IfSome (posted t fields) (IsAskOf t)
+posted_is : (t : Target) (fields : Data) → IfSome (ask_with_body t fields) (IsAskOf t)
 unfolding mobilise needs_change merge standby duty lend point_form
 posted_is target.Call fields = some_map (IsAskOf target.Call) (call_form fields) ask.Call (some_any (λ form. IsAskOf target.Call (ask.Call form)) _ (λ form. (refl, tt)))
 posted_is (target.Mobilise n) fields = some_exactly (IsAskOf (target.Mobilise n)) _ _ _ (some_next (IsAskOf (target.Mobilise n)) _ _ (λ vehicle. (refl, tt)))
@@ -130,13 +131,14 @@ posted_is target.Report fields = some_map (IsAskOf target.Report) (press fields)
 posted_is other fields = tt
 
 fields_role : (t : Target) (fields : Option Data)
-    → IfSome (option_and_then (posted t) fields) (IsAskOf t)
+    → IfSome (option_and_then (ask_with_body t) fields) (IsAskOf t)
 fields_role t None = tt
 fields_role t (Some fields) = posted_is t fields
 
 request_is : (t : Target) (body : List ℕ) → IfSome (request_by t body) (IsRequestOf t)
 unfolding request_by
 request_is target.Incidents body = (refl, tt)
+request_is (target.Incident n) body = (refl, tt)
 request_is (target.Propose n) body = (refl, tt)
 request_is target.Vehicles body = (refl, tt)
 request_is target.Queue body = (refl, tt)
@@ -145,7 +147,8 @@ request_is target.Loans body = (refl, tt)
 request_is target.Offers body = (refl, tt)
 request_is (target.Times day) body = tt
 request_is target.Order body = (refl, tt)
-request_is t body = some_map (IsRequestOf t) (option_and_then (posted t) (fields_of body)) request.Ask (fields_role t (fields_of body))
+request_is target.Last body = (refl, tt)
+request_is t body = some_map (IsRequestOf t) (option_and_then (ask_with_body t) (fields_of body)) request.Ask (fields_role t (fields_of body))
 
 -- what is asked is of its target's role
 pub asked_is : (t : Target) (body : List ℕ) (a : Ask) → request_by t body ≡ Some (request.Ask a)
@@ -158,4 +161,6 @@ pub addressed : (of : Role) (a : Ask) (who : Who) (r : Room) → role_asks of a 
 addressed role.Desk a (Desk d) r asks may = rw asks refl
 addressed role.Position a (Position p) r asks may = asks
 addressed role.Crew a (Crew c) r asks may = rw asks refl
+addressed role.Sender a (Position p) r asks may = (and_parts _ _ asks).1
+addressed role.Sender a (Crew c) r asks may = rw (and_parts (is_crews a) _ asks).0 refl
 addressed of a who r asks may = cc

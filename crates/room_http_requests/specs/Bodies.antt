@@ -8,7 +8,7 @@ use Rattle.room_types.specs.declared.asks.CallForm.{CallForm}
 use Rattle.room_types.specs.declared.asks.Press.{Press}
 use Rattle.room_http_requests.specs.declared.targets.Target.{Target}
 use Rattle.room_http_requests.specs.declared.targets.Target.TheVariants as target
-use Rattle.room_http_requests.specs.Fields.{button_at, callsign_at, has_members, needs_at, note_at, number_at, place_at, point_at}
+use Rattle.room_http_requests.specs.BodyFields.{button_at, callsign_at, has_members, needs_at, note_at, number_at, place_at, point_at}
 
 -- what is found next, of what was found
 unfoldable pub and_then : {A B : Type 0} → Option A → (A → Option B) → Option B
@@ -94,23 +94,23 @@ press fields = exactly 4 fields (
     Some (record { number = number; button = button; order = order; place = place }))))))
 
 -- what the fields ask for of a target; none of one that takes no body
-abbrev pub posted : Target → Data → Option Ask
-posted target.Call fields = option_map ask.Call (call_form fields)
-posted (target.Mobilise n) fields = mobilise n fields
-posted (target.Needs n) fields = needs_change n fields
-posted (target.Merge n) fields = merge n fields
-posted (target.Close n) fields = no_fields (ask.Close n) fields
-posted (target.StandDown c) fields = no_fields (ask.StandDown c) fields
-posted (target.Standby c) fields = standby c fields
-posted (target.Duty c) fields = duty c fields
-posted (target.Off c) fields = no_fields (ask.Off c) fields
-posted (target.Lend c) fields = lend c fields
-posted (target.Withdraw c) fields = no_fields (ask.Withdraw c) fields
-posted (target.Decline c) fields = no_fields (ask.Decline c) fields
-posted (target.Accept c) fields = no_fields (ask.Accept c) fields
-posted (target.Recall c) fields = no_fields (ask.Recall c) fields
-posted (target.GiveBack c) fields = no_fields (ask.GiveBack c) fields
-posted (target.Clear c n) fields = no_fields (ask.Clear c n) fields
-posted (target.SetPoint n) fields = point_form n fields
-posted target.Report fields = option_map ask.Report (press fields)
-posted other fields = None
+abbrev pub ask_with_body : Target → Data → Option Ask
+ask_with_body target.Call fields = option_map ask.Call (call_form fields)
+ask_with_body (target.Mobilise n) fields = mobilise n fields
+ask_with_body (target.Needs n) fields = needs_change n fields
+ask_with_body (target.Merge n) fields = merge n fields
+ask_with_body (target.Close n) fields = no_fields (ask.Close n) fields
+ask_with_body (target.StandDown c) fields = no_fields (ask.StandDown c) fields
+ask_with_body (target.Standby c) fields = standby c fields
+ask_with_body (target.Duty c) fields = duty c fields
+ask_with_body (target.Off c) fields = no_fields (ask.Off c) fields
+ask_with_body (target.Lend c) fields = lend c fields
+ask_with_body (target.Withdraw c) fields = no_fields (ask.Withdraw c) fields
+ask_with_body (target.Decline c) fields = no_fields (ask.Decline c) fields
+ask_with_body (target.Accept c) fields = no_fields (ask.Accept c) fields
+ask_with_body (target.Recall c) fields = no_fields (ask.Recall c) fields
+ask_with_body (target.GiveBack c) fields = no_fields (ask.GiveBack c) fields
+ask_with_body (target.Clear c n) fields = no_fields (ask.Clear c n) fields
+ask_with_body (target.SetPoint n) fields = point_form n fields
+ask_with_body target.Report fields = option_map ask.Report (press fields)
+ask_with_body other fields = None

@@ -3,8 +3,8 @@
 pub mod Parameters
 pub mod Paths
 pub mod Targets
-pub mod Examples
-pub mod Asking
+pub mod TargetExamples
+pub mod RequestAsks
 pub mod Bodies
-pub mod Fields
+pub mod BodyFields
 pub mod Roles

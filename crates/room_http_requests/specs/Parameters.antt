@@ -25,11 +25,11 @@ is_slash byte = byte == 47
 abbrev pub segment_at : ℕ → List ℕ → List ℕ
 segment_at i target = unwrap_or (slice_get (slice_split is_slash target) i) []
 
--- digits alone
+-- only digits
 abbrev pub are_digits : List ℕ → Bool
 are_digits text = list_all is_ascii_digit text
 
--- digits alone, the first of them no zero (49 is the code of 1)
+-- only digits, the first of them no zero (49 is the code of 1)
 abbrev pub is_numeral : List ℕ → Bool
 is_numeral text = nat_le 49 (slice_index text 0) && are_digits text
 

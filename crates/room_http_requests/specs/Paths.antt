@@ -1,6 +1,6 @@
 -- The paths of the room: their patterns, the methods that they take, and how a target is looked up
 -- among them.
-use Rattle.std.specs.Prelude.{ℕ, List, [], codes, Bool, false, ◌||◌, bytes_eq, is_none, Result, Ok, Err, Option, option_map}
+use Rattle.std.specs.Prelude.{ℕ, List, [], codes, Bool, false, true, ◌||◌, bytes_eq, is_none, Result, Ok, Err, Option, option_map}
 use Rattle.std.specs.List.{fold}
 use Rattle.matchit.specs.Order.{placed}
 use Rattle.matchit.specs.Route.{Scan, parse_route}
@@ -11,13 +11,14 @@ use Rattle.matchit.specs.declared.error.InsertError.{InsertError}
 use Rattle.room_types.specs.declared.refusals.Allow.{Allow}
 use Rattle.room_types.specs.declared.refusals.Allow.TheVariants.{GetHead, Post}
 use Rattle.room_http_requests.specs.declared.paths.Path.{Path}
-use Rattle.room_http_requests.specs.declared.paths.Path.TheVariants.{Call, Incidents, Propose, Mobilise, Needs, Merge, Close, Vehicles, StandDown, Standby, Duty, Off, Lend, Withdraw, Decline, Accept, Recall, GiveBack, Queue, Clear, Points, SetPoint, Loans, Offers, Times, Order, Report}
+use Rattle.room_http_requests.specs.declared.paths.Path.TheVariants.{Call, Incidents, Incident, Propose, Mobilise, Needs, Merge, Close, Vehicles, StandDown, Standby, Duty, Off, Lend, Withdraw, Decline, Accept, Recall, GiveBack, Queue, Clear, Points, SetPoint, Loans, Offers, Times, Order, Report, Last}
 use Rattle.room_http_requests.specs.declared.paths.TheConstants.{PATHS}
 
 -- the pattern of a path
 abbrev pub pattern_of : Path → List ℕ
 pattern_of Call = codes "/call"
 pattern_of Incidents = codes "/incidents"
+pattern_of Incident = codes "/incidents/{n}"
 pattern_of Propose = codes "/incidents/{n}/propose"
 pattern_of Mobilise = codes "/incidents/{n}/mobilise"
 pattern_of Needs = codes "/incidents/{n}/needs"
@@ -43,10 +44,18 @@ pattern_of Offers = codes "/offers"
 pattern_of Times = codes "/times/{day}"
 pattern_of Order = codes "/order"
 pattern_of Report = codes "/report"
+pattern_of Last = codes "/last"
+
+-- the path is one of history, which is served only where that is asked for
+abbrev pub is_of_history : Path → Bool
+is_of_history Incident = true
+is_of_history Last = true
+is_of_history path = false
 
 -- the methods that a path takes
 abbrev pub allow_of : Path → Allow
 allow_of Incidents = GetHead
+allow_of Incident = GetHead
 allow_of Propose = GetHead
 allow_of Vehicles = GetHead
 allow_of Queue = GetHead
@@ -55,6 +64,7 @@ allow_of Loans = GetHead
 allow_of Offers = GetHead
 allow_of Times = GetHead
 allow_of Order = GetHead
+allow_of Last = GetHead
 allow_of path = Post
 
 -- a method is one of those; methods are compared with case

@@ -8,13 +8,15 @@ use Rattle.room_types.specs.declared.asks.Who.TheVariants as who
 use Rattle.room_http_requests.specs.declared.targets.Target.{Target}
 use Rattle.room_http_requests.specs.declared.targets.Target.TheVariants as target
 use Rattle.room_http_requests.specs.declared.roles.Role.{Role}
-use Rattle.room_http_requests.specs.declared.roles.Role.TheVariants.{Desk, Position, Crew}
+use Rattle.room_http_requests.specs.declared.roles.Role.TheVariants.{Desk, Position, Crew, Sender}
 
--- calls are a position's, orders and reports a crew's, all else a desk's
+-- calls are a position's, orders and reports a crew's, the last numbers are of who numbers what it
+-- sends, all else is a desk's
 abbrev pub role_of : Target → Role
 role_of target.Call = Position
 role_of target.Order = Crew
 role_of target.Report = Crew
+role_of target.Last = Sender
 role_of other = Desk
 
 -- the terminal has the role
@@ -22,6 +24,8 @@ abbrev pub is_of : Role → Who → Bool
 is_of Desk (who.Desk division) = true
 is_of Position (who.Position number) = true
 is_of Crew (who.Crew callsign) = true
+is_of Sender (who.Position number) = true
+is_of Sender (who.Crew callsign) = true
 is_of role other = false
 
 -- the room knows the terminal: its plan has the desk's division, and the crew's vehicle is there

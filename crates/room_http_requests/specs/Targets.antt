@@ -1,19 +1,21 @@
 -- What a target names: a path, with the parameters that stand in it.
-use Rattle.std.specs.Prelude.{ℕ, List, Option, Some, None, option_map, option_and_then, Result, Ok, Err, if◌then◌else◌}
+use Rattle.std.specs.Prelude.{Bool, not, ◌||◌, ℕ, List, Option, Some, None, option_map, option_and_then, Result, Ok, Err, if◌then◌else◌}
 use Rattle.room_types.specs.declared.refusals.Refusal.{Refusal}
 use Rattle.room_types.specs.declared.refusals.Refusal.TheVariants.{NoPath, WrongMethod}
+use Rattle.room_types_keyed.specs.Keyed.{keep}
 use Rattle.room_http_time.specs.Dates.{day_of}
 use Rattle.room_http_requests.specs.Parameters.{callsign_of, number_of, point_number_of, segment_at, text_of}
-use Rattle.room_http_requests.specs.Paths.{allow_of, is_allowed, path_at}
+use Rattle.room_http_requests.specs.Paths.{allow_of, is_allowed, is_of_history, path_at}
 use Rattle.room_http_requests.specs.declared.paths.Path.{Path}
 use Rattle.room_http_requests.specs.declared.paths.Path.TheVariants as path
 use Rattle.room_http_requests.specs.declared.targets.Target.{Target}
-use Rattle.room_http_requests.specs.declared.targets.Target.TheVariants.{Call, Incidents, Propose, Mobilise, Needs, Merge, Close, Vehicles, StandDown, Standby, Duty, Off, Lend, Withdraw, Decline, Accept, Recall, GiveBack, Queue, Clear, Points, SetPoint, Loans, Offers, Times, Order, Report}
+use Rattle.room_http_requests.specs.declared.targets.Target.TheVariants.{Call, Incidents, Incident, Propose, Mobilise, Needs, Merge, Close, Vehicles, StandDown, Standby, Duty, Off, Lend, Withdraw, Decline, Accept, Recall, GiveBack, Queue, Clear, Points, SetPoint, Loans, Offers, Times, Order, Report, Last}
 
 -- the path of a target, without its parameters
 abbrev pub path_of : Target → Path
 path_of Call = path.Call
 path_of Incidents = path.Incidents
+path_of (Incident number) = path.Incident
 path_of (Propose number) = path.Propose
 path_of (Mobilise number) = path.Mobilise
 path_of (Needs number) = path.Needs
@@ -39,6 +41,7 @@ path_of Offers = path.Offers
 path_of (Times day) = path.Times
 path_of Order = path.Order
 path_of Report = path.Report
+path_of Last = path.Last
 
 -- the report that a callsign and a number name
 abbrev pub cleared : List ℕ → List ℕ → Option Target
@@ -50,6 +53,7 @@ cleared callsign number =
 abbrev pub named_by : Path → List ℕ → Option Target
 named_by path.Call target = Some Call
 named_by path.Incidents target = Some Incidents
+named_by path.Incident target = option_map Incident (number_of (segment_at 2 target))
 named_by path.Propose target = option_map Propose (number_of (segment_at 2 target))
 named_by path.Mobilise target = option_map Mobilise (number_of (segment_at 2 target))
 named_by path.Needs target = option_map Needs (number_of (segment_at 2 target))
@@ -75,6 +79,7 @@ named_by path.Offers target = Some Offers
 named_by path.Times target = option_map Times (day_of (segment_at 2 target))
 named_by path.Order target = Some Order
 named_by path.Report target = Some Report
+named_by path.Last target = Some Last
 
 -- what a target names, if it names anything
 unfoldable pub target_of : List ℕ → Option Target
@@ -91,6 +96,11 @@ abbrev pub known_by : List ℕ → Option Target → Result Target Refusal
 known_by method (Some target) = by_method method target
 known_by method None = Err NoPath
 
--- what a request names by its method and target: a target that names nothing is refused first
-abbrev pub routed : List ℕ → List ℕ → Result Target Refusal
-routed method bytes = known_by method (target_of bytes)
+-- a target is served: one of history only where that is asked for
+abbrev pub is_served : Bool → Target → Bool
+is_served history target = history || not (is_of_history (path_of target))
+
+-- what a request names by its method and target: a target that names nothing, or is not served, is
+-- refused first
+abbrev pub routed : Bool → List ℕ → List ℕ → Result Target Refusal
+routed history method bytes = known_by method (keep (is_served history) (target_of bytes))

@@ -1,9 +1,9 @@
 //! What the fields of a body ask for, of each target that takes a body.
 ghost use Rattle.std.specs.Prelude.{◌≡◌};
 ghost use Rattle.serde_json.specs.View.{view};
-ghost use Rattle.room_http_requests.specs.Bodies.{call_form, duty, lend, merge, mobilise, needs_change, no_fields, point_form, posted, press, standby};
+ghost use Rattle.room_http_requests.specs.Bodies.{call_form, duty, lend, merge, mobilise, needs_change, no_fields, point_form, ask_with_body, press, standby};
 
-use crate::fields::{button, callsign, has_members, needs, note, number, place, point};
+use crate::body_fields::{button, callsign, has_members, needs, note, number, place, point};
 use crate::targets::Target;
 use room_types::asks::{Ask, CallForm, Press};
 use room_types::callsign::Callsign;
@@ -12,8 +12,8 @@ use serde_json::Value;
 
 /// What the fields ask for of a target that takes a body: none where they are not exactly those
 /// that the target wants, each of its form, and none for a target that takes no body.
-pub(crate) fn posted(target: &Target, fields: &Value) -> Option<Ask>
-    ensures { result ≡ posted target.now (view fields.now) }
+pub(crate) fn ask_with_body(target: &Target, fields: &Value) -> Option<Ask>
+    ensures { result ≡ ask_with_body target.now (view fields.now) }
 {
     match *target {
         Target::Call => call_form(fields).map(Ask::Call),

@@ -1,7 +1,10 @@
 //! What holds of paths and asks. A law is the contract of a function that does nothing.
 
-ghost use Rattle.room_http_requests.specs.Examples.{AreRouted, Name, NameNothing, incident_names, other_names, requests, stray_days, stray_incidents, stray_numbers, stray_paths, stray_points, stray_vehicles, vehicle_names};
-ghost use Rattle.std.specs.Prelude.{◌≡◌, ℕ, ℤ, List, Some, true};
+ghost use Rattle.room_http_requests.specs.TargetExamples.{AreRouted, Name, NameNothing, history_requests, incident_names, other_names, requests, stray_days, stray_incidents, stray_numbers, stray_paths, stray_points, stray_vehicles, vehicle_names};
+ghost use Rattle.std.specs.Prelude.{◌≡◌, ℕ, ℤ, List, Some, true, false, Err, IfSome};
+ghost use Rattle.room_types.specs.declared.refusals.Refusal.TheVariants.{NoPath};
+ghost use Rattle.room_http_requests.specs.Paths.{is_of_history};
+ghost use Rattle.room_http_requests.specs.Targets.{path_of, routed, target_of};
 ghost use Rattle.room_types.specs.declared.asks.Ask.{Ask};
 ghost use Rattle.room_types.specs.declared.asks.Who.{Who};
 ghost use Rattle.room_http_time.specs.Dates.{Date};
@@ -9,7 +12,7 @@ ghost use Rattle.room_http_requests.specs.declared.targets.Target.{Target};
 ghost use Rattle.room_model.specs.Events.{IsNumbered};
 ghost use Rattle.room_model.specs.Room.{Room};
 ghost use Rattle.room_model.specs.Step.{is_for};
-ghost use Rattle.room_http_requests.specs.Asking.{request_by};
+ghost use Rattle.room_http_requests.specs.RequestAsks.{request_by};
 ghost use Rattle.room_http_requests.specs.Roles.{is_known, is_of, role_of};
 
 /// Each path is found by its targets.
@@ -33,12 +36,24 @@ pub fn strays_name_nothing()
 /// The methods of a path are taken, others are refused, and a target that names nothing is refused
 /// by any method.
 pub fn paths_take_methods()
-    ensures { AreRouted requests }
+    ensures plain { AreRouted false requests }
+    ensures history { AreRouted true history_requests }
+{}
+
+/// What names no path of history is the same with history and without, and what names one is none
+/// without.
+pub fn history_adds_paths()
+    ensures same { (method bytes : List ℕ)
+        → IfSome (target_of bytes) (λ named. is_of_history (path_of named) ≡ false)
+        → routed true method bytes ≡ routed false method bytes }
+    ensures none { (method bytes : List ℕ)
+        → IfSome (target_of bytes) (λ named. is_of_history (path_of named) ≡ true)
+        → routed false method bytes ≡ Err NoPath }
 {}
 
 ghost use Rattle.room_types.specs.declared.asks.Ask.TheVariants as ask;
 ghost use Rattle.room_http_requests.specs.declared.targets.Target.TheVariants as target;
-ghost use Rattle.room_http_requests.specs.declared.asking.Request.TheVariants as request;
+ghost use Rattle.room_http_requests.specs.declared.request_asks.Request.TheVariants as request;
 
 /// An ask that a request makes is for any known terminal of its target's role, and a report's
 /// number is from 1. So a request that passed the test of its role is addressed.

@@ -2,7 +2,7 @@
 ghost use Rattle.std.specs.Prelude.{◌≡◌, option_map};
 ghost use Rattle.room_http_requests.specs.Parameters.{are_ascii, are_digits, is_numeral, segment_at, text_of, whole_of};
 
-use room_place::bounded::Bounded;
+use room_place::bounded_numbers::Bounded;
 
 /// The text of a target: none where a byte is not of ASCII.
 pub(crate) fn text_of(target: &[u8]) -> Option<&str>
@@ -45,7 +45,7 @@ pub(crate) fn whole<const LEAST: u32, const GREATEST: u32>(
     }
 }
 
-/// Whether a text is digits alone, the first of them no zero.
+/// Whether a text is only digits, the first of them no zero.
 fn is_numeral(text: &[u8]) -> bool
     ensures { result ≡ is_numeral text.now }
 {

@@ -1,6 +1,6 @@
 //! The paths of the room, and the patterns by which a router finds them.
 ghost use Rattle.std.specs.Prelude.{◌≡◌};
-ghost use Rattle.room_http_requests.specs.Paths.{pattern_of, allow_of};
+ghost use Rattle.room_http_requests.specs.Paths.{pattern_of, allow_of, is_of_history};
 
 use room_types::refusals::Allow;
 
@@ -9,6 +9,7 @@ use room_types::refusals::Allow;
 pub enum Path {
     Call,
     Incidents,
+    Incident,
     Propose,
     Mobilise,
     Needs,
@@ -34,12 +35,14 @@ pub enum Path {
     Times,
     Order,
     Report,
+    Last,
 }
 
 /// All paths.
-pub const PATHS: [Path; 27] = [
+pub const PATHS: [Path; 29] = [
     Path::Call,
     Path::Incidents,
+    Path::Incident,
     Path::Propose,
     Path::Mobilise,
     Path::Needs,
@@ -65,6 +68,7 @@ pub const PATHS: [Path; 27] = [
     Path::Times,
     Path::Order,
     Path::Report,
+    Path::Last,
 ];
 
 impl Path {
@@ -75,6 +79,7 @@ impl Path {
         match self {
             Path::Call => "/call",
             Path::Incidents => "/incidents",
+            Path::Incident => "/incidents/{n}",
             Path::Propose => "/incidents/{n}/propose",
             Path::Mobilise => "/incidents/{n}/mobilise",
             Path::Needs => "/incidents/{n}/needs",
@@ -100,7 +105,15 @@ impl Path {
             Path::Times => "/times/{day}",
             Path::Order => "/order",
             Path::Report => "/report",
+            Path::Last => "/last",
         }
+    }
+
+    /// Whether the path is one of history, which is served only where that is asked for.
+    pub fn is_of_history(self) -> bool
+        ensures { result ≡ is_of_history self }
+    {
+        matches!(self, Path::Incident | Path::Last)
     }
 
     /// The methods that the path takes.
@@ -109,6 +122,7 @@ impl Path {
     {
         match self {
             Path::Incidents
+            | Path::Incident
             | Path::Propose
             | Path::Vehicles
             | Path::Queue
@@ -116,7 +130,8 @@ impl Path {
             | Path::Loans
             | Path::Offers
             | Path::Times
-            | Path::Order => Allow::GetHead,
+            | Path::Order
+            | Path::Last => Allow::GetHead,
             Path::Call
             | Path::Mobilise
             | Path::Needs

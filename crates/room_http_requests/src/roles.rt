@@ -11,6 +11,8 @@ pub enum Role {
     Desk,
     Position,
     Crew,
+    /// A position or a crew, which number what they send.
+    Sender,
 }
 
 impl Role {
@@ -21,6 +23,7 @@ impl Role {
         match target {
             Target::Call => Role::Position,
             Target::Order | Target::Report => Role::Crew,
+            Target::Last => Role::Sender,
             _ => Role::Desk,
         }
     }
@@ -33,6 +36,7 @@ impl Role {
             (Role::Desk, Who::Desk(_)) => true,
             (Role::Position, Who::Position(_)) => true,
             (Role::Crew, Who::Crew(_)) => true,
+            (Role::Sender, Who::Position(_) | Who::Crew(_)) => true,
             _ => false,
         }
     }

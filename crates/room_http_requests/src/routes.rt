@@ -18,7 +18,7 @@ pub struct Routes {
     ghost rows: { router ≡ table },
 }
 
-/// Adds a path. An error is want of memory.
+/// Adds a path. An error is lack of memory.
 #[tactic(auto, unfolding(crate::specs::Paths::with_path, crate::specs::Paths::is_free_for))]
 fn add(router: &mut Router<Path>, path: Path) -> Result<(), Refusal>
     requires { is_free_for router.old path ≡ true }
@@ -33,7 +33,7 @@ fn add(router: &mut Router<Path>, path: Path) -> Result<(), Refusal>
 }
 
 impl Routes {
-    /// All paths in a router. An error is want of memory.
+    /// All paths in a router. An error is lack of memory.
     #[tactic(auto, unfolding(crate::specs::Paths::table))]
     pub fn new(alloc: Global) -> Result<Routes, Refusal>
         ensures { IfErr result (λ refusal. refusal ≡ Memory) }
@@ -69,16 +69,20 @@ impl Routes {
 
     /// What a request names by its method and target.
     ///
-    /// Refused as `NoPath` where the target is no path of the room or a parameter is not of its
-    /// form or range, then as `WrongMethod` where the path doesn't take the method. Methods are
+    /// Refused as `NoPath` where the target is no path of the room, or one of history where that is
+    /// not served, or a parameter is not of its form or range, then as `WrongMethod` where the path doesn't take the method. Methods are
     /// compared with case, and HEAD is taken where GET is.
-    pub fn route(&self, method: &[u8], target: &[u8]) -> Result<Target, Refusal>
-        ensures { result ≡ routed method.now target.now }
+    pub fn route(&self, history: bool, method: &[u8], target: &[u8]) -> Result<Target, Refusal>
+        ensures { result ≡ routed history method.now target.now }
     {
         let Some(target) = self.target_of(target) else {
             return Err(Refusal::NoPath);
         };
-        let allow = target.path().allow();
+        let path = target.path();
+        if !history && path.is_of_history() {
+            return Err(Refusal::NoPath);
+        }
+        let allow = path.allow();
         if is_allowed(allow, method) {
             Ok(target)
         } else {

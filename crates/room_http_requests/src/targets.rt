@@ -14,6 +14,7 @@ use room_types::numbers::{Number, PointNumber};
 pub enum Target {
     Call,
     Incidents,
+    Incident(Number),
     Propose(Number),
     Mobilise(Number),
     Needs(Number),
@@ -39,6 +40,7 @@ pub enum Target {
     Times(Day),
     Order,
     Report,
+    Last,
 }
 
 impl Target {
@@ -49,6 +51,7 @@ impl Target {
         match self {
             Target::Call => Path::Call,
             Target::Incidents => Path::Incidents,
+            Target::Incident(_) => Path::Incident,
             Target::Propose(_) => Path::Propose,
             Target::Mobilise(_) => Path::Mobilise,
             Target::Needs(_) => Path::Needs,
@@ -74,6 +77,7 @@ impl Target {
             Target::Times(_) => Path::Times,
             Target::Order => Path::Order,
             Target::Report => Path::Report,
+            Target::Last => Path::Last,
         }
     }
 }
@@ -85,6 +89,7 @@ pub(crate) fn named_by(path: Path, target: &str) -> Option<Target>
     match path {
         Path::Call => Some(Target::Call),
         Path::Incidents => Some(Target::Incidents),
+        Path::Incident => Some(Target::Incident(number_in(target)?)),
         Path::Propose => Some(Target::Propose(number_in(target)?)),
         Path::Mobilise => Some(Target::Mobilise(number_in(target)?)),
         Path::Needs => Some(Target::Needs(number_in(target)?)),
@@ -110,6 +115,7 @@ pub(crate) fn named_by(path: Path, target: &str) -> Option<Target>
         Path::Times => Some(Target::Times(Day::parse(segment(target, 2))?)),
         Path::Order => Some(Target::Order),
         Path::Report => Some(Target::Report),
+        Path::Last => Some(Target::Last),
     }
 }
 

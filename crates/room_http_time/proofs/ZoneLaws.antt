@@ -1,5 +1,5 @@
--- Two zones that one text tells have the same days: an instant that is picked goes by what the
--- text says alone.
+-- Two zones that one text gives have the same days: an instant that is picked goes by what the
+-- text says and by nothing else.
 use Rattle.std.proofs.Common.{ap, int_div, pos, sym, ℤ, IsTrue, None, Option, Some, option_map, ◌+ℤ◌, ◌≡◌, ◌∙◌}
 use Rattle.std.proofs.Props.{props}
 use Rattle.std.proofs.lemmas.Option.{none-some, same_Some}

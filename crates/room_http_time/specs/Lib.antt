@@ -1,4 +1,4 @@
 pub mod Dates
 pub mod Days
 pub mod Laws
-pub mod Moments
+pub mod ClockMoments

@@ -1,4 +1,4 @@
-//! What a zone or its text, and a day, alone decide.
+//! What a zone or its text, and a day, decide by themselves.
 //! A law is the contract of a function that does nothing.
 ghost use Rattle.room_http_time.specs.Laws.{IsOneSpan, IsOneZone};
 
@@ -7,7 +7,7 @@ pub fn one_span()
     ensures { IsOneSpan }
 {}
 
-/// Two zones that one text tells have the same days.
+/// Two zones that one text gives have the same days.
 pub fn one_zone()
     ensures { IsOneZone }
 {}

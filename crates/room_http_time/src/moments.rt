@@ -1,7 +1,7 @@
 //! The moment at which something is answered.
 ghost use Rattle.std.specs.Prelude.{◌≡◌, ◌≤◌, [], ◌∷◌, MatchOption};
 ghost use Rattle.std.specs.Io.KnownBytes.{Appends};
-ghost use Rattle.room_http_time.specs.Moments.{HasNoMoment};
+ghost use Rattle.room_http_time.specs.ClockMoments.{HasNoMoment};
 
 use crate::clocks::Clock;
 use room_types::numbers::Moment;

@@ -13,7 +13,7 @@ use Rattle.room_model.specs.Calls.{call_in, call_kept, call_row, call_somewhere,
 use Rattle.room_model.specs.Queries.{kept_call}
 use Rattle.room_model.specs.Room.{Room}
 use Rattle.room_incident.proofs.MergeLaws.{larger_second}
-use Rattle.room_incident.specs.Taken.{Covers}
+use Rattle.room_incident.specs.LinkedCalls.{Covers}
 
 pub linked_covers : (d : ℕ) (new : NewCall) (i j : Incident) (k : Call) (x : Decision)
     → is_active i.state ≡ true → i.division ≡ d → j ≡ with_call new i

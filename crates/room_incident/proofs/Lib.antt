@@ -5,4 +5,5 @@ pub mod MergeLaws
 pub mod PutLaws
 pub mod RowLaws
 pub mod ServedLaws
+pub mod TallyLaws
 pub mod TimesLaws

@@ -14,7 +14,7 @@ use Rattle.room_model.proofs.Tests.{among_filter, left_true, right_true}
 use Rattle.room_model.specs.Queries.{is_candidate, is_nearer, link_target}
 use Rattle.room_model.specs.Room.{Room}
 use Rattle.room_incident.proofs.LeastLaws.{into_filter, least_among, least_below, none_among}
-use Rattle.room_incident.specs.Links.{IsLinkTarget, is_open_near}
+use Rattle.room_incident.specs.CallLinks.{IsLinkTarget, is_open_near}
 
 -- ---- by distance, and then by number
 abbrev is_before : ℕ → ℕ → ℕ → ℕ → Bool

@@ -11,7 +11,7 @@ use Rattle.room_types.specs.declared.needs.Counts.{Counts}
 use Rattle.room_types.specs.declared.tables.Call.{Call}
 use Rattle.room_types.specs.declared.tables.Incident.{Incident}
 use Rattle.room_model.specs.Incidents.{joined, moved_call}
-use Rattle.room_incident.specs.Joined.{IsNoLess, Joins}
+use Rattle.room_incident.specs.IncidentMerges.{IsNoLess, Joins}
 
 -- ---- the calls that move
 abbrev call_of : Change → Option Call

@@ -13,7 +13,7 @@ use Rattle.room_types.specs.declared.tables.Turn.{Turn}
 use Rattle.room_model.specs.Incidents.{is_below, lacking}
 use Rattle.room_model.specs.Queries.{is_attended, served}
 use Rattle.room_model.specs.Room.{Room}
-use Rattle.room_incident.specs.Served.{is_open_for, serves}
+use Rattle.room_incident.specs.ServedNeeds.{is_open_for, serves}
 
 pub served_so : (d n : ℕ) (k : Kind) (r : Room) (turns : List Turn) → r.turns ≡ turns
     → length (filter (serves d n k) turns) ≡ served d n k r

@@ -16,7 +16,7 @@ use Rattle.room_model.specs.DayTimes.{is_prompt, show_times, times_line, times_o
 use Rattle.room_model.specs.Decisions.{show}
 use Rattle.room_model.specs.Queries.{incidents_opened}
 use Rattle.room_model.specs.Room.{Room}
-use Rattle.room_incident.specs.Times.{is_opened_between, line_number}
+use Rattle.room_incident.specs.DayIncidents.{is_opened_between, line_number}
 
 module _ (d : ℕ) (from to : ℤ) where
   opened_are : (xs : List Incident) → list_all (owns_incident d) xs ≡ true

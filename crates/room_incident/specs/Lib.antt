@@ -1,6 +1,7 @@
-pub mod CallsOf
-pub mod Joined
-pub mod Links
-pub mod Served
-pub mod Taken
-pub mod Times
+pub mod IncidentCalls
+pub mod IncidentMerges
+pub mod CallLinks
+pub mod ServedNeeds
+pub mod LinkedCalls
+pub mod Tallies
+pub mod DayIncidents

@@ -6,11 +6,11 @@ ghost use Rattle.room_types.specs.declared.tables.Division.{Division};
 ghost use Rattle.room_model.specs.Calls.{call_in, call_new, call_row, call_taken, new_incident, with_call};
 ghost use Rattle.room_model.specs.Decisions.{Decides};
 ghost use Rattle.room_model.specs.Queries.{last_number};
-ghost use Rattle.room_model.specs.Slices.{room_of};
-ghost use Rattle.room_incident.specs.CallsOf.{is_call_of};
-ghost use Rattle.room_incident.specs.Taken.{Covers};
+ghost use Rattle.room_model.specs.RoomSlices.{room_of};
+ghost use Rattle.room_incident.specs.IncidentCalls.{is_call_of};
+ghost use Rattle.room_incident.specs.LinkedCalls.{Covers};
 
-use crate::links::nearest;
+use crate::call_links::nearest;
 use room_place::plans::DivisionNumber;
 use room_types::answers::Answer;
 use room_types::asks::NewCall;

@@ -1,12 +1,14 @@
 //! What calls and desks do to the incidents of a division.
 #![tactic(auto)]
 
-pub mod active;
+pub mod active_incidents;
+pub mod call_links;
 pub mod calls;
+pub mod day_times;
+pub mod incident_history;
+pub mod incident_list;
+pub mod incident_merges;
+pub mod incident_needs;
 pub mod laws;
-pub mod links;
-pub mod merges;
-pub mod needs;
-pub mod served;
-pub mod times;
-pub mod views;
+pub mod served_needs;
+mod tallies;

@@ -6,6 +6,7 @@ use Rattle.room_place.specs.declared.places.Place.{Place}
 use Rattle.room_types.specs.Keys.{incident_key, pair_cmp, same_callsign}
 use Rattle.room_types.specs.Orders.{exact_pair, pairs_total}
 use Rattle.room_types.specs.declared.asks.Ask.{Ask}
+use Rattle.room_types.specs.declared.asks.Who.TheVariants.{Desk}
 use Rattle.room_types.specs.declared.needs.Counts.{Counts}
 use Rattle.room_types.specs.declared.codes.State.TheVariants.{Closed, Merged}
 use Rattle.room_types.specs.declared.codes.Status.TheVariants.{Available, Mobilised, OffDuty, Returning}
@@ -19,22 +20,19 @@ use Rattle.room_types.specs.declared.tables.Vehicle.{Vehicle}
 use Rattle.room_types.specs.Texts.{Callsign}
 use Rattle.room_model.proofs.Foreign.{AllForeign, foreign_append}
 use Rattle.room_model.proofs.Others.{IsHeld, call_foreign, held_is, incident_foreign, no_turn, other_assignment, point_foreign, report_foreign, turn_foreign, vehicle_foreign}
+use Rattle.room_model.proofs.Questions.{by_quiet}
 use Rattle.room_model.proofs.Tests.{among_filter, first_among, left_true, row_key}
 use Rattle.room_types.specs.Codes.{is_active}
 use Rattle.room_model.specs.Crossing.{is_local}
-use Rattle.room_model.specs.DayTimes.{show_times}
 use Rattle.room_model.specs.Decisions.{Verdict, changes_of, refuse_if, where_active, where_held}
-use Rattle.room_model.specs.Incidents.{change_needs, close, joined, merge, merge_of, moved_call, show_incidents}
-use Rattle.room_model.specs.Loans.{show_loans, show_offers}
+use Rattle.room_model.specs.Incidents.{change_needs, close, joined, merge, merge_of, moved_call}
 use Rattle.room_model.specs.Moments.{first_of}
-use Rattle.room_model.specs.Points.{show_points}
-use Rattle.room_model.specs.Proposals.{propose}
 use Rattle.room_model.specs.Queries.{calls_of, incident_of, open_turn, report_of}
-use Rattle.room_model.specs.Queue.{clear, clear_found, show_queue}
+use Rattle.room_model.specs.Queue.{clear, clear_found}
 use Rattle.room_model.specs.Room.{Room}
 use Rattle.room_model.specs.Shares.{own}
 use Rattle.room_model.specs.Step.{desk_asks}
-use Rattle.room_model.specs.Vehicles.{duty, mobilise, off, posted, show_vehicles, stand_down, standby, standby_at, turn_stood_down}
+use Rattle.room_model.specs.Vehicles.{duty, mobilise, off, posted, stand_down, standby, standby_at, turn_stood_down}
 use Rattle.room_model.specs.WellFormed.{IsWellFormed}
 use Rattle.room_types.specs.declared.asks.Ask.TheVariants as ask
 use Rattle.room_types.specs.declared.refusals.Refusal.TheVariants as refusal
@@ -161,21 +159,12 @@ module _ (d h : ℕ) (r : Room) (w : IsWellFormed r) (apart : h == d ≡ false) 
   unfolding clear
   clear_leaves c n = clear_leaves_found c n (report_of h c n r) (λ x e. e)
 
-  -- ---- what is only shown
-  propose_leaves : (n at : ℕ) → LeavesShare (propose h n at r)
-  unfolding propose
-  propose_leaves n at = active_leaves _ _ (λ i g. tt)
-
+  -- ---- any ask that hands nothing on
   pub local_leaves : (a : Ask) (at : ℕ) → is_local a ≡ true → LeavesShare (desk_asks h a at r)
-  unfolding show_incidents show_vehicles show_queue show_points show_loans show_offers show_times
-  local_leaves (ask.Call f) at l = tt
-  local_leaves ask.Incidents at l = tt
-  local_leaves (ask.Propose n) at l = propose_leaves n at
   local_leaves (ask.Mobilise n c) at l = mobilise_leaves n c at
   local_leaves (ask.Needs n needs) at l = needs_leaves n needs
   local_leaves (ask.Merge n m) at l = merge_leaves n m
   local_leaves (ask.Close n) at l = close_leaves n
-  local_leaves ask.Vehicles at l = tt
   local_leaves (ask.StandDown c) at l = stand_down_leaves c at
   local_leaves (ask.Standby c p) at l = standby_leaves c p at
   local_leaves (ask.Duty c place until) at l = duty_leaves c place until at
@@ -186,12 +175,6 @@ module _ (d h : ℕ) (r : Room) (w : IsWellFormed r) (apart : h == d ≡ false) 
   local_leaves (ask.Accept c) at l = cc
   local_leaves (ask.Recall c) at l = cc
   local_leaves (ask.GiveBack c) at l = cc
-  local_leaves ask.Queue at l = tt
   local_leaves (ask.Clear c n) at l = clear_leaves c n
-  local_leaves ask.Points at l = tt
   local_leaves (ask.SetPoint n place cover) at l = (point_foreign d h r w apart (record { division = h; number = n; place = place; cover = cover }) refl, tt)
-  local_leaves ask.Loans at l = tt
-  local_leaves ask.Offers at l = tt
-  local_leaves (ask.Times from to) at l = tt
-  local_leaves ask.Order at l = tt
-  local_leaves (ask.Report p) at l = tt
+  local_leaves a at l = by_quiet at r (AllForeign d (own d r)) (Desk h) a refl tt

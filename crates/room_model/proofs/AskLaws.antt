@@ -22,11 +22,11 @@ use Rattle.room_types.specs.Codes.{is_active, is_free}
 use Rattle.room_types.specs.Needs.{need_of, needs_by}
 use Rattle.room_model.specs.DayTimes.{show_times, times_line, times_of}
 use Rattle.room_model.specs.Decisions.{Verdict, refuse_if, show, where_active, where_held}
-use Rattle.room_model.specs.Incidents.{change_needs, close, close_active, incident_line, lacking, merge, merge_of, needs_changed, show_incidents}
+use Rattle.room_model.specs.Incidents.{change_needs, close, close_active, history_of, incident_line, lacking, merge, merge_of, needs_changed, show_incident, show_incidents}
 use Rattle.room_model.specs.Loans.{accept, accepted, decline, declined, give_back, given_back, lend, offered, recall, recall_lent, show_loans, show_offers, withdraw, withdrawn}
 use Rattle.room_model.specs.Points.{breaks_post, is_short, point_line, show_points}
 use Rattle.room_model.specs.Proposals.{all_proposed, candidates, eligible, is_before, proposal_of, propose, proposed}
-use Rattle.room_model.specs.Queries.{active_incidents, all_held, assignment_of, borrowed, calls_of, held, holders, incident_of, incidents_opened, is_attended, is_eligible, lent, loans_of, offered_by, offered_to, offers_of, open_turn, point_of, points_of, report_of, served}
+use Rattle.room_model.specs.Queries.{active_incidents, all_held, assignment_of, borrowed, calls_of, held, holders, incident_of, incidents_opened, is_attended, is_eligible, lent, loans_of, offered_by, offered_to, offers_of, open_turn, point_of, points_of, report_of, served, turns_of}
 use Rattle.room_model.specs.Queue.{clear, clear_found, entries, ordered_from, show_queue}
 use Rattle.room_model.specs.Room.{Room}
 use Rattle.room_model.specs.Vehicles.{duty, mobilise, mobilise_held, off, posted, show_vehicles, stand_down, stand_down_held, standby, stands_by, vehicle_line}
@@ -156,6 +156,12 @@ module _ (d : ℕ) (s r : Room) where
   pub close_same : (n : ℕ) → SeesIncident d n s r → close d n s ≡ close d n r
   unfolding close
   close_same n i = ap (λ x. where_active x (close_active (is_attended d n s))) i.same_incident ∙ ap (λ x. where_active (incident_of d n r) (close_active x)) i.same_attended
+
+  pub incident_same : (n : ℕ) → SeesIncident d n s r → calls_of d n s ≡ calls_of d n r
+      → turns_of d n s ≡ turns_of d n r → show_incident d n s ≡ show_incident d n r
+  unfolding show_incident
+  incident_same n i calls turns j =
+      history_of (i.same_incident j) (record { ambulances = i.same_served Ambulance j; cars = i.same_served Car j; support = i.same_served Support j }) (calls j) (turns j)
 
   -- an incident's line, from its calls and turns
   line_same : (i : Incident) → SeesIncident d i.number s r

@@ -18,7 +18,6 @@ use Rattle.room_types.specs.declared.changes.Change.TheVariants.{DropAssignment,
 use Rattle.room_types.specs.declared.codes.Button.{Button}
 use Rattle.room_types.specs.declared.codes.Status.TheVariants.{Returning}
 use Rattle.room_types.specs.declared.refusals.Refusal.{Refusal}
-use Rattle.room_types.specs.declared.tables.Assignment.{Assignment}
 use Rattle.room_types.specs.declared.tables.Call.{Call}
 use Rattle.room_types.specs.declared.tables.Division.{Division}
 use Rattle.room_types.specs.declared.tables.Incident.{Incident}
@@ -29,23 +28,20 @@ use Rattle.room_types.specs.declared.tables.Turn.{Turn}
 use Rattle.room_types.specs.declared.tables.Vehicle.{Vehicle}
 use Rattle.room_model.proofs.Others.{held_is, keep_some}
 use Rattle.room_model.proofs.DecisionLaws.{by_refuse, by_report}
+use Rattle.room_model.proofs.Questions.{IsQuiet, by_quiet}
 use Rattle.room_model.proofs.Tests.{among_filter}
 use Rattle.room_model.specs.Calls.{call_in, call_kept, call_somewhere, call_taken, new_call}
 use Rattle.room_types.specs.Codes.{is_active}
-use Rattle.room_model.specs.DayTimes.{show_times}
-use Rattle.room_model.specs.Decisions.{Verdict, changes_of, refuse_if, show, where_active, where_held}
-use Rattle.room_model.specs.Incidents.{change_needs, close, close_active, merge, merge_of, moved_call, needs_changed, show_incidents}
-use Rattle.room_model.specs.Loans.{accept, accepted, decline, declined, give_back, given_back, lend, offered, recall, recall_lent, show_loans, show_offers, withdraw, withdrawn}
-use Rattle.room_model.specs.Points.{show_points}
-use Rattle.room_model.specs.Proposals.{all_proposed, propose}
-use Rattle.room_model.specs.Queries.{assignment_at, borrowed, calls_of, held, incident_of, is_attended, kept_call, kept_report, last_number, lent, link_target, offered_by, offered_to, open_turn, point_of, report_of, served, vehicle_at}
-use Rattle.room_model.specs.Queue.{clear, clear_found, show_queue}
-use Rattle.room_model.specs.Reports.{back_changes, drop_changes, ends_turn, is_due, is_home, order_of, outcome_of, report_held, report_in, report_kept, report_somewhere, turn_changes}
+use Rattle.room_model.specs.Decisions.{Verdict, changes_of, refuse_if, where_active, where_held}
+use Rattle.room_model.specs.Incidents.{change_needs, close, close_active, merge, merge_of, moved_call, needs_changed}
+use Rattle.room_model.specs.Loans.{accept, accepted, decline, declined, give_back, given_back, lend, offered, recall, recall_lent, withdraw, withdrawn}
+use Rattle.room_model.specs.Queries.{borrowed, calls_of, held, incident_of, is_attended, kept_call, kept_report, last_number, lent, link_target, offered_by, offered_to, open_turn, point_of, report_of, served, vehicle_at}
+use Rattle.room_model.specs.Queue.{clear, clear_found}
+use Rattle.room_model.specs.Reports.{back_changes, drop_changes, ends_turn, is_due, is_home, outcome_of, report_held, report_in, report_kept, report_somewhere, turn_changes}
 use Rattle.room_model.specs.Room.{Room}
 use Rattle.room_model.specs.Shares.{ArePlain, IsPlain}
-use Rattle.room_model.specs.Step.{crew_asks, decided, desk_asks, position_asks}
-use Rattle.room_model.specs.Vehicles.{duty, mobilise, mobilise_held, mobilised, off, off_duty, on_duty, show_vehicles, stand_down, stand_down_held, standby, standby_at, stands_by, turn_stood_down}
-use Rattle.room_types.specs.declared.answers.Answer.TheVariants as answer
+use Rattle.room_model.specs.Step.{crew_asks, decided, desk_asks, position_asks, who_asks}
+use Rattle.room_model.specs.Vehicles.{duty, mobilise, mobilise_held, mobilised, off, off_duty, on_duty, stand_down, stand_down_held, standby, standby_at, stands_by, turn_stood_down}
 use Rattle.room_types.specs.declared.asks.Ask.TheVariants as ask
 use Rattle.room_types.specs.declared.refusals.Refusal.TheVariants as refusal
 
@@ -157,10 +153,12 @@ module _ (r : Room) (Q : Change → Type 0) (q : Allows r Q) where
   standby_all None has at v = (q.silent _ refl, tt)
   standby_all (Some n) has at v = refuse _ _ _ (refuse _ _ _ (q.silent _ refl, tt))
 
+  quiet_all : (who : Who) (a : Ask) (at : ℕ) → IsQuiet who a → Holds (who_asks who a at r)
+  quiet_all who a at h = by_quiet at r (AllOf Q) who a h tt
+
   pub desk_all : (d : ℕ) (a : Ask) (at : ℕ) → (lends a ≡ true → AllowsLending Q)
       → Holds (desk_asks d a at r)
-  unfolding show_incidents show_vehicles show_queue show_points show_loans show_offers show_times propose mobilise change_needs merge close stand_down standby duty off lend withdraw decline accept recall give_back clear
-  desk_all d (ask.Propose n) at f = by_incident (incident_of d n r) (λ i. show (answer.Proposals (all_proposed d i at r))) (λ i. tt)
+  unfolding mobilise change_needs merge close stand_down standby duty off lend withdraw decline accept recall give_back clear
   desk_all d (ask.Mobilise n c) at f = by_incident (incident_of d n r) (mobilise_held d (held d c r) (lent d c r) at (λ k. served d n k r)) (λ i. by_vehicle (held d c r) (lent d c r) (mobilised d i at (λ k. served d n k r)) (λ v. refuse _ _ _ (refuse _ _ _ (refuse _ _ _ (refuse _ _ _ (q.silent _ refl, (q.silent _ refl, (q.silent _ refl, (q.silent _ refl, tt)))))))))
   desk_all d (ask.Needs n needs) at f = by_incident (incident_of d n r) (needs_changed needs (λ k. served d n k r)) (λ i. refuse _ _ _ (q.silent _ refl, tt))
   desk_all d (ask.Merge n m) at f = merged _ _ _ _ (own_calls d n)
@@ -177,7 +175,7 @@ module _ (r : Room) (Q : Change → Type 0) (q : Allows r Q) where
   desk_all d (ask.GiveBack c) at f = by_vehicle (held d c r) (lent d c r) (given_back d (borrowed d c r)) (λ v. refuse _ _ _ (refuse _ _ _ (q.silent _ refl, (q.silent _ refl, tt))))
   desk_all d (ask.Clear c n) at f = cleared_all d c n (report_of d c n r) refl
   desk_all d (ask.SetPoint n place cover) at f = (q.silent _ refl, tt)
-  desk_all d a at f = tt
+  desk_all d a at f = quiet_all (Desk d) a at refl
 
   -- ---- a call
   taken_all : (d : ℕ) (new : NewCall) (i : Option Incident) (v : Option Division)
@@ -204,7 +202,7 @@ module _ (r : Room) (Q : Change → Type 0) (q : Allows r Q) where
 
   pub position_all : (p : ℕ) (a : Ask) (at : ℕ) → Holds (position_asks p a at r)
   position_all p (ask.Call f) at = call_all (new_call p f at) (kept_call p f.serial r) refl
-  position_all p a at = tt
+  position_all p a at = quiet_all (Position p) a at refl
 
   -- ---- a report
   turn_all : (b : Button) (at : ℕ) (t : Option Turn) → AllOf Q (turn_changes b at t)
@@ -245,14 +243,9 @@ module _ (r : Room) (Q : Change → Type 0) (q : Allows r Q) where
   kept_all c p at (Some k) e = refuse _ _ _ tt
   kept_all c p at None e = placed_all (vehicle_at c r) c p at e
 
-  order_all : (v : Option Vehicle) (a : Option Assignment) → Holds (order_of v a)
-  order_all None a = tt
-  order_all (Some v) a = tt
-
   pub crew_all : (c : Callsign) (a : Ask) (at : ℕ) → Holds (crew_asks c a at r)
-  crew_all c ask.Order at = order_all (vehicle_at c r) (assignment_at c r)
   crew_all c (ask.Report p) at = kept_all c p at (kept_report c p.number r) refl
-  crew_all c a at = tt
+  crew_all c a at = quiet_all (Crew c) a at refl
 
   who_all : AllowsLending Q → (who : Who) (a : Ask) (at : ℕ)
       → Holds (decided (record { who = who; ask = a; at = at }) r)

@@ -1,4 +1,4 @@
--- A crew is answered by its vehicle's rows alone, and changes them alone.
+-- A crew is answered by only its vehicle's rows, and changes only them.
 use Rattle.std.proofs.Common.{ap, eq-eqb, subst, sym, ◌∙◌}
 use Rattle.std.specs.Cmp.{IsTotalOrder}
 use Rattle.std.specs.Ordering.{is_eq, ordering_reverse}
@@ -24,7 +24,7 @@ use Rattle.room_model.specs.Decisions.{changes_of}
 use Rattle.room_model.specs.Events.{by_crew}
 use Rattle.room_model.specs.InHand.{in_hand}
 use Rattle.room_model.specs.Queries.{assignment_at, borrowed, held, kept_report, loan_at, open_turn, vehicle_at}
-use Rattle.room_model.specs.Reports.{order_of, report_held, report_in, report_kept, report_somewhere}
+use Rattle.room_model.specs.Reports.{last_of, order_of, report_held, report_in, report_kept, report_somewhere}
 use Rattle.room_model.specs.Room.{IsInOrder, Room, apply, apply_one}
 use Rattle.room_model.specs.Shares.{ArePlain, IsPlain, mine}
 use Rattle.room_model.specs.Step.{crew_asks, room_after}
@@ -64,6 +64,7 @@ module _ (c : Callsign) (s r : Room) (sees : SeesCrew c s r) where
       → kept_report c p.number s ≡ kept_report c p.number r)
       → crew_asks c a at s ≡ crew_asks c a at r
   crew_same ask.Order at h = λ i. order_of (sees.same_vehicle i) (sees.same_assignment i)
+  crew_same ask.Last at h = ap last_of sees.same_vehicle
   crew_same (ask.Report p) at h = ap (λ o. report_kept o c p at s) (h p refl) ∙ kept_same (kept_report c p.number r) p at
   crew_same a at h = refl
 
@@ -110,6 +111,13 @@ module _ (c : Callsign) (r : Room) (order : IsInOrder r) where
   order_in_hand n at = crew_same c (in_hand c n r) r (sees_beside (in_hand c n r).reports) ask.Order at (λ p e. absurd (no_report p e))
     where
       no_report : (p : Press) → ask.Order ≡ ask.Report p → ⊥
+      no_report p e = cc
+
+  pub last_in_hand : (n at : ℕ) → crew_asks c ask.Last at (in_hand c n r)
+      ≡ crew_asks c ask.Last at r
+  last_in_hand n at = crew_same c (in_hand c n r) r (sees_beside (in_hand c n r).reports) ask.Last at (λ p e. absurd (no_report p e))
+    where
+      no_report : (p : Press) → ask.Last ≡ ask.Report p → ⊥
       no_report p e = cc
 
   pub report_in_hand : (p : Press) (at : ℕ)

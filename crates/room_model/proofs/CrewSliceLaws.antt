@@ -9,7 +9,7 @@ use Rattle.room_types.specs.Crews.{IsCrew}
 use Rattle.room_types_keyed.specs.Keyed.{IsKeyed, keep, row_at}
 use Rattle.room_types.specs.Keys.{assignment_key, callsign_cmp, loan_key, numbered_cmp, same_callsign, turn_key, vehicle_key}
 use Rattle.room_types.specs.Orders.{callsigns_total, exact_callsigns, exact_numbered, numbered_total}
-use Rattle.room_types.specs.Sent.{OrderAgrees}
+use Rattle.room_types.specs.SentVehicles.{OrderAgrees}
 use Rattle.room_types.specs.Texts.{Callsign}
 use Rattle.room_types.specs.declared.crews.CrewRows.{CrewRows}
 use Rattle.room_types.specs.declared.tables.Assignment.{Assignment}
@@ -19,7 +19,7 @@ use Rattle.room_model.proofs.SliceLaws.{SentAgrees, if_kept, if_then, is_open, s
 use Rattle.room_model.proofs.Tests.{both_true, is_equal, keep_keep_row, keep_row, none_of}
 use Rattle.room_model.specs.Room.{IsInOrder, Room}
 use Rattle.room_model.specs.Shares.{mine}
-use Rattle.room_model.specs.Slices.{AreCrewRows}
+use Rattle.room_model.specs.RoomSlices.{AreCrewRows}
 use Rattle.room_model.specs.WellFormed.{IsWellFormed}
 use Rattle.room_model.specs.WellFormed as room
 

@@ -22,7 +22,6 @@ use Rattle.room_types.specs.declared.fleet.FleetRow.{FleetRow}
 use Rattle.room_types.specs.declared.fleet.RowFate.TheVariants.{Refused, Same}
 use Rattle.room_types.specs.declared.fleet.Terminal.{Terminal}
 use Rattle.room_types.specs.declared.refusals.Refusal.{Refusal}
-use Rattle.room_types.specs.declared.tables.Assignment.{Assignment}
 use Rattle.room_types.specs.declared.tables.Call.{Call}
 use Rattle.room_types.specs.declared.tables.Division.{Division}
 use Rattle.room_types.specs.declared.tables.Incident.{Incident}
@@ -34,24 +33,22 @@ use Rattle.room_types.specs.declared.tables.Vehicle.{Vehicle}
 use Rattle.room_model.proofs.IncidentChanges.{vehicles_put}
 use Rattle.room_model.proofs.KeptEvents.{plan_stays}
 use Rattle.room_model.proofs.Others.{held_is}
+use Rattle.room_model.proofs.Questions.{IsQuiet, by_quiet}
 use Rattle.room_model.proofs.Tests.{row_key}
 use Rattle.room_model.proofs.VehicleRows.{settle}
 use Rattle.room_model.specs.Calls.{call_in, call_kept, call_new, call_somewhere, call_taken, new_call}
 use Rattle.room_types.specs.Codes.{acts, same_kind}
-use Rattle.room_model.specs.DayTimes.{show_times}
-use Rattle.room_model.specs.Decisions.{Verdict, changes_of, refuse_if, show, tell, where_active, where_held}
+use Rattle.room_model.specs.Decisions.{Verdict, changes_of, refuse_if, tell, where_active, where_held}
 use Rattle.room_model.specs.Enrol.{AreTerminals, fate_by, fate_of, fleet_at, home_and_kind, is_crews_terminal, terminal_at}
-use Rattle.room_model.specs.Incidents.{change_needs, close, close_active, merge, merge_of, moved_call, needs_changed, show_incidents}
-use Rattle.room_model.specs.Loans.{accept, accepted, decline, declined, give_back, given_back, lend, offered, recall, recall_lent, show_loans, show_offers, withdraw, withdrawn}
-use Rattle.room_model.specs.Points.{show_points}
-use Rattle.room_model.specs.Proposals.{all_proposed, propose}
+use Rattle.room_model.specs.Incidents.{change_needs, close, close_active, merge, merge_of, moved_call, needs_changed}
+use Rattle.room_model.specs.Loans.{accept, accepted, decline, declined, give_back, given_back, lend, offered, recall, recall_lent, withdraw, withdrawn}
 use Rattle.room_model.specs.Queries.{borrowed, held, incident_of, is_attended, lent, offered_by, open_turn, point_of, served}
-use Rattle.room_model.specs.Queue.{clear, clear_found, show_queue}
-use Rattle.room_model.specs.Reports.{back_changes, drop_changes, ends_turn, is_due, is_home, order_of, report_held, report_in, report_kept, report_made, report_row, report_somewhere, turn_changes, with_report}
+use Rattle.room_model.specs.Queue.{clear, clear_found}
+use Rattle.room_model.specs.Reports.{back_changes, drop_changes, ends_turn, is_due, is_home, report_held, report_in, report_kept, report_made, report_row, report_somewhere, turn_changes, with_report}
 use Rattle.room_model.specs.Room.{Room, apply, apply_one, settled}
 use Rattle.room_model.specs.Run.{room_run}
 use Rattle.room_model.specs.Step.{crew_asks, decided, desk_asks, position_asks, room_after, who_asks}
-use Rattle.room_model.specs.Vehicles.{duty, mobilise, mobilise_held, mobilised, off, off_duty, on_duty, show_vehicles, stand_down, stand_down_held, standby, standby_at, stands_by, turn_stood_down}
+use Rattle.room_model.specs.Vehicles.{duty, mobilise, mobilise_held, mobilised, off, off_duty, on_duty, stand_down, stand_down_held, standby, standby_at, stands_by, turn_stood_down}
 use Rattle.room_types.specs.declared.answers.Answer.TheVariants as answer
 use Rattle.room_types.specs.declared.asks.Ask.TheVariants as ask
 use Rattle.room_types.specs.declared.refusals.Refusal.TheVariants as refusal
@@ -166,9 +163,11 @@ module _ (r : Room) where
   cleared_fleet None = tt
   cleared_fleet (Some x) = refused_fleet _ _ _ (tt, tt)
 
+  quiet_fleet : (who : Who) (a : Ask) (at : ℕ) → IsQuiet who a → SameFleet (who_asks who a at r)
+  quiet_fleet who a at h = by_quiet at r (AllKeepFleet r) who a h tt
+
   desk_fleet : (d : ℕ) (a : Ask) (at : ℕ) → SameFleet (desk_asks d a at r)
-  unfolding show_incidents show_vehicles show_queue show_points show_loans show_offers show_times propose mobilise change_needs merge close stand_down standby duty off lend withdraw decline accept recall give_back clear
-  desk_fleet d (ask.Propose n) at = active_fleet (incident_of d n r) (λ i. show (answer.Proposals (all_proposed d i at r))) (λ i. tt)
+  unfolding mobilise change_needs merge close stand_down standby duty off lend withdraw decline accept recall give_back clear
   desk_fleet d (ask.Mobilise n c) at = active_fleet (incident_of d n r) (mobilise_held d (held d c r) (lent d c r) at (λ k. served d n k r)) (λ i. held_fleet d c (mobilised d i at (λ k. served d n k r)) (λ v k. refused_fleet _ _ _ (refused_fleet _ _ _ (refused_fleet _ _ _ (refused_fleet _ _ _ (tt, (k, (tt, (tt, tt)))))))))
   desk_fleet d (ask.Needs n needs) at = active_fleet (incident_of d n r) (needs_changed needs (λ k. served d n k r)) (λ i. refused_fleet _ _ _ (tt, tt))
   desk_fleet d (ask.Merge n m) at = merge_fleet _ _ _ _
@@ -185,7 +184,7 @@ module _ (r : Room) where
   desk_fleet d (ask.GiveBack c) at = held_fleet d c (given_back d (borrowed d c r)) (λ v k. refused_fleet _ _ _ (refused_fleet _ _ _ (k, (tt, tt))))
   desk_fleet d (ask.Clear c n) at = cleared_fleet _
   desk_fleet d (ask.SetPoint n place cover) at = (tt, tt)
-  desk_fleet d a at = tt
+  desk_fleet d a at = quiet_fleet (Desk d) a at refl
 
   -- ---- calls
   new_fleet : (d : ℕ) (new : NewCall) (v : Option Division) → SameFleet (call_new d new v)
@@ -208,7 +207,7 @@ module _ (r : Room) where
 
   position_fleet : (p : ℕ) (a : Ask) (at : ℕ) → SameFleet (position_asks p a at r)
   position_fleet p (ask.Call f) at = call_fleet _ (new_call p f at)
-  position_fleet p a at = tt
+  position_fleet p a at = quiet_fleet (Position p) a at refl
 
   -- ---- reports
   turns_fleet : (b : Button) (at : ℕ) (o : Option Turn) → AllKeepFleet r (turn_changes b at o)
@@ -250,14 +249,9 @@ module _ (r : Room) where
   kept_fleet None c p at = reported_fleet _ c p at
   kept_fleet (Some k) c p at = refused_fleet _ _ _ tt
 
-  order_fleet : (v : Option Vehicle) (a : Option Assignment) → SameFleet (order_of v a)
-  order_fleet None a = tt
-  order_fleet (Some v) a = tt
-
   crew_fleet : (c : Callsign) (a : Ask) (at : ℕ) → SameFleet (crew_asks c a at r)
-  crew_fleet c ask.Order at = order_fleet _ _
   crew_fleet c (ask.Report p) at = kept_fleet _ c p at
-  crew_fleet c a at = tt
+  crew_fleet c a at = quiet_fleet (Crew c) a at refl
 
   who_fleet : (who : Who) (a : Ask) (at : ℕ) → SameFleet (who_asks who a at r)
   who_fleet (Desk d) a at = desk_fleet d a at
@@ -277,7 +271,7 @@ pub plan_run : (es : List Event) (r : Room) → (room_run es r).plan ≡ r.plan
 plan_run [] r = refl
 plan_run (e ∷ es) r = plan_run es (room_after e r) ∙ plan_stays r (changes_of (decided e r))
 
--- a fate looks at the plan, the fleet and the terminals alone
+-- a fate looks only at the plan, the fleet and the terminals
 pub fate_alike : (v u : Option Vehicle) (t : Option Terminal) (x : FleetRow)
     → option_map home_and_kind v ≡ option_map home_and_kind u → fate_by v t x ≡ fate_by u t x
 fate_alike None None t x e = refl

@@ -11,51 +11,37 @@ use Rattle.room_types.specs.declared.asks.Who.{Who}
 use Rattle.room_types.specs.declared.asks.Who.TheVariants.{Crew, Desk, Position}
 use Rattle.room_types.specs.declared.changes.Change.{Change}
 use Rattle.room_types.specs.declared.changes.Change.TheVariants.{DropAssignment, DropLoan, DropOffer, PutAssignment, PutCall, PutDivision, PutIncident, PutLoan, PutOffer, PutPoint, PutReport, PutTurn, PutVehicle, Settle}
-use Rattle.room_types.specs.declared.tables.Assignment.{Assignment}
 use Rattle.room_types.specs.declared.tables.Vehicle.{Vehicle}
 use Rattle.room_model.proofs.IncidentChanges.{vehicles_put}
-use Rattle.room_model.proofs.KeptAsks.{Kept, active_kept, duty_kept, mobilise_kept, off_kept, stand_down_kept, standby_kept}
+use Rattle.room_model.proofs.KeptAsks.{Kept, duty_kept, mobilise_kept, off_kept, stand_down_kept, standby_kept}
 use Rattle.room_model.proofs.KeptCalls.{take_call_kept}
 use Rattle.room_model.proofs.KeptIncidents.{clear_kept, close_kept, needs_kept, set_point_kept}
 use Rattle.room_model.proofs.KeptLoans.{accept_kept, decline_kept, give_back_kept, lend_kept, recall_kept, withdraw_kept}
 use Rattle.room_model.proofs.KeptMerge.{merge_kept}
 use Rattle.room_model.proofs.KeptReports.{take_report_kept}
+use Rattle.room_model.proofs.Questions.{IsQuiet, by_quiet}
 use Rattle.room_model.proofs.Tests.{both_true, left_true, right_true}
 use Rattle.room_model.proofs.VehicleRows.{settle}
 use Rattle.room_model.specs.Events.{AreAddressed, IsNumbered}
 use Rattle.room_model.specs.Calls.{new_call}
-use Rattle.room_model.specs.DayTimes.{show_times}
-use Rattle.room_model.specs.Decisions.{changes_of, show}
-use Rattle.room_model.specs.Incidents.{show_incidents}
-use Rattle.room_model.specs.Loans.{show_loans, show_offers}
-use Rattle.room_model.specs.Points.{show_points}
-use Rattle.room_model.specs.Proposals.{all_proposed, propose}
-use Rattle.room_model.specs.Queries.{assignment_at, vehicle_at}
-use Rattle.room_model.specs.Queue.{show_queue}
-use Rattle.room_model.specs.Reports.{order_of}
+use Rattle.room_model.specs.Decisions.{changes_of}
+use Rattle.room_model.specs.Queries.{vehicle_at}
 use Rattle.room_model.specs.Room.{Room, apply, apply_one, settled}
 use Rattle.room_model.specs.Run.{room_run}
 use Rattle.room_model.specs.Step.{IsAddressed, crew_asks, decided, desk_asks, is_crews, is_desks, is_for, position_asks, room_after, who_asks}
-use Rattle.room_model.specs.Vehicles.{show_vehicles}
 use Rattle.room_model.specs.WellFormed.{IsWellFormed}
-use Rattle.room_types.specs.declared.answers.Answer.TheVariants as answer
 use Rattle.room_types.specs.declared.asks.Ask.TheVariants as ask
 
-propose_kept : (d n at : ℕ) (r : Room) (w : IsWellFormed r) → Kept d r w (propose d n at r)
-unfolding propose
-propose_kept d n at r w = active_kept d r w n (λ i. show (answer.Proposals (all_proposed d i at r))) (λ i e active. w)
+quiet_kept : (who : Who) (a : Ask) (at : ℕ) (r : Room) → IsWellFormed r → IsQuiet who a
+    → IsWellFormed (apply r (changes_of (who_asks who a at r)))
+quiet_kept who a at r w h = by_quiet at r (λ xs. IsWellFormed (apply r xs)) who a h w
 
 desk_kept : (d : ℕ) (a : Ask) (at : ℕ) (r : Room) (w : IsWellFormed r)
     → has_division r.plan d ≡ true → Kept d r w (desk_asks d a at r)
-unfolding show_incidents show_vehicles show_queue show_points show_loans show_offers show_times
-desk_kept d (ask.Call f) at r w h = w
-desk_kept d ask.Incidents at r w h = w
-desk_kept d (ask.Propose n) at r w h = propose_kept d n at r w
 desk_kept d (ask.Mobilise n c) at r w h = mobilise_kept d r w n c at
 desk_kept d (ask.Needs n needs) at r w h = needs_kept d r w n needs
 desk_kept d (ask.Merge n m) at r w h = merge_kept d r w n m
 desk_kept d (ask.Close n) at r w h = close_kept d r w n
-desk_kept d ask.Vehicles at r w h = w
 desk_kept d (ask.StandDown c) at r w h = stand_down_kept d r w c at
 desk_kept d (ask.Standby c p) at r w h = standby_kept d r w c p at
 desk_kept d (ask.Duty c place until) at r w h = duty_kept d r w c place until at
@@ -66,31 +52,19 @@ desk_kept d (ask.Decline c) at r w h = decline_kept d r w c
 desk_kept d (ask.Accept c) at r w h = accept_kept d r w c at
 desk_kept d (ask.Recall c) at r w h = recall_kept d r w c
 desk_kept d (ask.GiveBack c) at r w h = give_back_kept d r w c
-desk_kept d ask.Queue at r w h = w
 desk_kept d (ask.Clear c n) at r w h = clear_kept d r w c n
-desk_kept d ask.Points at r w h = w
 desk_kept d (ask.SetPoint n place cover) at r w h = set_point_kept d r w n place cover h
-desk_kept d ask.Loans at r w h = w
-desk_kept d ask.Offers at r w h = w
-desk_kept d (ask.Times from to) at r w h = w
-desk_kept d ask.Order at r w h = w
-desk_kept d (ask.Report p) at r w h = w
+desk_kept d a at r w h = quiet_kept (Desk d) a at r w refl
 
 position_kept : (p : ℕ) (a : Ask) (at : ℕ) (r : Room) (w : IsWellFormed r)
     → Kept 0 r w (position_asks p a at r)
 position_kept p (ask.Call f) at r w = take_call_kept r w (new_call p f at)
-position_kept p a at r w = w
-
-show_order_kept : (v : Option Vehicle) (a : Option Assignment) (r : Room) (w : IsWellFormed r)
-    → Kept 0 r w (order_of v a)
-show_order_kept None a r w = w
-show_order_kept (Some v) a r w = w
+position_kept p a at r w = quiet_kept (Position p) a at r w refl
 
 crew_kept : (c : Callsign) (a : Ask) (at : ℕ) (r : Room) (w : IsWellFormed r) → IsNumbered a
     → Kept 0 r w (crew_asks c a at r)
-crew_kept c ask.Order at r w h = show_order_kept (vehicle_at c r) (assignment_at c r) r w
 crew_kept c (ask.Report p) at r w h = take_report_kept c r w p at h
-crew_kept c a at r w h = w
+crew_kept c a at r w h = quiet_kept (Crew c) a at r w refl
 
 who_kept : (who : Who) (a : Ask) (at : ℕ) (r : Room) (w : IsWellFormed r) → is_for who a r ≡ true
     → IsNumbered a → Kept 0 r w (who_asks who a at r)

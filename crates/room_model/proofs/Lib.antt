@@ -31,6 +31,7 @@ pub mod OwnChanges
 pub mod OwnDesk
 pub mod OwnRequests
 pub mod ProposalLaws
+pub mod Questions
 pub mod QueueLaws
 pub mod RefusalLaws
 pub mod RefusedAgain

@@ -1,8 +1,8 @@
 -- What doesn't speak of offers needs none.
 use Rattle.std.proofs.Common.{ap, append_assoc, subst, sym, ◌∙◌}
-use Rattle.std.specs.Prelude.{Bool, Err, List, None, Option, Some, [], cond, false, filter, filter_map, is_ok, map, refl, true, ℕ, ◌&&◌, ◌++◌, ◌==◌, ◌∷◌, ◌≡◌, ◌↔◌}
-use Rattle.room_place.specs.Choice.{Among, chosen}
-use Rattle.room_types.specs.Codes.{is_mobilised, is_offered}
+use Rattle.std.specs.Prelude.{Bool, Err, List, None, Option, Some, [], cond, false, filter, filter_map, is_ok, map, refl, ℕ, ◌&&◌, ◌++◌, ◌==◌, ◌∷◌, ◌≡◌, ◌↔◌}
+use Rattle.room_place.specs.Choice.{chosen}
+use Rattle.room_types.specs.Codes.{is_mobilised}
 use Rattle.room_types_keyed.specs.Keyed.{keep, row_at}
 use Rattle.room_types.specs.Keys.{callsign_cmp, offer_key, owns_offer, vehicle_key}
 use Rattle.room_types.specs.Orders.{callsigns_total}
@@ -35,14 +35,14 @@ use Rattle.room_model.specs.Crossing.{Crossing, cross, cross_call, cross_crew, c
 use Rattle.room_model.specs.DayTimes.{show_times}
 use Rattle.room_model.specs.Decisions.{Verdict, changes_of, show, where_active, where_held}
 use Rattle.room_model.specs.Events.{by_desk}
-use Rattle.room_model.specs.Incidents.{change_needs, close, lacking, merge, show_incidents}
+use Rattle.room_model.specs.Incidents.{change_needs, close, lacking, merge, show_incident, show_incidents}
 use Rattle.room_model.specs.Loans.{accept, accepted, decline, declined, give_back, recall, show_loans, show_offers, withdraw, withdrawn}
 use Rattle.room_model.specs.Moving.{IsUnoffered, NoneIsReserved, OffersAgree, is_lend, speaks_of_offers, without_offers}
 use Rattle.room_model.specs.Points.{breaks_post, show_points}
 use Rattle.room_model.specs.Proposals.{all_proposed, candidates, eligible, is_before, proposal_of, propose, proposed}
-use Rattle.room_model.specs.Queries.{active_incidents, all_held, assignment_at, assignment_of, borrowed, calls_of, held, holders, incident_of, incidents_opened, is_attended, is_eligible, kept_call, kept_report, last_number, lent, link_target, loan_at, loans_of, offered_by, offered_to, offers_of, open_turn, point_of, points_of, report_of, served, vehicle_at}
+use Rattle.room_model.specs.Queries.{active_incidents, all_held, assignment_at, assignment_of, borrowed, calls_of, held, holders, incident_of, incidents_opened, is_attended, is_eligible, kept_call, kept_report, last_number, last_serial, lent, link_target, loan_at, loans_of, offered_by, offered_to, offers_of, open_turn, point_of, points_of, report_of, served, turns_of, vehicle_at}
 use Rattle.room_model.specs.Queue.{clear, entries, exception, overdue, shift_over, slow, slow_turn, unanswered, uncovered, unread, unserved}
-use Rattle.room_model.specs.Reports.{report_in, report_kept, report_somewhere, show_order}
+use Rattle.room_model.specs.Reports.{report_in, report_kept, report_somewhere}
 use Rattle.room_model.specs.Room.{IsInOrder, Room, apply, apply_one}
 use Rattle.room_model.specs.Step.{crew_asks, decided, desk_asks, position_asks, room_after, who_asks}
 use Rattle.room_model.specs.Vehicles.{duty, mobilise, off, show_vehicles, stand_down, standby}
@@ -75,7 +75,7 @@ module _ (r : Room) where
   -- ---- a desk's asks
   desk_alike : (d : ℕ) (a : Ask) (at : ℕ) → speaks_of_offers a ≡ false
       → desk_asks d a at (without_offers r) ≡ desk_asks d a at r
-  unfolding show_incidents propose mobilise change_needs merge close show_vehicles stand_down standby duty off recall give_back clear show_points show_loans show_times active_incidents all_held assignment_of borrowed calls_of held holders incident_of incidents_opened is_attended lent loans_of open_turn point_of points_of report_of served
+  unfolding show_incidents show_incident propose mobilise change_needs merge close show_vehicles stand_down standby duty off recall give_back clear show_points show_loans show_times active_incidents all_held assignment_of borrowed calls_of held holders incident_of incidents_opened is_attended lent loans_of open_turn point_of points_of report_of served turns_of
   desk_alike d (ask.Propose n) at h = λ j. where_active (incident_of d n r) (λ i. show (answer.Proposals (all_alike d i at j)))
   desk_alike d (ask.Lend c to until) at h = cc
   desk_alike d (ask.Withdraw c) at h = cc
@@ -99,7 +99,7 @@ module _ (r : Room) where
 
   position_alike : (p : ℕ) (a : Ask) (at : ℕ)
       → position_asks p a at (without_offers r) ≡ position_asks p a at r
-  unfolding kept_call
+  unfolding kept_call last_serial
   position_alike p (ask.Call f) at = call_alike (kept_call p f.serial r) (new_call p f at)
   position_alike p a at = refl
 

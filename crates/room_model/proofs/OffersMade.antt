@@ -17,7 +17,6 @@ use Rattle.room_types.specs.declared.codes.Button.{Button}
 use Rattle.room_types.specs.declared.codes.Outcome.{Outcome}
 use Rattle.room_types.specs.declared.codes.Status.TheVariants.{Returning}
 use Rattle.room_types.specs.declared.refusals.Refusal.{Refusal}
-use Rattle.room_types.specs.declared.tables.Assignment.{Assignment}
 use Rattle.room_types.specs.declared.tables.Call.{Call}
 use Rattle.room_types.specs.declared.tables.Division.{Division}
 use Rattle.room_types.specs.declared.tables.Incident.{Incident}
@@ -26,21 +25,19 @@ use Rattle.room_types.specs.declared.tables.Offer.{Offer}
 use Rattle.room_types.specs.declared.tables.Report.{Report}
 use Rattle.room_types.specs.declared.tables.Turn.{Turn}
 use Rattle.room_types.specs.declared.tables.Vehicle.{Vehicle}
+use Rattle.room_model.proofs.Questions.{IsQuiet, by_quiet}
 use Rattle.room_model.specs.Calls.{call_in, call_kept, call_new, call_somewhere, call_taken, new_call}
-use Rattle.room_model.specs.DayTimes.{show_times}
-use Rattle.room_model.specs.Decisions.{Verdict, changes_of, refuse_if, show, tell, where_active, where_held}
-use Rattle.room_model.specs.Incidents.{change_needs, close, close_active, merge, merge_of, moved_call, needs_changed, show_incidents}
-use Rattle.room_model.specs.Loans.{accept, accepted, decline, declined, give_back, given_back, recall, recall_lent, show_loans, show_offers, withdraw, withdrawn}
+use Rattle.room_model.specs.Decisions.{Verdict, changes_of, refuse_if, tell, where_active, where_held}
+use Rattle.room_model.specs.Incidents.{change_needs, close, close_active, merge, merge_of, moved_call, needs_changed}
+use Rattle.room_model.specs.Loans.{accept, accepted, decline, declined, give_back, given_back, recall, recall_lent, withdraw, withdrawn}
 use Rattle.room_model.specs.Moving.{IsUnoffered, NobodyLends, is_lend}
-use Rattle.room_model.specs.Points.{show_points}
-use Rattle.room_model.specs.Proposals.{all_proposed, propose}
 use Rattle.room_model.specs.Queries.{borrowed, held, incident_of, is_attended, lent, offered_by, open_turn, point_of, served}
-use Rattle.room_model.specs.Queue.{clear, clear_found, show_queue}
-use Rattle.room_model.specs.Reports.{back_changes, drop_changes, ends_turn, is_due, is_home, order_of, report_held, report_in, report_kept, report_made, report_row, report_somewhere, turn_changes, with_report}
+use Rattle.room_model.specs.Queue.{clear, clear_found}
+use Rattle.room_model.specs.Reports.{back_changes, drop_changes, ends_turn, is_due, is_home, report_held, report_in, report_kept, report_made, report_row, report_somewhere, turn_changes, with_report}
 use Rattle.room_model.specs.Room.{Room, apply, apply_one}
 use Rattle.room_model.specs.Run.{room_run}
 use Rattle.room_model.specs.Step.{crew_asks, decided, desk_asks, position_asks, room_after, who_asks}
-use Rattle.room_model.specs.Vehicles.{duty, mobilise, mobilise_held, mobilised, off, off_duty, on_duty, show_vehicles, stand_down, stand_down_held, standby, standby_at, stands_by, turn_stood_down}
+use Rattle.room_model.specs.Vehicles.{duty, mobilise, mobilise_held, mobilised, off, off_duty, on_duty, stand_down, stand_down_held, standby, standby_at, stands_by, turn_stood_down}
 use Rattle.room_types.specs.declared.answers.Answer.TheVariants as answer
 use Rattle.room_types.specs.declared.asks.Ask.TheVariants as ask
 
@@ -120,10 +117,13 @@ cleared_none : (o : Option Report) → NoneMade (clear_found o)
 cleared_none None = tt
 cleared_none (Some x) = refused_none _ _ _ (tt, tt)
 
+quiet_none : (who : Who) (a : Ask) (at : ℕ) (r : Room) → IsQuiet who a
+    → NoneMade (who_asks who a at r)
+quiet_none who a at r h = by_quiet at r AllMakeNone who a h tt
+
 desk_none : (d : ℕ) (a : Ask) (at : ℕ) (r : Room) → is_lend a ≡ false
     → NoneMade (desk_asks d a at r)
-unfolding show_incidents show_vehicles show_queue show_points show_loans show_offers show_times propose mobilise change_needs merge close stand_down standby duty off withdraw decline accept recall give_back clear
-desk_none d (ask.Propose n) at r h = active_none (incident_of d n r) (λ i. show (answer.Proposals (all_proposed d i at r))) (λ i. tt)
+unfolding mobilise change_needs merge close stand_down standby duty off withdraw decline accept recall give_back clear
 desk_none d (ask.Mobilise n c) at r h = active_none (incident_of d n r) (mobilise_held d (held d c r) (lent d c r) at (λ k. served d n k r)) (λ i. held_none (held d c r) (lent d c r) (mobilised d i at (λ k. served d n k r)) (λ v. refused_none _ _ _ (refused_none _ _ _ (refused_none _ _ _ (refused_none _ _ _ (tt, (tt, (tt, (tt, tt)))))))))
 desk_none d (ask.Needs n needs) at r h = active_none (incident_of d n r) (needs_changed needs (λ k. served d n k r)) (λ i. refused_none _ _ _ (tt, tt))
 desk_none d (ask.Merge n m) at r h = merge_none _ _ _ _
@@ -140,7 +140,7 @@ desk_none d (ask.Recall c) at r h = recalled_none _ _
 desk_none d (ask.GiveBack c) at r h = held_none (held d c r) (lent d c r) (given_back d (borrowed d c r)) (λ v. refused_none _ _ _ (refused_none _ _ _ (tt, (tt, tt))))
 desk_none d (ask.Clear c n) at r h = cleared_none _
 desk_none d (ask.SetPoint n place cover) at r h = (tt, tt)
-desk_none d a at r h = tt
+desk_none d a at r h = quiet_none (Desk d) a at r refl
 
 -- ---- calls
 new_none : (d : ℕ) (new : NewCall) (v : Option Division) → NoneMade (call_new d new v)
@@ -163,7 +163,7 @@ call_none (Some k) new r = refused_none _ _ _ tt
 
 position_none : (p : ℕ) (a : Ask) (at : ℕ) (r : Room) → NoneMade (position_asks p a at r)
 position_none p (ask.Call f) at r = call_none _ (new_call p f at) r
-position_none p a at r = tt
+position_none p a at r = quiet_none (Position p) a at r refl
 
 -- ---- reports
 turns_none : (b : Button) (at : ℕ) (o : Option Turn) → AllMakeNone (turn_changes b at o)
@@ -200,14 +200,9 @@ kept_none : (o : Option Report) (c : Callsign) (p : Press) (at : ℕ) (r : Room)
 kept_none None c p at r = reported_none _ c p at r
 kept_none (Some k) c p at r = refused_none _ _ _ tt
 
-order_none : (v : Option Vehicle) (a : Option Assignment) → NoneMade (order_of v a)
-order_none None a = tt
-order_none (Some v) a = tt
-
 crew_none : (c : Callsign) (a : Ask) (at : ℕ) (r : Room) → NoneMade (crew_asks c a at r)
-crew_none c ask.Order at r = order_none _ _
 crew_none c (ask.Report p) at r = kept_none _ c p at r
-crew_none c a at r = tt
+crew_none c a at r = quiet_none (Crew c) a at r refl
 
 -- ---- whoever asks
 pub none_made : (who : Who) (a : Ask) (at : ℕ) (r : Room) → is_lend a ≡ false

@@ -1,6 +1,6 @@
 -- One event, and what a share becomes by what it is handed.
 use Rattle.std.proofs.Common.{ap, sym, ◌∙◌}
-use Rattle.std.specs.Prelude.{Bool, List, None, Option, Some, [], cond, false, is_ok, is_some, map, not, true, ℕ, ◌++◌, ◌==◌, ◌∷◌, ◌≡◌}
+use Rattle.std.specs.Prelude.{Bool, List, None, Option, Some, [], cond, false, is_ok, is_some, map, not, refl, true, ℕ, ◌++◌, ◌==◌, ◌∷◌, ◌≡◌}
 use Rattle.room_types.specs.declared.asks.Ask.{Ask}
 use Rattle.room_types.specs.declared.asks.Who.TheVariants.{Desk}
 use Rattle.room_types.specs.declared.changes.Change.{Change}
@@ -17,23 +17,20 @@ use Rattle.room_types.specs.declared.tables.Vehicle.{Vehicle}
 use Rattle.room_model.proofs.Handed.{desk_isolated}
 use Rattle.room_model.proofs.OwnChanges.{own_apply_own}
 use Rattle.room_model.proofs.OwnDesk.{desk_own}
+use Rattle.room_model.proofs.Questions.{by_quiet}
 use Rattle.room_model.specs.Alone.{share_by}
 use Rattle.room_types.specs.Codes.{is_active}
 use Rattle.room_model.specs.Crossing.{cross, cross_other, cross_own}
-use Rattle.room_model.specs.DayTimes.{show_times}
-use Rattle.room_model.specs.Decisions.{Verdict, changes_of, refuse_if, show, where_active, where_held}
-use Rattle.room_model.specs.Incidents.{change_needs, close, close_active, merge, merge_of, moved_call, needs_changed, show_incidents}
-use Rattle.room_model.specs.Loans.{give_back, given_back, lend, offered, recall, recall_lent, show_loans, show_offers, withdraw, withdrawn}
-use Rattle.room_model.specs.Points.{show_points}
-use Rattle.room_model.specs.Proposals.{all_proposed, propose}
+use Rattle.room_model.specs.Decisions.{Verdict, changes_of, refuse_if, where_active, where_held}
+use Rattle.room_model.specs.Incidents.{change_needs, close, close_active, merge, merge_of, moved_call, needs_changed}
+use Rattle.room_model.specs.Loans.{give_back, given_back, lend, offered, recall, recall_lent, withdraw, withdrawn}
 use Rattle.room_model.specs.Queries.{borrowed, held, incident_of, is_attended, lent, offered_by, open_turn, point_of, served}
-use Rattle.room_model.specs.Queue.{clear, clear_found, show_queue}
+use Rattle.room_model.specs.Queue.{clear, clear_found}
 use Rattle.room_model.specs.Room.{IsInOrder, Room, apply}
 use Rattle.room_model.specs.Shares.{ArePlain, own}
 use Rattle.room_model.specs.Step.{desk_asks, room_after}
-use Rattle.room_model.specs.Vehicles.{duty, mobilise, mobilise_held, mobilised, off, off_duty, on_duty, show_vehicles, stand_down, stand_down_held, standby, standby_at, stands_by, turn_stood_down}
+use Rattle.room_model.specs.Vehicles.{duty, mobilise, mobilise_held, mobilised, off, off_duty, on_duty, stand_down, stand_down_held, standby, standby_at, stands_by, turn_stood_down}
 use Rattle.room_model.specs.WellFormed.{IsWellFormed}
-use Rattle.room_types.specs.declared.answers.Answer.TheVariants as answer
 use Rattle.room_types.specs.declared.asks.Ask.TheVariants as ask
 use Rattle.room_types.specs.declared.refusals.Refusal.TheVariants as refusal
 
@@ -106,10 +103,9 @@ settles a = false
 
 pub desk_plain : (d : ℕ) (a : Ask) (at : ℕ) (r : Room) → settles a ≡ false
     → ArePlain (changes_of (desk_asks d a at r))
-unfolding show_incidents show_vehicles show_queue show_points show_loans show_offers show_times propose mobilise change_needs merge close stand_down standby duty off lend withdraw recall give_back clear
+unfolding mobilise change_needs merge close stand_down standby duty off lend withdraw recall give_back clear
 desk_plain d (ask.Decline c) at r l = cc
 desk_plain d (ask.Accept c) at r l = cc
-desk_plain d (ask.Propose n) at r l = plain_active (incident_of d n r) (λ i. show (answer.Proposals (all_proposed d i at r))) (λ i. tt)
 desk_plain d (ask.Mobilise n c) at r l = plain_active (incident_of d n r) (mobilise_held d (held d c r) (lent d c r) at (λ k. served d n k r)) (λ i. plain_held (held d c r) (lent d c r) (mobilised d i at (λ k. served d n k r)) (λ v. plain_refuse _ _ _ (plain_refuse _ _ _ (plain_refuse _ _ _ (plain_refuse _ _ _ (tt, (tt, (tt, (tt, tt)))))))))
 desk_plain d (ask.Needs n needs) at r l = plain_active (incident_of d n r) (needs_changed needs (λ k. served d n k r)) (λ i. plain_refuse _ _ _ (tt, tt))
 desk_plain d (ask.Merge n m) at r l = plain_merge _ _ _ _
@@ -124,7 +120,7 @@ desk_plain d (ask.Recall c) at r l = plain_recall _ _
 desk_plain d (ask.GiveBack c) at r l = plain_held (held d c r) (lent d c r) (given_back d (borrowed d c r)) (λ v. plain_refuse _ _ _ (plain_refuse _ _ _ (tt, (tt, tt))))
 desk_plain d (ask.Clear c n) at r l = plain_clear _
 desk_plain d (ask.SetPoint n place cover) at r l = (tt, tt)
-desk_plain d a at r l = tt
+desk_plain d a at r l = by_quiet at r ArePlain (Desk d) a refl tt
 
 -- the desk's own request, where it settles no vehicle: the share's step is the room's
 pub own_desk : (d : ℕ) (r : Room) (a : Ask) (at : ℕ) → IsInOrder r → settles a ≡ false

@@ -12,11 +12,13 @@ use Rattle.room_model.proofs.CallsApart.{call_equal}
 use Rattle.room_model.proofs.CrewLaws.{mine_answer}
 use Rattle.room_model.proofs.OwnDesk.{desk_equal}
 use Rattle.room_model.specs.Calls.{call_kept, call_somewhere, new_call, take_call}
+use Rattle.room_model.specs.Decisions.{show}
 use Rattle.room_model.specs.Queries.{kept_call}
 use Rattle.room_model.specs.Room.{Room}
 use Rattle.room_model.specs.Shares.{AgreeOn, AgreeOnCall}
 use Rattle.room_model.specs.Step.{decided, who_asks}
 use Rattle.room_model.specs.WellFormed.{IsWellFormed}
+use Rattle.room_types.specs.declared.answers.Answer.TheVariants as answer
 use Rattle.room_types.specs.declared.asks.Ask.TheVariants as ask
 
 module _ (r s : Room) (w : IsWellFormed r) (v : IsWellFormed s) where
@@ -40,6 +42,7 @@ module _ (r s : Room) (w : IsWellFormed r) (v : IsWellFormed s) where
   who_alike (Desk d) a at agree = desk_equal d a at r s w.order v.order agree
   who_alike (Crew c) a at agree = mine_answer c a at r s w.order v.order agree
   who_alike (Position p) (ask.Call f) at agree = kept_alike p f at agree (kept_call p f.serial r) refl
+  who_alike (Position p) ask.Last at agree = ap (λ n. show (answer.LastSerial n)) agree
   who_alike (Position p) a at agree = refl
 
   pub decided_alike : (e : Event) → AgreeOn e.who e.ask r s → decided e r ≡ decided e s

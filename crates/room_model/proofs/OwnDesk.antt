@@ -21,13 +21,13 @@ use Rattle.room_types.specs.declared.tables.Point.{Point}
 use Rattle.room_types.specs.declared.tables.Turn.{Turn}
 use Rattle.room_types.specs.declared.tables.Vehicle.{Vehicle}
 use Rattle.room_types.specs.Texts.{Callsign}
-use Rattle.room_model.proofs.AskLaws.{accept_same, clear_same, close_same, decline_same, duty_same, give_back_same, incidents_same, lend_same, loans_same, merge_same, mobilise_same, needs_same, off_same, offers_same, points_same, propose_same, queue_same, recall_same, stand_down_same, standby_same, times_same, vehicles_same, withdraw_same}
+use Rattle.room_model.proofs.AskLaws.{accept_same, clear_same, close_same, decline_same, duty_same, give_back_same, incident_same, incidents_same, lend_same, loans_same, merge_same, mobilise_same, needs_same, off_same, offers_same, points_same, propose_same, queue_same, recall_same, stand_down_same, standby_same, times_same, vehicles_same, withdraw_same}
 use Rattle.room_model.proofs.Sights.{SeesCover, SeesIncident, SeesVehicle, SeesVehicles, sees_beside}
 use Rattle.room_model.proofs.Tests.{any_filter, filter_filter, filter_map_among, filter_map_filter, is_equal, keep_keep, keep_row, left_true}
 use Rattle.room_model.specs.Calls.{call_in, call_taken}
 use Rattle.room_types.specs.Codes.{is_active, is_mobilised}
 use Rattle.room_model.specs.Moments.{age}
-use Rattle.room_model.specs.Queries.{active_incidents, borrowed, calls_of, held, incident_of, incidents_opened, is_attended, is_candidate, is_nearer, last_number, link_target, open_turn, report_of, served}
+use Rattle.room_model.specs.Queries.{active_incidents, borrowed, calls_of, held, incident_of, incidents_opened, is_attended, is_candidate, is_nearer, last_number, link_target, open_turn, report_of, served, turns_of}
 use Rattle.room_model.specs.Queue.{entries, exception, overdue, shift_over, slow, slow_incident, slow_turn, unanswered, uncovered, unread, unread_turn, unserved}
 use Rattle.room_model.specs.Reports.{report_held, report_in}
 use Rattle.room_model.specs.Room.{IsInOrder, Room}
@@ -54,6 +54,10 @@ module _ (d : ℕ) (r : Room) (in_order : IsInOrder r) where
   pub calls_own : (n : ℕ) → calls_of d n (own d r) ≡ calls_of d n r
   unfolding calls_of
   calls_own n = filter_filter _ (owns_call d) r.calls (λ x h. left_true _ _ h)
+
+  turns_own : (n : ℕ) → turns_of d n (own d r) ≡ turns_of d n r
+  unfolding turns_of
+  turns_own n = filter_filter _ (owns_turn d) r.turns (λ x h. left_true _ _ h)
 
   pub sees_incident_own : (n : ℕ) → SeesIncident d n (own d r) r
   sees_incident_own n = record { same_incident = incident_own n; same_served = served_own n; same_attended = attended_own n }
@@ -155,6 +159,7 @@ module _ (d : ℕ) (r : Room) (in_order : IsInOrder r) where
   pub desk_own : (a : Ask) (at : ℕ) → desk_asks d a at (own d r) ≡ desk_asks d a at r
   desk_own (ask.Call f) at = refl
   desk_own ask.Incidents at = incidents_same d (own d r) r active_own (λ i m. sees_incident_own i.number) (λ i m. calls_own i.number)
+  desk_own (ask.Incident n) at = incident_same d (own d r) r n (sees_incident_own n) (calls_own n) (turns_own n)
   desk_own (ask.Propose n) at = propose_same d (own d r) r n at (sees_incident_own n) sees_cover_own (λ k. sees_own.same_eligible k at)
   desk_own (ask.Mobilise n c) at = mobilise_same d (own d r) r n c at (sees_vehicle_own c) (sees_incident_own n)
   desk_own (ask.Needs n needs) at = needs_same d (own d r) r n needs (sees_incident_own n)
@@ -180,6 +185,7 @@ module _ (d : ℕ) (r : Room) (in_order : IsInOrder r) where
   desk_own (ask.Times from to) at = times_same d (own d r) r from to (opened_own from to)
   desk_own ask.Order at = refl
   desk_own (ask.Report p) at = refl
+  desk_own ask.Last at = refl
 
   -- a call in the division, and a report of a vehicle that it holds
   pub call_own : (new : NewCall) → call_in d new (own d r) ≡ call_in d new r

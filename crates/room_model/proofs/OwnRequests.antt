@@ -131,7 +131,7 @@ module _ (d : ℕ) (r : Room) (w : IsWellFormed r) where
   decline_own c at = declined_own c at (offered_to d c r) refl ∙ sym (ap (λ o. own d (apply (own d r) (changes_of (declined o)))) ((sees_own d r w.order).same_offered_to c))
 
   -- ---- accept
-  -- the offers alone decide it
+  -- only the offers decide it
   accept_by_offers : (c : Callsign) (at : ℕ) (v : Vehicle)
       → accept d c at (put_vehicle (own d r) v) ≡ accept d c at r
   unfolding accept offered_to
@@ -187,7 +187,7 @@ module _ (d : ℕ) (r : Room) (w : IsWellFormed r) where
   told_request (ask.Accept c) at = told_accept c at (is_ok (accept d c at r)) (vehicle_at c r)
   told_request a at = ap (λ x. answer_of x ∷ []) (desk_own d r w.order a at)
 
--- ---- the offer alone
+-- ---- the offer only
 module _ (d : ℕ) (c : Callsign) (at : ℕ) (r s : Room) (same : offer_at c r ≡ offer_at c s) where
   same_offered : offered_to d c r ≡ offered_to d c s
   unfolding offered_to offer_at

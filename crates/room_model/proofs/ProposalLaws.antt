@@ -123,7 +123,7 @@ module _ {X Y : Type 0} (f : Y → X) (lt : X → X → Bool) where
     ];
   }
 
--- ---- proposals of one kind, which what orders them tells apart
+-- ---- proposals of one kind, which their order distinguishes
 abbrev Mark : Type 0
 Mark = Bool × (ℕ × Callsign)
 

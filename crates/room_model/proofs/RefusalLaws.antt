@@ -2,6 +2,7 @@
 use Rattle.std.specs.Prelude.{Bool, Err, IfErr, List, None, Ok, Option, Some, false, refl, true, ℕ, ◌≡◌}
 use Rattle.room_types.specs.declared.asks.Ask.{Ask}
 use Rattle.room_types.specs.declared.asks.Event.{Event}
+use Rattle.room_types.specs.declared.answers.Served.{Served}
 use Rattle.room_types.specs.declared.asks.NewCall.{NewCall}
 use Rattle.room_types.specs.declared.asks.Press.{Press}
 use Rattle.room_types.specs.declared.asks.Who.{Who}
@@ -21,12 +22,12 @@ use Rattle.room_model.proofs.DecisionLaws.{by_report}
 use Rattle.room_model.specs.Calls.{call_in, call_kept, call_new, call_somewhere, call_taken, new_call}
 use Rattle.room_model.specs.DayTimes.{show_times}
 use Rattle.room_model.specs.Decisions.{Verdict, answer_of, refuse_if, where_active, where_held}
-use Rattle.room_model.specs.Incidents.{change_needs, close, merge, merge_of, show_incidents}
+use Rattle.room_model.specs.Incidents.{change_needs, close, history_of, merge, merge_of, show_incident, show_incidents}
 use Rattle.room_model.specs.Loans.{accept, accepted, decline, declined, give_back, lend, recall, recall_lent, show_loans, show_offers, withdraw, withdrawn}
 use Rattle.room_model.specs.Points.{show_points}
 use Rattle.room_model.specs.Proposals.{propose}
 use Rattle.room_model.specs.Queue.{clear, clear_found, show_queue}
-use Rattle.room_model.specs.Reports.{order_of, report_held, report_in, report_kept, report_somewhere}
+use Rattle.room_model.specs.Reports.{last_of, order_of, report_held, report_in, report_kept, report_somewhere}
 use Rattle.room_model.specs.Room.{Room}
 use Rattle.room_model.specs.Step.{answer_to, crew_asks, desk_asks, is_of_role, is_of_the_room, position_asks, who_asks}
 use Rattle.room_model.specs.Vehicles.{duty, mobilise, off, show_vehicles, stand_down, standby, standby_at}
@@ -70,6 +71,11 @@ by_withdrawn : (o : Option Offer) (v : Vehicle) → Refuses (withdrawn o v)
 by_withdrawn None v = refl
 by_withdrawn (Some o) v = tt
 
+by_history : (o : Option Incident) (serving : Served) (calls : List Call) (turns : List Turn)
+    → Refuses (history_of o serving calls turns)
+by_history None serving calls turns = refl
+by_history (Some i) serving calls turns = tt
+
 by_declined : (o : Option Offer) → Refuses (declined o)
 by_declined None = refl
 by_declined (Some o) = tt
@@ -92,8 +98,9 @@ ruleset by_form = (by_test, by_held, by_active, by_point, by_withdrawn)
 module _ (r : Room) where
   desk_refuses : (d : ℕ) (a : Ask) (at : ℕ) → is_of_role (Desk d) a ≡ true
       → Refuses (desk_asks d a at r)
-  unfolding show_incidents show_vehicles show_queue show_points show_loans show_offers show_times propose mobilise change_needs merge close stand_down standby duty off lend withdraw decline accept recall give_back clear
+  unfolding show_incidents show_incident show_vehicles show_queue show_points show_loans show_offers show_times propose mobilise change_needs merge close stand_down standby duty off lend withdraw decline accept recall give_back clear
   desk_refuses d ask.Incidents at h = tt
+  desk_refuses d (ask.Incident n) at h = by_history _ _ _ _
   desk_refuses d (ask.Propose n) at h = search by_form depth 9
   desk_refuses d (ask.Mobilise n c) at h = search by_form depth 9
   desk_refuses d (ask.Needs n needs) at h = search by_form depth 9
@@ -120,6 +127,7 @@ module _ (r : Room) where
   desk_refuses d (ask.Call f) at h = cc
   desk_refuses d ask.Order at h = cc
   desk_refuses d (ask.Report p) at h = cc
+  desk_refuses d ask.Last at h = cc
 
   -- ---- calls
   by_number : (d : ℕ) (new : NewCall) (v : Option Division) → Refuses (call_new d new v)
@@ -143,6 +151,7 @@ module _ (r : Room) where
   position_refuses : (p : ℕ) (a : Ask) (at : ℕ) → is_of_role (Position p) a ≡ true
       → Refuses (position_asks p a at r)
   position_refuses p (ask.Call f) at h = by_serial _ (new_call p f at)
+  position_refuses p ask.Last at h = tt
   position_refuses p a at h = cc
 
   -- ---- reports
@@ -166,9 +175,14 @@ module _ (r : Room) where
   by_order None a = refl
   by_order (Some v) a = tt
 
+  by_last : (v : Option Vehicle) → Refuses (last_of v)
+  by_last None = refl
+  by_last (Some v) = tt
+
   crew_refuses : (c : Callsign) (a : Ask) (at : ℕ) → is_of_role (Crew c) a ≡ true
       → Refuses (crew_asks c a at r)
   crew_refuses c ask.Order at h = by_order _ _
+  crew_refuses c ask.Last at h = by_last _
   crew_refuses c (ask.Report p) at h = by_report_number _ c p at
   crew_refuses c a at h = cc
 
@@ -184,17 +198,20 @@ module _ (r : Room) where
   desk_wrong d (ask.Call f) at h = refl
   desk_wrong d ask.Order at h = refl
   desk_wrong d (ask.Report p) at h = refl
+  desk_wrong d ask.Last at h = refl
   desk_wrong d a at h = cc
 
   position_wrong : (p : ℕ) (a : Ask) (at : ℕ) → is_of_role (Position p) a ≡ false
       → position_asks p a at r ≡ Err refusal.WrongRole
   position_wrong p (ask.Call f) at h = cc
+  position_wrong p ask.Last at h = cc
   position_wrong p a at h = refl
 
   crew_wrong : (c : Callsign) (a : Ask) (at : ℕ) → is_of_role (Crew c) a ≡ false
       → crew_asks c a at r ≡ Err refusal.WrongRole
   crew_wrong c ask.Order at h = cc
   crew_wrong c (ask.Report p) at h = cc
+  crew_wrong c ask.Last at h = cc
   crew_wrong c a at h = refl
 
   pub wrong_role : (who : Who) (a : Ask) (at : ℕ) → is_of_role who a ≡ false

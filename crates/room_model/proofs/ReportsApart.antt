@@ -17,7 +17,6 @@ use Rattle.room_types.specs.declared.changes.Change.TheVariants.{DropLoan, PutRe
 use Rattle.room_types.specs.declared.codes.Button.{Button}
 use Rattle.room_types.specs.declared.codes.Outcome.{Outcome}
 use Rattle.room_types.specs.declared.codes.Status.{Status}
-use Rattle.room_types.specs.declared.tables.Assignment.{Assignment}
 use Rattle.room_types.specs.declared.tables.Loan.{Loan}
 use Rattle.room_types.specs.declared.tables.Report.{Report}
 use Rattle.room_types.specs.declared.tables.Turn.{Turn}
@@ -29,12 +28,13 @@ use Rattle.room_model.proofs.Changes.{all_plain, plain_allowed, report_all}
 use Rattle.room_model.proofs.DecisionLaws.{by_refuse, by_report}
 use Rattle.room_model.proofs.OwnChanges.{in_order_one, own_apply, own_apply_own}
 use Rattle.room_model.proofs.OwnDesk.{report_in_own}
+use Rattle.room_model.proofs.Questions.{quiet_shows}
 use Rattle.room_model.proofs.Tests.{among_filter, first_among, left_true, right_true}
 use Rattle.room_model.specs.Alone.{share_by, told_by}
 use Rattle.room_model.specs.Crossing.{Arrive, Crossing, ReportIn, arrival, cross_crew, cross_report, is_held_by, is_loan_ended}
 use Rattle.room_model.specs.Decisions.{Verdict, changes_of, tell}
-use Rattle.room_model.specs.Queries.{assignment_at, borrowed, held, kept_report, loan_at, open_turn, vehicle_at}
-use Rattle.room_model.specs.Reports.{back_changes, drop_changes, ends_turn, is_due, is_home, order_of, outcome_of, report_acts, report_held, report_in, report_kept, report_row, report_somewhere, status_after, take_report, turn_after, turn_changes, vehicle_after, with_report}
+use Rattle.room_model.specs.Queries.{borrowed, held, kept_report, loan_at, open_turn, vehicle_at}
+use Rattle.room_model.specs.Reports.{back_changes, drop_changes, ends_turn, is_due, is_home, outcome_of, report_acts, report_held, report_in, report_kept, report_row, report_somewhere, status_after, take_report, turn_after, turn_changes, vehicle_after, with_report}
 use Rattle.room_model.specs.Room.{IsInOrder, Room, apply, apply_one}
 use Rattle.room_model.proofs.ShareChanges.{share_after}
 use Rattle.room_model.specs.Shares.{ArePlain, IsPlain, own}
@@ -290,17 +290,12 @@ module _ (d : ℕ) (r : Room) (w : IsWellFormed r) (c : Callsign) (at : ℕ) whe
   report_event p None e = placed p (vehicle_at c r) e refl
   report_event p (Some k) e = by_refuse (λ x. own d (apply r (changes_of x)) ≡ own d r) _ _ _ refl (λ f. refl)
 
-  shown : (v : Option Vehicle) (a : Option Assignment) → changes_of (order_of v a) ≡ []
-  shown None a = refl
-  shown (Some v) a = refl
-
   pub crew_event : (a : Ask) → own d (apply r (changes_of (crew_asks c a at r)))
       ≡ share_by d (own d r) (cross_crew d c (sent a) a r)
   crew_event (ask.Report p) = report_event p (kept_report c p.number r) refl
-  crew_event ask.Order = ap (λ cs. own d (apply r cs)) (shown (vehicle_at c r) (assignment_at c r))
-  crew_event a = refl
+  crew_event a = ap (λ cs. own d (apply r cs)) (quiet_shows at r (Crew c) a refl)
 
-  -- no desk is told of it
+  -- no desk sees it
   quiet_arrival : (b : Bool) (o : Option Vehicle)
       → told_by (own d r) (cond b (option_map Arrive o) None) ≡ []
   quiet_arrival true None = refl

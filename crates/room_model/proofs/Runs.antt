@@ -34,7 +34,7 @@ use Rattle.room_model.specs.Step.{answer_to, decided, desk_asks, room_after}
 use Rattle.room_model.specs.WellFormed.{IsWellFormed}
 use Rattle.room_types.specs.declared.asks.Ask.TheVariants as ask
 
--- ---- a request of another desk tells this one nothing
+-- ---- a request of another desk gives this one no answer
 module _ (s : Room) where
   quiet_if : (b : Bool) (x : Option Crossing) → told_by s x ≡ [] → told_by s (cond b x None) ≡ []
   quiet_if true x e = e

@@ -7,7 +7,7 @@ use Rattle.room_types_keyed.proofs.KeyedLaws.{row_filter}
 use Rattle.room_types_keyed.specs.Keyed.{keep, row_at}
 use Rattle.room_types.specs.Keys.{assignment_key, callsign_cmp, incident_key, numbered_cmp, owns_assignment, owns_call, owns_division, owns_incident, owns_loan, owns_offer, owns_point, owns_report, owns_turn, owns_vehicle, pair_cmp, turn_key, vehicle_key}
 use Rattle.room_types.specs.Orders.{callsigns_total, exact_callsigns, exact_numbered, numbered_total, pairs_total}
-use Rattle.room_types.specs.Sent.{IsSent, PartsAgree}
+use Rattle.room_types.specs.SentVehicles.{IsSent, PartsAgree}
 use Rattle.room_types.specs.Codes.{is_active, is_busy}
 use Rattle.room_types.specs.Slices.{AssignmentAgrees, IsActive, IsInTurn, IsShare, TurnAgrees, VehicleAgrees, assignment_at, open_turn, turn_at, vehicle_at}
 use Rattle.room_types.specs.Texts.{Callsign}
@@ -26,7 +26,7 @@ use Rattle.room_types.specs.declared.tables.Vehicle.{Vehicle}
 use Rattle.room_model.proofs.Tests.{Implies, left_true}
 use Rattle.room_model.specs.Room.{Room}
 use Rattle.room_model.specs.Shares.{own}
-use Rattle.room_model.specs.Slices.{room_of}
+use Rattle.room_model.specs.RoomSlices.{room_of}
 use Rattle.room_model.specs.WellFormed.{IsWellFormed}
 use Rattle.room_model.specs.Working.{names_turn, reads_assignments, reads_calls, reads_division, reads_incident, reads_loan, reads_number, reads_offer, reads_point, reads_report, reads_vehicle, working}
 use Rattle.room_model.specs.WellFormed as room

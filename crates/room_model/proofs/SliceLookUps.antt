@@ -22,7 +22,7 @@ use Rattle.room_types.specs.declared.tables.Vehicle.{Vehicle}
 use Rattle.room_model.proofs.SliceLaws.{is_open}
 use Rattle.room_model.proofs.Tests.{both_true, is_equal, left_true, none_of, right_true, row_among}
 use Rattle.room_model.specs.Queries.{all_held, assignment_of, held, loans_of, offers_of, open_turn, points_of}
-use Rattle.room_model.specs.Slices.{room_of}
+use Rattle.room_model.specs.RoomSlices.{room_of}
 
 -- ---- rows that all pass
 keep_passing : {X : Type 0} (p : X → Bool) (o : Option X) → IfSome o (λ x. p x ≡ true)

@@ -1,4 +1,4 @@
--- What a vehicle's status tells of its turns and its assignment.
+-- What a vehicle's status says of its turns and its assignment.
 use Rattle.std.proofs.Common.{ap, subst, sym, ◌∙◌}
 use Rattle.std.proofs.lemmas.Bool.{false_from_ne_true}
 use Rattle.std.specs.Prelude.{Bool, None, Option, Some, false, refl, true, ℕ, ◌↔◌, ◌≡◌}

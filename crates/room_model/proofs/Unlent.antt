@@ -142,14 +142,21 @@ module _ (r : Room) (w : IsWellFormed r) (u : IsUnlent r) where
       none f = cc
   desk_step d a at false l n = other_step d a at l (is_lend a) refl n
 
+  position_leaves : (p : ℕ) (a : Ask) (at : ℕ)
+      → IsUnlent (apply r (changes_of (position_asks p a at r)))
+  position_leaves p a at = apply_leaves r (changes_of (position_asks p a at r)) (position_all r LeavesUnlent (leaves_allowed r) p a at) u
+
   position_step : (p : ℕ) (a : Ask) (at : ℕ) → IsStep a (position_asks p a at r)
-  position_step p (ask.Call f) at = (refl, apply_leaves r (changes_of (position_asks p (ask.Call f) at r)) (position_all r LeavesUnlent (leaves_allowed r) p (ask.Call f) at) u)
-  position_step p a at = refused_step a (position_asks p a at r) refl
+  position_step p (ask.Call f) at = (refl, position_leaves p (ask.Call f) at)
+  position_step p a at = (refl, position_leaves p a at)
+
+  crew_leaves : (c : Callsign) (a : Ask) (at : ℕ)
+      → IsUnlent (apply r (changes_of (crew_asks c a at r)))
+  crew_leaves c a at = apply_leaves r (changes_of (crew_asks c a at r)) (crew_all r LeavesUnlent (leaves_allowed r) c a at) u
 
   crew_step : (c : Callsign) (a : Ask) (at : ℕ) → IsStep a (crew_asks c a at r)
-  crew_step c ask.Order at = (refl, apply_leaves r (changes_of (crew_asks c ask.Order at r)) (crew_all r LeavesUnlent (leaves_allowed r) c ask.Order at) u)
-  crew_step c (ask.Report p) at = (refl, apply_leaves r (changes_of (crew_asks c (ask.Report p) at r)) (crew_all r LeavesUnlent (leaves_allowed r) c (ask.Report p) at) u)
-  crew_step c a at = refused_step a (crew_asks c a at r) refl
+  crew_step c (ask.Report p) at = (refl, crew_leaves c (ask.Report p) at)
+  crew_step c a at = (refl, crew_leaves c a at)
 
   who_step : (who : Who) (a : Ask) (at : ℕ)
       → not (is_lend a) || is_err (answer_of (who_asks who a at r)) ≡ true

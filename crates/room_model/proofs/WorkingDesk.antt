@@ -21,7 +21,7 @@ use Rattle.room_types.specs.declared.tables.Vehicle.{Vehicle}
 use Rattle.room_model.proofs.Sights.{SeesCover, SeesIncident, SeesVehicle}
 use Rattle.room_model.proofs.Tests.{among_filter, any_filter, both_true, filter_among, filter_filter, first_among, is_equal, keep_keep, keep_keep_row, keep_row, left_true, none_of, or_left, or_right, right_true, row_among, row_key}
 use Rattle.room_model.specs.Proposals.{eligible}
-use Rattle.room_model.specs.Queries.{active_incidents, all_held, assignment_of, borrowed, calls_of, held, holders, incident_of, is_attended, lent, loans_of, offered_by, offered_to, offers_of, open_turn, point_of, points_of, report_of, served}
+use Rattle.room_model.specs.Queries.{active_incidents, all_held, assignment_of, borrowed, calls_of, held, holders, incident_of, is_attended, lent, loans_of, offered_by, offered_to, offers_of, open_turn, point_of, points_of, report_of, served, turns_of}
 use Rattle.room_model.specs.WellFormed.{IsWellFormed, OpenAgrees, TurnAgrees, TurnIsActive}
 use Rattle.room_model.specs.Room.{Room}
 use Rattle.room_model.specs.Working.{is_last_turn, names_incident, names_opening, names_turn, reads_active, reads_assignments, reads_calls, reads_incident, reads_loan, reads_number, reads_offer, reads_point, reads_report, reads_vehicle, working}
@@ -149,6 +149,11 @@ module _ (d : ℕ) (a : Ask) (at : ℕ) (r : Room) (formed : IsWellFormed r) whe
       → calls_of d n (working d a at r) ≡ calls_of d n r
   unfolding calls_of
   calls_read n calls h = filter_filter _ (λ c. c.division == d && (reads_calls a && reads_number d a r c.incident)) r.calls (λ c g. both_true _ _ (left_true _ _ g) (both_true _ _ calls (subst (λ m. reads_number d a r m ≡ true) (sym (eqb-true c.incident n (right_true _ _ g))) h)))
+
+  pub turns_read : (n : ℕ) → reads_number d a r n ≡ true
+      → turns_of d n (working d a at r) ≡ turns_of d n r
+  unfolding turns_of
+  turns_read n h = filter_filter _ (λ t. t.division == d && (reads_number d a r t.incident || names_turn d a r t)) r.turns (λ t g. read_turn t n h (left_true _ _ g) (right_true _ _ g))
 
   sees_read : (n : ℕ) → reads_number d a r n ≡ true
       → incident_of d n (working d a at r) ≡ incident_of d n r

@@ -10,10 +10,10 @@ use Rattle.room_types.specs.Orders.{callsigns_total, exact_numbered}
 use Rattle.room_types.specs.declared.asks.Ask.{Ask}
 use Rattle.room_types.specs.declared.tables.Report.{Report}
 use Rattle.room_types.specs.Texts.{Callsign}
-use Rattle.room_model.proofs.AskLaws.{accept_same, clear_same, close_same, decline_same, duty_same, give_back_same, incidents_same, lend_same, loans_same, merge_same, mobilise_same, needs_same, off_same, offers_same, points_same, propose_same, queue_same, recall_same, stand_down_same, standby_same, times_same, vehicles_same, withdraw_same}
+use Rattle.room_model.proofs.AskLaws.{accept_same, clear_same, close_same, decline_same, duty_same, give_back_same, incident_same, incidents_same, lend_same, loans_same, merge_same, mobilise_same, needs_same, off_same, offers_same, points_same, propose_same, queue_same, recall_same, stand_down_same, standby_same, times_same, vehicles_same, withdraw_same}
 use Rattle.room_model.proofs.Sights.{SeesVehicle}
 use Rattle.room_model.proofs.Tests.{both_true, filter_filter, is_equal, left_true, or_left, or_right, right_true}
-use Rattle.room_model.proofs.WorkingDesk.{active_incidents_read, all_held_read, assignment_read, borrowed_named, calls_read, calls_shown, eligible_read, holders_read, incident_named, last_turn_read, loans_read, number_named, offered_by_named, offered_to_named, offers_read, point_named, points_read, report_named, sees_cover, sees_named, sees_shown, sees_vehicle}
+use Rattle.room_model.proofs.WorkingDesk.{active_incidents_read, all_held_read, assignment_read, borrowed_named, calls_read, calls_shown, eligible_read, holders_read, incident_named, last_turn_read, loans_read, number_named, offered_by_named, offered_to_named, offers_read, point_named, points_read, report_named, sees_cover, sees_named, sees_shown, sees_vehicle, turns_read}
 use Rattle.room_model.proofs.WorkingQueue.{entries_read}
 use Rattle.room_model.specs.Queries.{incidents_opened}
 use Rattle.room_model.specs.Room.{Room}
@@ -53,6 +53,7 @@ module _ (d : ℕ) (r : Room) (formed : IsWellFormed r) where
   pub desk_working : (a : Ask) (at : ℕ) → desk_asks d a at (working d a at r) ≡ desk_asks d a at r
   desk_working (ask.Call f) at = refl
   desk_working ask.Incidents at = incidents_same d _ r (active_incidents_read d ask.Incidents at r formed refl) (sees_shown d ask.Incidents at r formed refl) (calls_shown d ask.Incidents at r formed refl refl)
+  desk_working (ask.Incident n) at = let number = number_named d (ask.Incident n) at r formed n (itself n) in incident_same d _ r n (sees_named d (ask.Incident n) at r formed n (itself n)) (calls_read d (ask.Incident n) at r formed n refl number) (turns_read d (ask.Incident n) at r formed n number)
   desk_working (ask.Propose n) at = propose_same d _ r n at (sees_named d (ask.Propose n) at r formed n (itself n)) (sees_cover d (ask.Propose n) at r formed (λ k. refl) (λ m. refl)) (λ k. eligible_read d (ask.Propose n) at r formed (λ m. refl) k at)
   desk_working (ask.Mobilise n c) at = mobilise_same d _ r n c at (named (ask.Mobilise n c) at c refl refl) (sees_named d (ask.Mobilise n c) at r formed n (itself n))
   desk_working (ask.Needs n needs) at = needs_same d _ r n needs (sees_named d (ask.Needs n needs) at r formed n (itself n))
@@ -78,3 +79,4 @@ module _ (d : ℕ) (r : Room) (formed : IsWellFormed r) where
   desk_working (ask.Times from to) at = times_same d _ r from to (opened_read d from to at r)
   desk_working ask.Order at = refl
   desk_working (ask.Report p) at = refl
+  desk_working ask.Last at = refl

@@ -1,4 +1,4 @@
--- A division's share, by what it is handed alone.
+-- A division's share, by only what it is handed.
 use Rattle.std.specs.Prelude.{List, None, Option, Result, Some, [], true, ℕ, ◌++◌, ◌∷◌}
 use Rattle.room_types_keyed.specs.Keyed.{drop_row}
 use Rattle.room_types.specs.Keys.{callsign_cmp, vehicle_key}

@@ -13,7 +13,7 @@ use Rattle.room_types.specs.Needs.{larger, same_needs}
 use Rattle.room_types.specs.Texts.{same_note}
 use Rattle.room_model.specs.Decisions.{Verdict, refuse_if, show, tell}
 use Rattle.room_model.specs.Moments.{number_limit}
-use Rattle.room_model.specs.Queries.{kept_call, last_number, link_target}
+use Rattle.room_model.specs.Queries.{kept_call, last_number, last_serial, link_target}
 use Rattle.room_model.specs.Room.{Room}
 use Rattle.room_types.specs.declared.answers.Answer.TheVariants as answer
 use Rattle.room_types.specs.declared.refusals.Refusal.{Refusal}
@@ -107,3 +107,7 @@ outside_again (Some k) = refusal.SerialReused
 
 abbrev pub take_call : NewCall → Room → Verdict
 take_call new r = call_kept (kept_call new.position new.serial r) new r
+
+-- the greatest serial that the position gave
+abbrev pub show_last_serial : ℕ → Room → Verdict
+show_last_serial p r = show (answer.LastSerial (last_serial p r))

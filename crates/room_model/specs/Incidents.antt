@@ -1,6 +1,7 @@
 -- A desk's asks about incidents.
 use Rattle.std.specs.Prelude.{Bool, Err, List, None, Option, Some, [], length, map, min, nat_lt, not, ℕ, ◌-◌, ◌==◌, ◌||◌, ◌∷◌}
 use Rattle.room_types.specs.declared.answers.IncidentLine.{IncidentLine}
+use Rattle.room_types.specs.declared.answers.Served.{Served}
 use Rattle.room_types.specs.declared.changes.Change.{Change}
 use Rattle.room_types.specs.declared.changes.Change.TheVariants.{PutCall, PutIncident}
 use Rattle.room_types.specs.declared.codes.Kind.{Kind}
@@ -9,11 +10,12 @@ use Rattle.room_types.specs.declared.needs.Counts.{Counts}
 use Rattle.room_types.specs.declared.codes.State.TheVariants.{Closed, Merged}
 use Rattle.room_types.specs.declared.tables.Call.{Call}
 use Rattle.room_types.specs.declared.tables.Incident.{Incident}
+use Rattle.room_types.specs.declared.tables.Turn.{Turn}
 use Rattle.room_types.specs.Codes.{is_active}
 use Rattle.room_types.specs.Needs.{larger, need_of, needs_by}
 use Rattle.room_model.specs.Decisions.{Verdict, done, refuse_if, show, where_active}
 use Rattle.room_model.specs.Moments.{earlier}
-use Rattle.room_model.specs.Queries.{active_incidents, calls_of, incident_of, is_attended, served}
+use Rattle.room_model.specs.Queries.{active_incidents, calls_of, incident_of, is_attended, served, turns_of}
 use Rattle.room_model.specs.Room.{Room}
 use Rattle.room_types.specs.declared.answers.Answer.TheVariants as answer
 use Rattle.room_types.specs.declared.refusals.Refusal.TheVariants as refusal
@@ -36,6 +38,25 @@ incident_line d r i = record {
 
 unfoldable pub show_incidents : ℕ → Room → Verdict
 show_incidents d r = show (answer.Incidents (map (incident_line d r) (active_incidents d r)))
+
+-- ---- one incident
+-- how many vehicles of each kind serve it
+abbrev pub all_served : ℕ → ℕ → Room → Served
+all_served d n r = record {
+  ambulances = served d n Ambulance r;
+  cars = served d n Car r;
+  support = served d n Support r;
+}
+
+abbrev pub history_of : Option Incident → Served → List Call → List Turn → Verdict
+history_of None serving calls turns = Err refusal.NoSuchIncident
+history_of (Some i) serving calls turns = show
+    (answer.Incident (record { incident = i; served = serving; calls = calls; turns = turns }))
+
+-- active, closed and merged ones alike
+unfoldable pub show_incident : ℕ → ℕ → Room → Verdict
+show_incident d n r =
+    history_of (incident_of d n r) (all_served d n r) (calls_of d n r) (turns_of d n r)
 
 -- ---- needs
 abbrev pub is_below : Counts → (Kind → ℕ) → Bool

@@ -14,7 +14,7 @@ pub mod Run
 pub mod Shares
 -- what an event hands to a division
 pub mod Crossing
--- what becomes of a division by what it is handed alone
+-- what becomes of a division by only what it is handed
 pub mod Alone
 -- ---- what the other laws speak of
 -- what always holds of a room
@@ -27,7 +27,7 @@ pub mod Fleets
 -- the few rows that a request reads
 pub mod Working
 pub mod InHand
-pub mod Slices
+pub mod RoomSlices
 -- ---- the requests, a group a file, as Step cites them
 -- the form of each decision, and what it asks of the room
 pub mod Decisions
@@ -44,3 +44,8 @@ pub mod Queue
 pub mod DayTimes
 -- a crew's asks
 pub mod Reports
+-- ---- what the engine serves and the store implements
+-- what a room does with an event, and who shows a token
+pub mod Rooms
+-- the digests of a room in digits, what a head says of a room, and why a room comes to none
+pub mod Digests

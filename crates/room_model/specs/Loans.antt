@@ -47,7 +47,7 @@ withdrawn (Some o) v =
 unfoldable pub withdraw : ℕ → Callsign → Room → Verdict
 withdraw d c r = where_held (held d c r) (lent d c r) (withdrawn (offered_by d c r))
 
--- ---- decline and accept, by the offer alone
+-- ---- decline and accept, by the offer only
 abbrev pub declined : Option Offer → Verdict
 declined None = Err refusal.NoSuchOffer
 declined (Some o) = done (Settle o.callsign o.lender ∷ DropOffer o.callsign ∷ [])

@@ -1,7 +1,7 @@
 -- What a decision asks of the room. Each speaks of one division's rows, or of one vehicle's.
 use Rattle.std.specs.List.{list_any}
 use Rattle.std.specs.Ordering.{nat_cmp}
-use Rattle.std.specs.Prelude.{Bool, List, None, Option, Some, false, filter, int_le, int_lt, is_none, is_some, length, nat_le, nat_lt, not, pos, ℕ, ℤ, ◌&&◌, ◌==◌, ◌||◌}
+use Rattle.std.specs.Prelude.{Bool, List, None, Option, Some, [], false, filter, int_le, int_lt, is_none, is_some, length, max, nat_le, nat_lt, not, pos, ℕ, ℤ, ◌&&◌, ◌==◌, ◌||◌, ◌∷◌}
 use Rattle.room_place.specs.Choice.{first, least}
 use Rattle.room_place.specs.Places.{distance}
 use Rattle.room_place.specs.declared.places.Place.{Place}
@@ -84,6 +84,10 @@ incidents_opened d from to r = filter
 unfoldable pub calls_of : ℕ → ℕ → Room → List Call
 calls_of d n r = filter (λ c. c.division == d && c.incident == n) r.calls
 
+-- the turns of the vehicles that were sent to an incident
+unfoldable pub turns_of : ℕ → ℕ → Room → List Turn
+turns_of d n r = filter (λ t. t.division == d && t.incident == n) r.turns
+
 -- the number that the division gave last
 unfoldable pub last_number : ℕ → Room → Option Division
 last_number d r = row_at nat_cmp division_key r.divisions d
@@ -142,6 +146,16 @@ holders d n at r = filter (λ v. is_eligible d at v && has_post n v.post) r.vehi
 -- the vehicle's report of a number, where division d owns it
 unfoldable pub report_of : ℕ → Callsign → ℕ → Room → Option Report
 report_of d c n r = keep (λ x. x.division == d) (row_at numbered_cmp report_key r.reports (c, n))
+
+-- ---- a position's calls
+-- the greatest serial of calls, 0 where there are none
+abbrev pub greatest_serial : List Call → ℕ
+greatest_serial [] = 0
+greatest_serial (c ∷ cs) = max c.serial (greatest_serial cs)
+
+-- that of a position's calls
+unfoldable pub last_serial : ℕ → Room → ℕ
+last_serial p r = greatest_serial (filter (λ c. c.position == p) r.calls)
 
 -- ---- by key, whichever division owns the row
 unfoldable pub kept_call : ℕ → ℕ → Room → Option Call

@@ -213,3 +213,11 @@ order_of (Some v) a = show (answer.Order a v.post v.status)
 
 abbrev pub show_order : Callsign → Room → Verdict
 show_order c r = order_of (vehicle_at c r) (assignment_at c r)
+
+-- ---- the last numbers, of its reports and its orders
+abbrev pub last_of : Option Vehicle → Verdict
+last_of None = Err refusal.NoSuchVehicle
+last_of (Some v) = show (answer.LastReport v.last_report v.last_order)
+
+abbrev pub show_last : Callsign → Room → Verdict
+show_last c r = last_of (vehicle_at c r)

@@ -4,13 +4,13 @@ use Rattle.room_place.specs.Plans.{division_of}
 use Rattle.room_types.specs.Keys.{owns_assignment, owns_call, owns_division, owns_incident, owns_loan, owns_offer, owns_point, owns_report, owns_turn, owns_vehicle, same_callsign}
 use Rattle.room_types.specs.Texts.{Callsign}
 use Rattle.room_types.specs.declared.asks.Ask.{Ask}
-use Rattle.room_types.specs.declared.asks.Ask.TheVariants.{Call}
+use Rattle.room_types.specs.declared.asks.Ask.TheVariants.{Call, Last}
 use Rattle.room_types.specs.declared.asks.CallForm.{CallForm}
 use Rattle.room_types.specs.declared.asks.Who.{Who}
 use Rattle.room_types.specs.declared.asks.Who.TheVariants.{Crew, Desk, Position}
 use Rattle.room_types.specs.declared.changes.Change.{Change}
 use Rattle.room_types.specs.declared.changes.Change.TheVariants.{Settle}
-use Rattle.room_model.specs.Queries.{kept_call}
+use Rattle.room_model.specs.Queries.{kept_call, last_serial}
 use Rattle.room_model.specs.Room.{Room}
 
 -- the same plan, and the rows that division d owns
@@ -53,11 +53,13 @@ pub record AgreeOnCall (p : ℕ) (f : CallForm) (r s : Room) : Type 0 where
   pub share : (d : ℕ) → division_of r.plan f.place ≡ Some d → own d r ≡ own d s
 
 -- two rooms agree on what decides an ask: the division's rows for its desk, the vehicle's for its
--- crew; what else a position asks is refused in every room
+-- crew, the greatest serial for a position that asks for it; what else a position asks is refused
+-- in every room
 abbrev pub AgreeOn : Who → Ask → Room → Room → Type 0
 AgreeOn (Desk d) a r s = own d r ≡ own d s
 AgreeOn (Crew c) a r s = mine c r ≡ mine c s
 AgreeOn (Position p) (Call f) r s = AgreeOnCall p f r s
+AgreeOn (Position p) Last r s = last_serial p r ≡ last_serial p s
 AgreeOn (Position p) a r s = Unit {0}
 
 -- a row to put or to drop, which a share can follow by itself

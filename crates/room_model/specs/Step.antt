@@ -9,16 +9,16 @@ use Rattle.room_types.specs.declared.asks.Who.TheVariants.{Crew, Desk, Position}
 use Rattle.room_types.specs.declared.refusals.Refusal.{Refusal}
 use Rattle.room_types.specs.Refusals.{refusal_number}
 use Rattle.room_types.specs.Texts.{Callsign}
-use Rattle.room_model.specs.Calls.{new_call, take_call}
+use Rattle.room_model.specs.Calls.{new_call, show_last_serial, take_call}
 use Rattle.room_model.specs.DayTimes.{show_times}
 use Rattle.room_model.specs.Decisions.{Verdict, answer_of, changes_of}
-use Rattle.room_model.specs.Incidents.{change_needs, close, merge, show_incidents}
+use Rattle.room_model.specs.Incidents.{change_needs, close, merge, show_incident, show_incidents}
 use Rattle.room_model.specs.Loans.{accept, decline, give_back, lend, recall, show_loans, show_offers, withdraw}
 use Rattle.room_model.specs.Points.{set_point, show_points}
 use Rattle.room_model.specs.Proposals.{propose}
 use Rattle.room_model.specs.Queries.{vehicle_at}
 use Rattle.room_model.specs.Queue.{clear, show_queue}
-use Rattle.room_model.specs.Reports.{show_order, take_report}
+use Rattle.room_model.specs.Reports.{show_last, show_order, take_report}
 use Rattle.room_model.specs.Room.{Room, apply}
 use Rattle.room_model.specs.Vehicles.{duty, mobilise, off, show_vehicles, stand_down, standby}
 use Rattle.room_types.specs.declared.asks.Ask.TheVariants as ask
@@ -27,6 +27,7 @@ use Rattle.room_types.specs.declared.refusals.Refusal.TheVariants as refusal
 abbrev pub desk_asks : ℕ → Ask → ℕ → Room → Verdict
 desk_asks d (ask.Call f) at r = Err refusal.WrongRole
 desk_asks d ask.Incidents at r = show_incidents d r
+desk_asks d (ask.Incident n) at r = show_incident d n r
 desk_asks d (ask.Propose n) at r = propose d n at r
 desk_asks d (ask.Mobilise n c) at r = mobilise d n c at r
 desk_asks d (ask.Needs n needs) at r = change_needs d n needs r
@@ -52,14 +53,17 @@ desk_asks d ask.Offers at r = show_offers d r
 desk_asks d (ask.Times from to) at r = show_times d from to r
 desk_asks d ask.Order at r = Err refusal.WrongRole
 desk_asks d (ask.Report p) at r = Err refusal.WrongRole
+desk_asks d ask.Last at r = Err refusal.WrongRole
 
 abbrev pub position_asks : ℕ → Ask → ℕ → Room → Verdict
 position_asks p (ask.Call f) at r = take_call (new_call p f at) r
+position_asks p ask.Last at r = show_last_serial p r
 position_asks p a at r = Err refusal.WrongRole
 
 abbrev pub crew_asks : Callsign → Ask → ℕ → Room → Verdict
 crew_asks c ask.Order at r = show_order c r
 crew_asks c (ask.Report p) at r = take_report c p at r
+crew_asks c ask.Last at r = show_last c r
 crew_asks c a at r = Err refusal.WrongRole
 
 abbrev pub who_asks : Who → Ask → ℕ → Room → Verdict
@@ -81,15 +85,18 @@ abbrev pub is_desks : Ask → Bool
 is_desks (ask.Call f) = false
 is_desks ask.Order = false
 is_desks (ask.Report p) = false
+is_desks ask.Last = false
 is_desks a = true
 
 abbrev pub is_crews : Ask → Bool
 is_crews ask.Order = true
 is_crews (ask.Report p) = true
+is_crews ask.Last = true
 is_crews a = false
 
 abbrev pub is_positions : Ask → Bool
 is_positions (ask.Call f) = true
+is_positions ask.Last = true
 is_positions a = false
 
 -- the ask is one that the role of who asks may ask
@@ -106,6 +113,29 @@ is_for (Position p) a r = is_positions a
 -- the ask is of the role of who asks, who is known
 abbrev pub IsAddressed : Event → Room → Type 0
 IsAddressed e r = is_for e.who e.ask r ≡ true
+
+-- ---- questions
+-- the ask changes nothing, whoever asks
+abbrev pub is_question : Ask → Bool
+is_question (ask.Call f) = false
+is_question (ask.Mobilise n c) = false
+is_question (ask.Needs n needs) = false
+is_question (ask.Merge n m) = false
+is_question (ask.Close n) = false
+is_question (ask.StandDown c) = false
+is_question (ask.Standby c p) = false
+is_question (ask.Duty c place until) = false
+is_question (ask.Off c) = false
+is_question (ask.Lend c to until) = false
+is_question (ask.Withdraw c) = false
+is_question (ask.Decline c) = false
+is_question (ask.Accept c) = false
+is_question (ask.Recall c) = false
+is_question (ask.GiveBack c) = false
+is_question (ask.Clear c n) = false
+is_question (ask.SetPoint n place cover) = false
+is_question (ask.Report p) = false
+is_question a = true
 
 -- ---- refusals
 -- the refusals of what a role may ask are those of number 1 to 19, and 22; 20 and 21 are a fleet

@@ -101,6 +101,7 @@ reads_active a = false
 
 -- the ask names the incident
 abbrev pub names_incident : Ask → ℕ → Bool
+names_incident (ask.Incident m) n = m == n
 names_incident (ask.Propose m) n = m == n
 names_incident (ask.Mobilise m c) n = m == n
 names_incident (ask.Needs m needs) n = m == n
@@ -136,6 +137,7 @@ reads_number d a r n =
 -- and its calls
 abbrev pub reads_calls : Ask → Bool
 reads_calls ask.Incidents = true
+reads_calls (ask.Incident m) = true
 reads_calls (ask.Merge m into) = true
 reads_calls a = false
 

@@ -12,11 +12,11 @@ use Rattle.room_types.specs.declared.codes.State.TheVariants.{Active, Merged}
 use Rattle.room_types.specs.declared.codes.Status.TheVariants.{Available, Mobilised, OffDuty, Offered, Returning}
 use Rattle.room_types.specs.declared.refusals.Refusal.TheVariants as refusal
 use Rattle.room_model.specs.Room.{Room}
-use Rattle.room_model_examples.specs.Computing.{machine}
-use Rattle.room_model_examples.specs.Rows.{assignment, call, call_form, division, grid, incident, loan, offer, point, report, turn, vehicle}
+use Rattle.room_model_examples.specs.ComputedDefinitions.{machine}
+use Rattle.room_model_examples.specs.ExampleRows.{assignment, call, call_form, division, grid, incident, loan, offer, point, report, turn, vehicle}
 use Rattle.room_model_examples.specs.SampledRooms.{A1, A2, A3, B1, B2, overlapping_divisions, two_divisions}
-use Rattle.room_model_examples.specs.Steps.{Steps}
-use Rattle.room_model_examples.specs.Telling.{at, needs}
+use Rattle.room_model_examples.specs.SampledSteps.{Steps}
+use Rattle.room_model_examples.specs.StepWords.{at, needs}
 
 abbrev before_call_kept : Room
 before_call_kept = record { plan = two_divisions; divisions = (division 1 2) ∷ (division 2 3) ∷ []; incidents = (incident 1 1 (grid 530100 180100) 1 (needs 2 0 0) 1121 None Active) ∷ (incident 1 2 (grid 531000 180000) 1 (needs 1 0 0) 1962 None (Merged 1)) ∷ []; calls = (call 1 3 1 1 1 false (grid 530100 180100) 2 (needs 2 0 0) (codes "x") 1121) ∷ (call 2 3 1 1 2 false (grid 531000 180000) 1 (needs 1 0 0) [] 1962) ∷ []; vehicles = (vehicle A1 2 2 Ambulance (grid 530100 180000) OffDuty 0 None 0 0) ∷ (vehicle A2 1 1 Ambulance (grid 530200 180000) Available 2000 None 0 0) ∷ (vehicle A3 1 1 Support (grid 531000 180000) Available 2000 None 0 2) ∷ []; turns = []; assignments = []; points = []; loans = []; offers = []; reports = (report A3 1 button.Return 0 (grid 530100 180100) 1422 1 Wrong Available false) ∷ (report A3 2 button.Position 0 (grid 531000 180000) 1814 1 Normal Available false) ∷ [] }

@@ -13,11 +13,11 @@ use Rattle.room_types.specs.declared.codes.Status.TheVariants.{Available, OffDut
 use Rattle.room_types.specs.declared.refusals.Refusal.TheVariants as refusal
 use Rattle.room_model.specs.Crossing.{Accepted, Arrive, Asked, CallIn, Declined}
 use Rattle.room_model.specs.Room.{Room}
-use Rattle.room_model_examples.specs.Computing.{machine}
-use Rattle.room_model_examples.specs.Rows.{call, call_form, division, grid, incident, loan, offer, point, pressed, report, times, times_line, vehicle, vehicle_line}
+use Rattle.room_model_examples.specs.ComputedDefinitions.{machine}
+use Rattle.room_model_examples.specs.ExampleRows.{call, call_form, division, grid, incident, loan, offer, point, pressed, report, times, times_line, vehicle, vehicle_line}
 use Rattle.room_model_examples.specs.SampledRooms.{A1, A2, A3, B1, B2, Z9, overlapping_divisions, two_divisions}
-use Rattle.room_model_examples.specs.Steps.{Hands}
-use Rattle.room_model_examples.specs.Telling.{at, needs}
+use Rattle.room_model_examples.specs.SampledSteps.{Hands}
+use Rattle.room_model_examples.specs.StepWords.{at, needs}
 
 abbrev before_accept_is_handed_accepted : Room
 before_accept_is_handed_accepted = record { plan = overlapping_divisions; divisions = (division 1 0) ∷ (division 7 3) ∷ []; incidents = []; calls = []; vehicles = (vehicle A1 1 1 Ambulance (grid 530300 180400) Offered 5000 None 0 0) ∷ (vehicle A2 1 1 Car (grid 560200 180000) Available 5000 None 0 0) ∷ []; turns = []; assignments = []; points = []; loans = []; offers = (offer A1 1 7 1001 1401) ∷ []; reports = [] }

@@ -11,11 +11,11 @@ use Rattle.room_types.specs.declared.codes.State.TheVariants.{Active}
 use Rattle.room_types.specs.declared.codes.Status.TheVariants.{Available, OffDuty, Offered}
 use Rattle.room_model.specs.Crossing.{Declined, Left, OfferIn, Recalled, ReportIn, Withdrawn}
 use Rattle.room_model.specs.Room.{Room}
-use Rattle.room_model_examples.specs.Computing.{machine}
-use Rattle.room_model_examples.specs.Rows.{call, call_form, division, grid, incident, loan, offer, point, pressed, report, vehicle}
+use Rattle.room_model_examples.specs.ComputedDefinitions.{machine}
+use Rattle.room_model_examples.specs.ExampleRows.{call, call_form, division, grid, incident, loan, offer, point, pressed, report, vehicle}
 use Rattle.room_model_examples.specs.SampledRooms.{A1, A2, A3, B1, Z9, overlapping_divisions, two_divisions}
-use Rattle.room_model_examples.specs.Steps.{Hands}
-use Rattle.room_model_examples.specs.Telling.{at, needs}
+use Rattle.room_model_examples.specs.SampledSteps.{Hands}
+use Rattle.room_model_examples.specs.StepWords.{at, needs}
 
 abbrev before_decline_is_handed_declined_5 : Room
 before_decline_is_handed_declined_5 = record { plan = two_divisions; divisions = (division 1 0) ∷ (division 2 0) ∷ []; incidents = []; calls = []; vehicles = (vehicle A1 2 2 Ambulance (grid 560100 180000) Offered 40000 None 0 0) ∷ (vehicle A2 1 1 Ambulance (grid 560100 180000) Available 2000 None 0 0) ∷ (vehicle A3 2 2 Ambulance (grid 530000 180000) Available 40000 None 0 0) ∷ []; turns = []; assignments = []; points = []; loans = []; offers = (offer A1 2 1 1662 1762) ∷ []; reports = [] }

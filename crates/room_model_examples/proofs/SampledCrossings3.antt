@@ -10,11 +10,11 @@ use Rattle.room_types.specs.declared.codes.Outcome.TheVariants.{Normal, Wrong}
 use Rattle.room_types.specs.declared.codes.State.TheVariants.{Active}
 use Rattle.room_types.specs.declared.codes.Status.TheVariants.{Available, Mobilised, OffDuty, Offered}
 use Rattle.room_model.specs.Room.{Room}
-use Rattle.room_model_examples.specs.Computing.{machine}
-use Rattle.room_model_examples.specs.Rows.{assignment, call, division, grid, incident, loan, offer, point, pressed, report, turn, vehicle}
+use Rattle.room_model_examples.specs.ComputedDefinitions.{machine}
+use Rattle.room_model_examples.specs.ExampleRows.{assignment, call, division, grid, incident, loan, offer, point, pressed, report, turn, vehicle}
 use Rattle.room_model_examples.specs.SampledRooms.{A1, A2, A3, B1, B2, Z9, overlapping_divisions, two_divisions}
-use Rattle.room_model_examples.specs.Steps.{Hands}
-use Rattle.room_model_examples.specs.Telling.{at, needs}
+use Rattle.room_model_examples.specs.SampledSteps.{Hands}
+use Rattle.room_model_examples.specs.StepWords.{at, needs}
 
 abbrev before_lend_is_handed_nothing_3 : Room
 before_lend_is_handed_nothing_3 = record { plan = two_divisions; divisions = (division 1 0) ∷ (division 2 0) ∷ []; incidents = []; calls = []; vehicles = (vehicle A1 2 2 Ambulance (grid 530100 180100) Offered 2000 None 0 0) ∷ (vehicle A2 2 2 Car (grid 530100 180100) OffDuty 0 None 0 0) ∷ []; turns = []; assignments = []; points = []; loans = []; offers = (offer A1 2 1 1481 1881) ∷ []; reports = [] }

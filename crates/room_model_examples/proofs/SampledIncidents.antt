@@ -12,11 +12,11 @@ use Rattle.room_types.specs.declared.codes.State.TheVariants.{Active, Closed, Me
 use Rattle.room_types.specs.declared.codes.Status.TheVariants.{AtHospital, AtScene, Available, Leaving, Mobilised, OffDuty, Offered, Returning}
 use Rattle.room_types.specs.declared.refusals.Refusal.TheVariants as refusal
 use Rattle.room_model.specs.Room.{Room}
-use Rattle.room_model_examples.specs.Computing.{machine}
-use Rattle.room_model_examples.specs.Rows.{assignment, call, division, grid, incident, incident_line, loan, offer, point, report, times, times_line, turn, vehicle}
+use Rattle.room_model_examples.specs.ComputedDefinitions.{machine}
+use Rattle.room_model_examples.specs.ExampleRows.{assignment, call, division, grid, incident, incident_line, loan, offer, point, report, times, times_line, turn, vehicle}
 use Rattle.room_model_examples.specs.SampledRooms.{A1, A2, A3, B1, B2, overlapping_divisions, two_divisions}
-use Rattle.room_model_examples.specs.Steps.{Steps}
-use Rattle.room_model_examples.specs.Telling.{at, needs}
+use Rattle.room_model_examples.specs.SampledSteps.{Steps}
+use Rattle.room_model_examples.specs.StepWords.{at, needs}
 
 abbrev before_change_needs : Room
 before_change_needs = record { plan = two_divisions; divisions = (division 1 0) ∷ (division 2 1) ∷ []; incidents = (incident 2 1 (grid 560200 180000) 3 (needs 0 1 0) 1031 None Active) ∷ []; calls = (call 1 4 2 1 1 false (grid 560200 180000) 3 (needs 0 1 0) [] 1031) ∷ []; vehicles = (vehicle A1 2 2 Ambulance (grid 530120 180160) Available 5000 None 0 0) ∷ (vehicle A2 2 2 Ambulance (grid 530100 180100) Available 2000 None 0 0) ∷ []; turns = []; assignments = []; points = []; loans = []; offers = []; reports = [] }

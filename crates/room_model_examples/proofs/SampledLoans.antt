@@ -12,11 +12,11 @@ use Rattle.room_types.specs.declared.codes.State.TheVariants.{Active, Closed, Me
 use Rattle.room_types.specs.declared.codes.Status.TheVariants.{AtHospital, AtScene, Available, Leaving, Mobilised, OffDuty, Offered, Returning}
 use Rattle.room_types.specs.declared.refusals.Refusal.TheVariants as refusal
 use Rattle.room_model.specs.Room.{Room}
-use Rattle.room_model_examples.specs.Computing.{machine}
-use Rattle.room_model_examples.specs.Rows.{assignment, call, division, grid, incident, loan, offer, point, report, turn, vehicle}
+use Rattle.room_model_examples.specs.ComputedDefinitions.{machine}
+use Rattle.room_model_examples.specs.ExampleRows.{assignment, call, division, grid, incident, loan, offer, point, report, turn, vehicle}
 use Rattle.room_model_examples.specs.SampledRooms.{A1, A2, A3, B1, B2, Z9, overlapping_divisions, two_divisions}
-use Rattle.room_model_examples.specs.Steps.{Steps}
-use Rattle.room_model_examples.specs.Telling.{at, needs}
+use Rattle.room_model_examples.specs.SampledSteps.{Steps}
+use Rattle.room_model_examples.specs.StepWords.{at, needs}
 
 abbrev before_give_back : Room
 before_give_back = record { plan = two_divisions; divisions = (division 1 3) ∷ (division 2 3) ∷ []; incidents = []; calls = []; vehicles = (vehicle A1 2 1 Ambulance (grid 530120 180160) Available 2000 None 0 0) ∷ (vehicle A2 2 2 Ambulance (grid 531000 180000) Available 2208 None 0 1) ∷ []; turns = []; assignments = []; points = []; loans = (loan A1 2 1 1341 2099 false) ∷ []; offers = []; reports = (report A2 1 button.Scene 0 (grid 530300 180400) 1522 2 Wrong OffDuty false) ∷ [] }

@@ -12,11 +12,11 @@ use Rattle.room_types.specs.declared.codes.State.TheVariants.{Active, Merged}
 use Rattle.room_types.specs.declared.codes.Status.TheVariants.{AtHospital, AtScene, Available, Leaving, Mobilised, OffDuty, Offered, Returning}
 use Rattle.room_types.specs.declared.refusals.Refusal.TheVariants as refusal
 use Rattle.room_model.specs.Room.{Room}
-use Rattle.room_model_examples.specs.Computing.{machine}
-use Rattle.room_model_examples.specs.Rows.{assignment, call, division, grid, incident, loan, offer, point, report, turn, vehicle}
+use Rattle.room_model_examples.specs.ComputedDefinitions.{machine}
+use Rattle.room_model_examples.specs.ExampleRows.{assignment, call, division, grid, incident, loan, offer, point, report, turn, vehicle}
 use Rattle.room_model_examples.specs.SampledRooms.{A1, A2, A3, B1, B2, Z9, overlapping_divisions, two_divisions}
-use Rattle.room_model_examples.specs.Steps.{Steps}
-use Rattle.room_model_examples.specs.Telling.{at, needs}
+use Rattle.room_model_examples.specs.SampledSteps.{Steps}
+use Rattle.room_model_examples.specs.StepWords.{at, needs}
 
 abbrev before_mobilise : Room
 before_mobilise = record { plan = two_divisions; divisions = (division 1 4) ∷ (division 2 0) ∷ []; incidents = (incident 1 4 (grid 531000 180000) 2 (needs 2 0 0) 2025 None Active) ∷ []; calls = (call 1 2 1 4 4 false (grid 531000 180000) 2 (needs 2 0 0) [] 2025) ∷ []; vehicles = (vehicle A1 2 2 Ambulance (grid 531000 180000) Available 40000 None 0 0) ∷ (vehicle A2 1 1 Ambulance (grid 531000 180000) OffDuty 0 None 0 2) ∷ (vehicle A3 2 1 Ambulance (grid 530100 180000) Available 40000 None 0 0) ∷ []; turns = []; assignments = []; points = []; loans = (loan A3 2 1 40000 1943 false) ∷ []; offers = []; reports = (report A2 2 button.Return 0 (grid 530200 180000) 1481 1 Wrong OffDuty false) ∷ [] }

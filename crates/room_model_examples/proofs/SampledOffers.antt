@@ -12,11 +12,11 @@ use Rattle.room_types.specs.declared.codes.State.TheVariants.{Active}
 use Rattle.room_types.specs.declared.codes.Status.TheVariants.{AtHospital, AtScene, Available, Leaving, Mobilised, OffDuty, Offered, Returning}
 use Rattle.room_types.specs.declared.refusals.Refusal.TheVariants as refusal
 use Rattle.room_model.specs.Room.{Room}
-use Rattle.room_model_examples.specs.Computing.{machine}
-use Rattle.room_model_examples.specs.Rows.{assignment, call, division, grid, incident, loan, offer, point, report, turn, vehicle}
+use Rattle.room_model_examples.specs.ComputedDefinitions.{machine}
+use Rattle.room_model_examples.specs.ExampleRows.{assignment, call, division, grid, incident, loan, offer, point, report, turn, vehicle}
 use Rattle.room_model_examples.specs.SampledRooms.{A1, A2, A3, B1, B2, Z9, overlapping_divisions, two_divisions}
-use Rattle.room_model_examples.specs.Steps.{Steps}
-use Rattle.room_model_examples.specs.Telling.{at, needs}
+use Rattle.room_model_examples.specs.SampledSteps.{Steps}
+use Rattle.room_model_examples.specs.StepWords.{at, needs}
 
 abbrev before_accept : Room
 before_accept = record { plan = two_divisions; divisions = (division 1 3) ∷ (division 2 0) ∷ []; incidents = []; calls = []; vehicles = (vehicle A1 1 1 Ambulance (grid 530100 180000) Offered 2000 None 2147483647 0) ∷ (vehicle A2 1 1 Car (grid 530100 180100) OffDuty 0 None 0 0) ∷ []; turns = []; assignments = []; points = []; loans = []; offers = (offer A1 1 2 980 1080) ∷ []; reports = [] }

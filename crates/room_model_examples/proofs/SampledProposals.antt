@@ -12,11 +12,11 @@ use Rattle.room_types.specs.declared.codes.State.TheVariants.{Active, Closed}
 use Rattle.room_types.specs.declared.codes.Status.TheVariants.{Available, Leaving, OffDuty, Offered, Returning}
 use Rattle.room_types.specs.declared.refusals.Refusal.TheVariants as refusal
 use Rattle.room_model.specs.Room.{Room}
-use Rattle.room_model_examples.specs.Computing.{machine}
-use Rattle.room_model_examples.specs.Rows.{call, division, grid, incident, loan, offer, point, proposal, report, turn, vehicle}
+use Rattle.room_model_examples.specs.ComputedDefinitions.{machine}
+use Rattle.room_model_examples.specs.ExampleRows.{call, division, grid, incident, loan, offer, point, proposal, report, turn, vehicle}
 use Rattle.room_model_examples.specs.SampledRooms.{A1, A2, A3, B1, B2, overlapping_divisions, two_divisions}
-use Rattle.room_model_examples.specs.Steps.{Steps}
-use Rattle.room_model_examples.specs.Telling.{at, needs}
+use Rattle.room_model_examples.specs.SampledSteps.{Steps}
+use Rattle.room_model_examples.specs.StepWords.{at, needs}
 
 abbrev before_propose_0 : Room
 before_propose_0 = record { plan = overlapping_divisions; divisions = (division 1 1) ∷ (division 7 0) ∷ []; incidents = (incident 1 1 (grid 560100 180000) 3 (needs 2 1 1) 1030 None Active) ∷ []; calls = (call 1 3 1 1 1 false (grid 560100 180000) 3 (needs 2 1 1) [] 1030) ∷ []; vehicles = (vehicle A1 1 1 Ambulance (grid 560200 180000) Available 2000 None 0 0) ∷ (vehicle A2 7 7 Ambulance (grid 530100 180000) OffDuty 0 None 0 0) ∷ (vehicle A3 7 7 Ambulance (grid 560100 180000) OffDuty 0 None 0 0) ∷ []; turns = []; assignments = []; points = []; loans = []; offers = []; reports = [] }

@@ -12,11 +12,11 @@ use Rattle.room_types.specs.declared.codes.State.TheVariants.{Active, Closed, Me
 use Rattle.room_types.specs.declared.codes.Status.TheVariants.{AtHospital, AtScene, Available, Leaving, Mobilised, OffDuty, Offered, Returning}
 use Rattle.room_types.specs.declared.refusals.Refusal.TheVariants as refusal
 use Rattle.room_model.specs.Room.{Room}
-use Rattle.room_model_examples.specs.Computing.{machine}
-use Rattle.room_model_examples.specs.Rows.{assignment, call, division, grid, incident, loan, offer, point, report, turn, vehicle}
+use Rattle.room_model_examples.specs.ComputedDefinitions.{machine}
+use Rattle.room_model_examples.specs.ExampleRows.{assignment, call, division, grid, incident, loan, offer, point, report, turn, vehicle}
 use Rattle.room_model_examples.specs.SampledRooms.{A1, A2, A3, B1, B2, overlapping_divisions, two_divisions}
-use Rattle.room_model_examples.specs.Steps.{Steps}
-use Rattle.room_model_examples.specs.Telling.{at, entry, needs}
+use Rattle.room_model_examples.specs.SampledSteps.{Steps}
+use Rattle.room_model_examples.specs.StepWords.{at, entry, needs}
 
 abbrev before_clear : Room
 before_clear = record { plan = two_divisions; divisions = (division 1 2147483647) ∷ (division 2 2147483647) ∷ []; incidents = []; calls = []; vehicles = (vehicle A1 1 1 Ambulance (grid 531000 180000) Available 2000 None 0 1) ∷ (vehicle A2 2 2 Car (grid 531000 180000) Available 2000 None 0 0) ∷ []; turns = []; assignments = []; points = []; loans = []; offers = []; reports = (report A1 1 button.Return 0 (grid 530120 180160) 1362 1 Wrong Available false) ∷ [] }

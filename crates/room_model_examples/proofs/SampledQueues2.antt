@@ -11,11 +11,11 @@ use Rattle.room_types.specs.declared.codes.Outcome.TheVariants.{Late, Normal, Sk
 use Rattle.room_types.specs.declared.codes.State.TheVariants.{Active, Closed, Merged}
 use Rattle.room_types.specs.declared.codes.Status.TheVariants.{AtHospital, AtScene, Available, Leaving, Mobilised, OffDuty, Offered, Returning}
 use Rattle.room_model.specs.Room.{Room}
-use Rattle.room_model_examples.specs.Computing.{machine}
-use Rattle.room_model_examples.specs.Rows.{assignment, call, division, grid, incident, loan, offer, point, report, turn, vehicle}
+use Rattle.room_model_examples.specs.ComputedDefinitions.{machine}
+use Rattle.room_model_examples.specs.ExampleRows.{assignment, call, division, grid, incident, loan, offer, point, report, turn, vehicle}
 use Rattle.room_model_examples.specs.SampledRooms.{A1, A2, A3, B1, B2, overlapping_divisions, two_divisions}
-use Rattle.room_model_examples.specs.Steps.{Steps}
-use Rattle.room_model_examples.specs.Telling.{at, entry, needs}
+use Rattle.room_model_examples.specs.SampledSteps.{Steps}
+use Rattle.room_model_examples.specs.StepWords.{at, entry, needs}
 
 abbrev before_queue_of_3_and_4 : Room
 before_queue_of_3_and_4 = record { plan = two_divisions; divisions = (division 1 1) ∷ (division 2 4) ∷ []; incidents = (incident 1 1 (grid 530120 180160) 2 (needs 1 1 0) 1602 None Active) ∷ (incident 2 4 (grid 560200 180000) 1 (needs 2 1 1) 1783 (Some 3607) Active) ∷ []; calls = (call 1 3 1 1 1 true (grid 530120 180160) 2 (needs 1 1 0) (codes "x") 2204) ∷ (call 1 6 2 4 4 false (grid 560200 180000) 1 (needs 2 1 1) [] 1783) ∷ (call 2 4 1 1 1 false (grid 530120 180160) 2 (needs 1 0 0) (codes "x") 1602) ∷ []; vehicles = (vehicle A1 2 2 Ambulance (grid 530100 180100) Mobilised 5000 None 1 4) ∷ (vehicle A2 2 2 Support (grid 530300 180400) Available 3608 None 0 2) ∷ (vehicle A3 1 1 Support (grid 530100 180100) Available 40000 None 0 4) ∷ []; turns = (turn A1 1 2 4 Ambulance 3607 None None None None None false) ∷ []; assignments = (assignment A1 2 4 1 (grid 560200 180000) 1) ∷ []; points = []; loans = []; offers = []; reports = (report A1 1 button.Position 0 (grid 530100 180100) 1271 2 Normal Available false) ∷ (report A1 2 button.Leave 0 (grid 530100 180000) 1572 2 Wrong Available false) ∷ (report A1 4 button.Hospital 0 (grid 530100 180100) 1602 2 Wrong Available false) ∷ (report A2 2 button.Home 0 (grid 531000 180000) 3505 2 Wrong OffDuty false) ∷ (report A3 1 button.Position 0 (grid 530100 180000) 2209 1 Normal Available false) ∷ (report A3 2 button.Home 0 (grid 530100 180000) 2540 1 Normal Available false) ∷ (report A3 3 button.Position 0 (grid 530100 180100) 3607 1 Normal Available false) ∷ (report A3 4 button.Scene 0 (grid 531000 180000) 3788 1 Wrong Available false) ∷ [] }

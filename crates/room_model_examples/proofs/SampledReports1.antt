@@ -13,11 +13,11 @@ use Rattle.room_types.specs.declared.codes.State.TheVariants.{Active, Closed, Me
 use Rattle.room_types.specs.declared.codes.Status.TheVariants.{AtHospital, AtScene, Available, Leaving, Mobilised, OffDuty, Offered, Returning}
 use Rattle.room_types.specs.declared.refusals.Refusal.TheVariants as refusal
 use Rattle.room_model.specs.Room.{Room}
-use Rattle.room_model_examples.specs.Computing.{machine}
-use Rattle.room_model_examples.specs.Rows.{assignment, call, division, grid, incident, loan, offer, point, pressed, report, turn, vehicle}
+use Rattle.room_model_examples.specs.ComputedDefinitions.{machine}
+use Rattle.room_model_examples.specs.ExampleRows.{assignment, call, division, grid, incident, loan, offer, point, pressed, report, turn, vehicle}
 use Rattle.room_model_examples.specs.SampledRooms.{A1, A2, A3, B1, B2, overlapping_divisions, two_divisions}
-use Rattle.room_model_examples.specs.Steps.{Steps}
-use Rattle.room_model_examples.specs.Telling.{at, needs}
+use Rattle.room_model_examples.specs.SampledSteps.{Steps}
+use Rattle.room_model_examples.specs.StepWords.{at, needs}
 
 abbrev before_report_at_hospital_home_skipped : Room
 before_report_at_hospital_home_skipped = record { plan = overlapping_divisions; divisions = (division 1 2) ∷ (division 7 4) ∷ []; incidents = (incident 1 1 (grid 530200 180000) 1 (needs 0 1 0) 1872 None (Merged 2)) ∷ (incident 1 2 (grid 531000 180000) 1 (needs 0 1 0) 1062 None Active) ∷ (incident 7 4 (grid 530000 180000) 2 (needs 2 1 1) 1031 (Some 2832) Active) ∷ []; calls = (call 1 1 7 4 4 false (grid 530000 180000) 2 (needs 2 1 1) [] 1031) ∷ (call 1 3 1 2 2 false (grid 531000 180000) 1 (needs 0 1 0) [] 1062) ∷ (call 1 4 1 2 1 false (grid 530200 180000) 1 (needs 0 1 0) [] 1872) ∷ []; vehicles = (vehicle A1 7 7 Car (grid 530300 180400) OffDuty 0 None 0 0) ∷ (vehicle A2 1 7 Ambulance (grid 530100 180100) AtHospital 5067 None 1 1) ∷ (vehicle A3 1 1 Ambulance (grid 530100 180100) Available 1968 None 0 3) ∷ []; turns = (turn A2 1 7 4 Ambulance 2832 None None None (Some 2450) None false) ∷ []; assignments = (assignment A2 7 4 1 (grid 530000 180000) 2) ∷ []; points = (point 1 1 (grid 530200 180000) 1) ∷ []; loans = (loan A2 1 7 2050 2449 false) ∷ []; offers = []; reports = (report A2 1 button.Hospital 1 (grid 530100 180100) 2450 7 Skipped AtHospital false) ∷ (report A3 1 button.Leave 0 (grid 530201 180000) 1469 1 Wrong Available false) ∷ (report A3 3 button.Mobile 0 (grid 530300 180400) 3795 1 Wrong Available false) ∷ [] }

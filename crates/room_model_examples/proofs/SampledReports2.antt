@@ -12,11 +12,11 @@ use Rattle.room_types.specs.declared.codes.Outcome.TheVariants.{Late, Normal, Sk
 use Rattle.room_types.specs.declared.codes.State.TheVariants.{Active}
 use Rattle.room_types.specs.declared.codes.Status.TheVariants.{AtHospital, AtScene, Available, OffDuty, Offered, Returning}
 use Rattle.room_model.specs.Room.{Room}
-use Rattle.room_model_examples.specs.Computing.{machine}
-use Rattle.room_model_examples.specs.Rows.{call, division, grid, incident, loan, offer, point, pressed, report, turn, vehicle}
+use Rattle.room_model_examples.specs.ComputedDefinitions.{machine}
+use Rattle.room_model_examples.specs.ExampleRows.{call, division, grid, incident, loan, offer, point, pressed, report, turn, vehicle}
 use Rattle.room_model_examples.specs.SampledRooms.{A1, A2, A3, B1, B2, overlapping_divisions, two_divisions}
-use Rattle.room_model_examples.specs.Steps.{Steps}
-use Rattle.room_model_examples.specs.Telling.{at, needs}
+use Rattle.room_model_examples.specs.SampledSteps.{Steps}
+use Rattle.room_model_examples.specs.StepWords.{at, needs}
 
 abbrev before_report_off_duty_hospital_wrong : Room
 before_report_off_duty_hospital_wrong = record { plan = two_divisions; divisions = (division 1 2147483646) ∷ (division 2 2147483646) ∷ []; incidents = []; calls = []; vehicles = (vehicle A1 2 2 Ambulance (grid 560100 180000) OffDuty 0 None 0 0) ∷ (vehicle A2 2 2 Ambulance (grid 531000 180000) OffDuty 0 None 0 0) ∷ []; turns = []; assignments = []; points = []; loans = []; offers = []; reports = [] }

@@ -9,11 +9,11 @@ use Rattle.room_types.specs.declared.codes.Outcome.TheVariants.{Late, Normal, Sk
 use Rattle.room_types.specs.declared.codes.State.TheVariants.{Active, Closed, Merged}
 use Rattle.room_types.specs.declared.codes.Status.TheVariants.{AtHospital, AtScene, Available, Leaving, Mobilised, OffDuty, Offered, Returning}
 use Rattle.room_model.specs.Room.{Room}
-use Rattle.room_model_examples.specs.Computing.{machine}
-use Rattle.room_model_examples.specs.Rows.{assignment, call, division, grid, incident, loan, offer, point, pressed, report, turn, vehicle}
+use Rattle.room_model_examples.specs.ComputedDefinitions.{machine}
+use Rattle.room_model_examples.specs.ExampleRows.{assignment, call, division, grid, incident, loan, offer, point, pressed, report, turn, vehicle}
 use Rattle.room_model_examples.specs.SampledRooms.{A1, A2, A3, B1, B2, Z9, overlapping_divisions, two_divisions}
-use Rattle.room_model_examples.specs.Steps.{ByOneVehicle, ByWorkingRows}
-use Rattle.room_model_examples.specs.Telling.{needs}
+use Rattle.room_model_examples.specs.SampledSteps.{ByOneVehicle, ByWorkingRows}
+use Rattle.room_model_examples.specs.StepWords.{needs}
 
 abbrev before_accept_is_decided : Room
 before_accept_is_decided = record { plan = two_divisions; divisions = (division 1 0) ∷ (division 2 0) ∷ []; incidents = []; calls = []; vehicles = (vehicle A1 1 1 Ambulance (grid 530000 180000) Offered 40000 None 0 0) ∷ (vehicle A2 1 1 Ambulance (grid 531000 180000) Available 5000 None 0 0) ∷ (vehicle A3 1 1 Car (grid 560000 180000) OffDuty 0 None 2147483647 0) ∷ []; turns = []; assignments = []; points = []; loans = []; offers = (offer A1 1 2 1001 1101) ∷ []; reports = [] }

@@ -14,7 +14,7 @@ use Rattle.room_types.specs.declared.tables.Division.{Division}
 use Rattle.room_types.specs.declared.tables.Incident.{Incident}
 use Rattle.room_types.specs.declared.tables.Vehicle.{Vehicle}
 use Rattle.room_model.specs.Room.{Room}
-use Rattle.room_model_examples.specs.Telling.{at, needs, place}
+use Rattle.room_model_examples.specs.StepWords.{at, needs, place}
 
 abbrev pub A1 : Callsign
 A1 = codes "A1"

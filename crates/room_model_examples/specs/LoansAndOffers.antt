@@ -20,11 +20,11 @@ use Rattle.room_types.specs.declared.tables.Offer.{Offer}
 use Rattle.room_model.specs.Queries.{loan_at}
 use Rattle.room_model.specs.Room.{Room}
 use Rattle.room_model.specs.Step.{answer_to}
-use Rattle.room_model_examples.specs.Calls.{after_a_call}
+use Rattle.room_model_examples.specs.CallExamples.{after_a_call}
 use Rattle.room_model_examples.specs.ExampleRoom.{A1, A2, A3, C1, a1_on_duty_until, example_room}
-use Rattle.room_model_examples.specs.Incidents.{a1_sent}
-use Rattle.room_model_examples.specs.Telling.{at, call_at, holder_of, place, post_of, press, status_of, ◌▸◌}
-use Rattle.room_model_examples.specs.Vehicles.{a1_posted, a1_waits}
+use Rattle.room_model_examples.specs.IncidentExamples.{a1_sent}
+use Rattle.room_model_examples.specs.StepWords.{at, call_at, holder_of, place, post_of, press, status_of, ◌▸◌}
+use Rattle.room_model_examples.specs.VehicleExamples.{a1_posted, a1_waits}
 
 -- desk 1 offers A1 to division 2 until 9000; desk 2 takes it, or not
 abbrev pub lend_a1 : Event

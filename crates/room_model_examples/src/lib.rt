@@ -1,18 +1,19 @@
+//! Only the prover needs this to be a crate of its own.
 //! The machine in examples that the check computes. Each function does nothing; what it ensures is
 //! that the machine answers as the rules say, in rooms small enough to be followed by hand. Steps
 //! that an independent program sampled from random runs stand in `proofs/`, and are computed by the
 //! same check.
 #![tactic(auto)]
 
-ghost use Rattle.room_model_examples.specs.Calls.{CallExamples};
-ghost use Rattle.room_model_examples.specs.Incidents.{IncidentExamples};
+ghost use Rattle.room_model_examples.specs.CallExamples.{CallExamples};
+ghost use Rattle.room_model_examples.specs.IncidentExamples.{IncidentExamples};
 ghost use Rattle.room_model_examples.specs.LoansAndOffers.{LoanExamples, OfferExamples};
-ghost use Rattle.room_model_examples.specs.Places.{PlaceExamples};
-ghost use Rattle.room_model_examples.specs.Proposals.{ProposalExamples};
-ghost use Rattle.room_model_examples.specs.Queue.{QueueExamples};
-ghost use Rattle.room_model_examples.specs.Reports.{ReportExamples};
-ghost use Rattle.room_model_examples.specs.Times.{TimesExamples};
-ghost use Rattle.room_model_examples.specs.Vehicles.{VehicleExamples};
+ghost use Rattle.room_model_examples.specs.PlaceExamples.{PlaceExamples};
+ghost use Rattle.room_model_examples.specs.ProposalExamples.{ProposalExamples};
+ghost use Rattle.room_model_examples.specs.QueueExamples.{QueueExamples};
+ghost use Rattle.room_model_examples.specs.ReportExamples.{ReportExamples};
+ghost use Rattle.room_model_examples.specs.TimesExamples.{TimesExamples};
+ghost use Rattle.room_model_examples.specs.VehicleExamples.{VehicleExamples};
 
 /// References, distances, areas and plans.
 pub fn place_examples()

@@ -164,7 +164,7 @@ read_place (a ∷ b ∷ bs) p even there = (elim (corner_of a b) as (λ (o : Opt
   | Some corner ↦ λ square found. read_by a b bs p corner square _ (half-even (digit_count (a ∷ b ∷ bs)) (not-false _ even)) found
 ]) refl there
 
--- what is told of a text: the place that it names, or its first fault
+-- what is said of a text: the place that it names, or its first fault
 pub parse-told : (text : List ℕ) → MatchResult (parse text) (IsReference text) (IsFirstFault text)
 parse-told text = (elim (has_square_fault text) as (λ (s : Bool). has_square_fault text ≡ s → MatchResult (cond s (Err Square) (cond (has_digit_fault text) (Err Digit) (cond (has_length_fault text) (Err Length) (ok_or (option_and_then (place_in (digit_count text / 2) (drop 2 text)) (square_of text)) Spacing)))) (IsReference text) (IsFirstFault text)) [
   | true ↦ λ square. square

@@ -1,10 +1,10 @@
 //! Places, the division areas that they lie in, and one-kilometre cells of them.
 #![tactic(auto)]
 
-pub mod bounded;
+pub mod bounded_numbers;
 pub mod cells;
 mod distances;
-mod lowest;
+mod lowest_division;
 pub mod places;
 mod plan_faults;
 pub mod plans;

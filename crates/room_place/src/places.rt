@@ -2,7 +2,7 @@
 ghost use Rattle.std.specs.Prelude.{◌≡◌};
 ghost use Rattle.room_place.specs.Squares.{is_in_squares as in_squares};
 
-use crate::bounded::Bounded;
+use crate::bounded_numbers::Bounded;
 pub use crate::distances::distance;
 use crate::references;
 use std::fmt;
@@ -20,7 +20,7 @@ pub struct Place {
     pub north: Northing,
 }
 
-/// Why a text is no reference. Of several reasons the first of this list is told.
+/// Why a text is no reference. Of several reasons the first of this list is given.
 #[derive(Clone, Copy, PartialEq, Eq)]
 pub enum PlaceFault {
     /// The first two characters are none of the four squares' letters.

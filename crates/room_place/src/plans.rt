@@ -2,8 +2,8 @@
 ghost use Rattle.std.specs.Prelude.{◌≡◌, true, string_bytes};
 ghost use Rattle.room_place.specs.Plans.{is_plan};
 
-use crate::bounded::Bounded;
-use crate::lowest::lowest_division;
+use crate::bounded_numbers::Bounded;
+use crate::lowest_division::lowest_division;
 use crate::places::{Place, is_in_squares};
 use crate::plan_faults::first_fault;
 use std::alloc::Global;
@@ -31,7 +31,7 @@ pub struct Area {
     pub rect: Rect,
 }
 
-/// Why areas and a zone are no plan. Of several reasons the first of this list is told.
+/// Why areas and a zone are no plan. Of several reasons the first of this list is given.
 #[derive(Clone, Copy, PartialEq, Eq)]
 pub enum PlanFault {
     /// No area, or more than 64.

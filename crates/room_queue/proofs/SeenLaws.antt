@@ -20,10 +20,10 @@ use Rattle.room_model.proofs.SliceLookUps.{open_turn_is}
 use Rattle.room_model.proofs.Tests.{filter_map_among, left_true, right_true, row_among}
 use Rattle.room_model.specs.Queries.{holders, incident_of, open_turn, point_of}
 use Rattle.room_model.specs.Queue.{entries, slow, slow_turn, uncovered, unread, unread_turn}
-use Rattle.room_model.specs.Slices.{room_of}
-use Rattle.room_queue.specs.Seen.{seen, turn_ahead, uncovered_seen}
-use Rattle.room_queue.specs.Served.{AreServed}
-use Rattle.room_queue.specs.declared.served.Served.{Served}
+use Rattle.room_model.specs.RoomSlices.{room_of}
+use Rattle.room_queue.specs.QueueEntries.{seen, turn_ahead, uncovered_seen}
+use Rattle.room_queue.specs.ServedIncidents.{AreServed}
+use Rattle.room_queue.specs.declared.served_incidents.Served.{Served}
 use Rattle.room_queue.proofs.ServedLaws.{unserved_is}
 
 -- what makes nothing of no turn may look at the turn's guard first

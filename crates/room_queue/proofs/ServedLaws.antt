@@ -20,9 +20,9 @@ use Rattle.room_model.specs.Moments.{age}
 use Rattle.room_model.specs.Queries.{counts, served}
 use Rattle.room_model.specs.Queue.{is_unserved, unserved}
 use Rattle.room_model.specs.Room.{Room}
-use Rattle.room_queue.specs.Seen.{unserved_seen}
-use Rattle.room_queue.specs.Served.{AreServed, is_served, number_of, serves}
-use Rattle.room_queue.specs.declared.served.Served.{Served}
+use Rattle.room_queue.specs.QueueEntries.{unserved_seen}
+use Rattle.room_queue.specs.ServedIncidents.{AreServed, is_served, number_of, serves}
+use Rattle.room_queue.specs.declared.served_incidents.Served.{Served}
 
 and_false : (a : Bool) → a && false ≡ false
 and_false true = refl

@@ -1,4 +1,4 @@
--- Entries that are sorted, and told once each, are a queue.
+-- Entries that are sorted, and shown once each, are a queue.
 use Rattle.std.proofs.Common.{ap, arith, inl, inr, refl, subst, sym, ◌∙◌}
 use Rattle.std.proofs.lemmas.Cmp.{eq_by_cmp_equiv}
 use Rattle.std.proofs.lemmas.List.Elements.{All-cons, All-contains, All-weaker, Contains-append_left, Contains-append_right, Contains-push}

@@ -1,2 +1,2 @@
-pub mod Served
-pub mod Seen
+pub mod ServedIncidents
+pub mod QueueEntries

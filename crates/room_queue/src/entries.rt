@@ -2,11 +2,11 @@
 ghost use Rattle.std.specs.Prelude.{◌≡◌, ◌==◌, option_copied, if◌then◌else◌};
 ghost use Rattle.room_model.specs.Moments.{age, scene_limit};
 ghost use Rattle.room_model.specs.Queue.{exception, overdue, shift_over, slow_turn, unanswered, unread_turn};
-ghost use Rattle.room_queue.specs.Seen.{room, turn_ahead, uncovered_seen, unserved_seen};
+ghost use Rattle.room_queue.specs.QueueEntries.{room, turn_ahead, uncovered_seen, unserved_seen};
 
 use crate::exceptions::is_exception;
-use crate::served::Served;
-use room_alloc::standby::cover;
+use crate::served_incidents::Served;
+use room_alloc::cover::cover;
 use room_place::plans::DivisionNumber;
 use room_types::answers::Entry;
 use room_types::numbers::{Class, Moment};

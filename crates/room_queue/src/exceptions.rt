@@ -5,7 +5,7 @@ ghost use Rattle.room_types.specs.Codes.{is_normal};
 ghost use Rattle.room_model.specs.Decisions.{Decides};
 ghost use Rattle.room_model.specs.Queries.{report_of};
 ghost use Rattle.room_model.specs.Queue.{clear};
-ghost use Rattle.room_model.specs.Slices.{room_of};
+ghost use Rattle.room_model.specs.RoomSlices.{room_of};
 
 use room_types::callsign::Callsign;
 use room_types::changes::Change;

@@ -4,4 +4,4 @@
 mod entries;
 pub mod exceptions;
 pub mod queues;
-mod served;
+mod served_incidents;

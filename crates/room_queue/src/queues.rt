@@ -7,12 +7,12 @@ ghost use Rattle.room_types.specs.declared.answers.Entry.{Entry};
 ghost use Rattle.room_types.specs.declared.refusals.Refusal.TheVariants.{Memory};
 ghost use Rattle.room_model.specs.Decisions.{Decides};
 ghost use Rattle.room_model.specs.Queue.{IsQueueOf, entries, show_queue};
-ghost use Rattle.room_model.specs.Slices.{room_of};
-ghost use Rattle.room_queue.specs.Seen.{with_held, with_sent};
-ghost use Rattle.room_queue.specs.Served.{AreServed};
+ghost use Rattle.room_model.specs.RoomSlices.{room_of};
+ghost use Rattle.room_queue.specs.QueueEntries.{with_held, with_sent};
+ghost use Rattle.room_queue.specs.ServedIncidents.{AreServed};
 
 use crate::entries;
-use crate::served::{Served, gather};
+use crate::served_incidents::{Served, gather};
 use room_types::answers::{Answer, Entry, Listed};
 use room_types::decisions::Decision;
 use room_types::numbers::Moment;
@@ -63,13 +63,13 @@ fn seen(
     let _vehicles = slice.rows.vehicles.as_slice();
     let _points = slice.rows.points.as_slice();
     let mut seen = Vec::new(alloc);
-    note_sent(&mut seen, slice, served, at)?;
-    note_held(&mut seen, slice, at)?;
+    push_sent(&mut seen, slice, served, at)?;
+    push_held(&mut seen, slice, at)?;
     Ok(seen)
 }
 
 // Ranks 1 to 4: of incidents, of the orders for them, and of reports.
-fn note_sent(
+fn push_sent(
     seen: &mut Vec<Entry>,
     slice: &Slice,
     served: &Rows<Served>,
@@ -81,42 +81,42 @@ fn note_sent(
 {
     let vehicles = slice.rows.vehicles.as_slice();
     for incident in slice.rows.incidents.as_slice() {
-        note(seen, entries::unserved(slice, served, incident, at))?;
+        push_entry(seen, entries::unserved(slice, served, incident, at))?;
     }
     for vehicle in vehicles {
-        note(seen, entries::unread(slice, vehicle, at))?;
+        push_entry(seen, entries::unread(slice, vehicle, at))?;
     }
     for vehicle in vehicles {
-        note(seen, entries::slow(slice, vehicle, at))?;
+        push_entry(seen, entries::slow(slice, vehicle, at))?;
     }
     for report in slice.rows.reports.as_slice() {
-        note(seen, entries::exception(slice, report))?;
+        push_entry(seen, entries::exception(slice, report))?;
     }
     Ok(())
 }
 
 // Ranks 5 to 8: of loans, shifts, points and offers.
-fn note_held(seen: &mut Vec<Entry>, slice: &Slice, at: Moment) -> Result<(), AllocError>
+fn push_held(seen: &mut Vec<Entry>, slice: &Slice, at: Moment) -> Result<(), AllocError>
     ensures { OnOk result
         (seen.new.items ≡ with_held slice.now.division at slice.now.rows seen.old.items) }
 {
     for loan in slice.rows.loans.as_slice() {
-        note(seen, entries::overdue(slice, loan, at))?;
+        push_entry(seen, entries::overdue(slice, loan, at))?;
     }
     for vehicle in slice.rows.vehicles.as_slice() {
-        note(seen, entries::shift_over(slice, vehicle, at))?;
+        push_entry(seen, entries::shift_over(slice, vehicle, at))?;
     }
     for point in slice.rows.points.as_slice() {
-        note(seen, entries::uncovered(slice, point, at))?;
+        push_entry(seen, entries::uncovered(slice, point, at))?;
     }
     for offer in slice.rows.offers.as_slice() {
-        note(seen, entries::unanswered(slice, offer, at))?;
+        push_entry(seen, entries::unanswered(slice, offer, at))?;
     }
     Ok(())
 }
 
 // Puts an entry at the end, where there is one.
-fn note<E: Copy>(seen: &mut Vec<E>, entry: Option<E>) -> Result<(), AllocError>
+fn push_entry<E: Copy>(seen: &mut Vec<E>, entry: Option<E>) -> Result<(), AllocError>
     ensures { OnOk result (seen.new.items ≡ seen.old.items ++ cons_option entry []) }
 {
     if let Some(entry) = entry {

@@ -18,7 +18,7 @@ use Rattle.room_model.specs.Decisions.{Verdict, refuse_if, show}
 use Rattle.room_model.specs.Queries.{kept_call}
 use Rattle.room_model.specs.Room.{Room}
 use Rattle.room_model.specs.Step.{decided}
-use Rattle.room_store.specs.Acting.{IsIn}
+use Rattle.room_store.specs.ActedEvents.{IsIn}
 
 pub kept_is : (position serial : ℕ) (room : Room)
     → row_at pair_cmp call_key room.calls (position, serial) ≡ kept_call position serial room
@@ -33,7 +33,7 @@ module _ (event : Event) (position : ℕ) (form : CallForm) (areas : List Area) 
   kept_at : (o : Option Call') → found ≡ o → kept_call position form.serial room ≡ o
   kept_at o is = sym (kept_is position form.serial room) ∙ sym row ∙ is
 
-  -- one that is kept is told again
+  -- one that is kept is answered again
   pub told_again : (kept : Call') (new : NewCall) (told : Verdict) → found ≡ Some kept
       → new ≡ new_call position form event.at
       → told ≡ refuse_if (not (same_call kept new)) SerialReused

@@ -23,8 +23,8 @@ use Rattle.room_types_keyed.proofs.KeyedLaws.{keyed_put}
 use Rattle.room_model.specs.Enrol.{AreTerminals, terminal_at, terminal_key, token_cmp}
 use Rattle.room_model.specs.WellFormed.{IsWellFormed}
 use Rattle.room_model.proofs.Tests.{both_true, left_true, right_true}
-use Rattle.room_store.specs.Creating.{AreNewTerminals, may_use}
-use Rattle.room_store_writes.specs.Filling.{division_numbers, in_order, new_division, new_divisions, new_room, put_all}
+use Rattle.room_store.specs.StoreCreation.{AreNewTerminals, may_use}
+use Rattle.room_store_writes.specs.NewRoom.{division_numbers, in_order, new_division, new_divisions, new_room, put_all}
 use Rattle.room_store_writes.proofs.CreationSteps.{divisions_more, divisions_to}
 use Rattle.room_store_cache.proofs.Filters.{turned_number}
 

@@ -16,28 +16,28 @@ use Rattle.room_types.specs.declared.fleet.Terminal.{Terminal}
 use Rattle.room_model.proofs.EnrolLaws.{enrolled_kept, terminals_kept}
 use Rattle.room_model.specs.Enrol.{fate_of, room_by, room_enrolled, terminals_enrolled}
 use Rattle.room_model.specs.Room.{Room}
-use Rattle.room_tables.specs.Stands.{House, Stands}
+use Rattle.room_tables.specs.Stands.{Configuration, Stands}
 use Rattle.room_tables.proofs.RoomReads.{kept}
-use Rattle.room_store_writes.specs.Enrolling.{Enrols, StandsAfter}
+use Rattle.room_store_writes.specs.EnrolledRows.{Enrols, StandsAfter}
 use Rattle.room_store_cache.specs.Cache.{KnowsNothing}
 use Rattle.room_model.specs.Fleets.{enrolled, fates_of}
-use Rattle.room_store.specs.Enrolling.{MayBeEnrolled, StandsAfterRows, StandsInPlan, fate_in, room_after_rows, terminals_after_rows}
-use Rattle.room_store.specs.Keeping.{IsKept, IsRoom}
+use Rattle.room_store.specs.FleetEnrolment.{MayBeEnrolled, StandsAfterRows, StandsInPlan, fate_in, room_after_rows, terminals_after_rows}
+use Rattle.room_store.specs.StoredRoom.{IsKept, IsRoom}
 use Rattle.room_store.proofs.KnownLaws.{knows_nothing, still_known}
 use Rattle.room_store.proofs.StoreLaws.{kept_stands}
-use Rattle.room_store_writes.specs.Houses.{house_of}
+use Rattle.room_store_writes.specs.Houses.{config_of}
 use Rattle.room_store.specs.declared.store.Store.{Store}
 
 -- before the reads, after them, after the write
 module _ (old mid new : State) (layout : Layout) (row : FleetRow) (fate : RowFate)
     (same : HasCleanDisk mid → IsUnchanged old mid)
-    (is : HasCleanDisk mid → (house : House) (room : Room) → StandsInPlan old.now.trees layout house room → fate ≡ fate_in row house room) where
+    (is : HasCleanDisk mid → (config : Configuration) (room : Room) → StandsInPlan old.now.trees layout config room → fate ≡ fate_in row config room) where
   -- what was written is what the row's fate says
-  made : HasCleanDisk mid → (house : House) (room : Room) (trees : Trees)
-      → StandsInPlan old.now.trees layout house room
-      → (Stands mid.now.trees house room → StandsAfter fate row house room trees)
-      → StandsAfter (fate_in row house room) row house room trees
-  made clean house room trees h wrote = subst (λ f. StandsAfter f row house room trees) (is clean house room h) (wrote (kept old mid (same clean) house room h.stands))
+  made : HasCleanDisk mid → (config : Configuration) (room : Room) (trees : Trees)
+      → StandsInPlan old.now.trees layout config room
+      → (Stands mid.now.trees config room → StandsAfter fate row config room trees)
+      → StandsAfter (fate_in row config room) row config room trees
+  made clean config room trees h wrote = subst (λ f. StandsAfter f row config room trees) (is clean config room h) (wrote (kept old mid (same clean) config room h.stands))
 
   pub row_enrolled : HasCleanDisk mid → Enrols mid new row (Stands mid.now.trees) (λ _ _. fate)
       → Enrols old new row (StandsInPlan old.now.trees layout) (fate_in row)
@@ -45,20 +45,20 @@ module _ (old mid new : State) (layout : Layout) (row : FleetRow) (fate : RowFat
     was_open = (same clean).0.was_open;
     settled = wrote.settled;
     schema = wrote.schema;
-    stands = λ house room h. made clean house room new.now.trees h (wrote.stands house room);
+    stands = λ config room h. made clean config room new.now.trees h (wrote.stands config room);
   }
 
   pub row_survives : Survives old mid (λ _. ⊥)
-      → Survives mid new (λ db. (house : House) (room : Room) → Stands mid.now.trees house room
-      → StandsAfter fate row house room db)
-      → Survives old new (λ db. (house : House) (room : Room)
-      → StandsInPlan old.now.trees layout house room
-      → StandsAfter (fate_in row house room) row house room db)
-  row_survives read wrote = survives_then old mid new _ _ (λ db. (house : House) (room : Room) → StandsInPlan old.now.trees layout house room → StandsAfter (fate_in row house room) row house room db)
+      → Survives mid new (λ db. (config : Configuration) (room : Room) → Stands mid.now.trees config room
+      → StandsAfter fate row config room db)
+      → Survives old new (λ db. (config : Configuration) (room : Room)
+      → StandsInPlan old.now.trees layout config room
+      → StandsAfter (fate_in row config room) row config room db)
+  row_survives read wrote = survives_then old mid new _ _ (λ db. (config : Configuration) (room : Room) → StandsInPlan old.now.trees layout config room → StandsAfter (fate_in row config room) row config room db)
       (λ _ db none. absurd none)
-      (λ clean db left house room h.
+      (λ clean db left config room h.
       let early : HasCleanDisk mid = omega (arith, wrote.clean) in
-      made early house room db h (left house room))
+      made early config room db h (left config room))
       read wrote
 
 plan_by : (fate : RowFate) (row : FleetRow) (room : Room) → (room_by fate row room).plan ≡ room.plan
@@ -70,7 +70,7 @@ module _ {S : Type 0} (g : Ghosts S) (old new : Store S) (row : FleetRow)
     (terminals : List Terminal) (room : Room) (is : IsRoom g old terminals room) where
   -- while the connection is open, the tables are those of the room
   pub in_plan : IsTrue (state g old.conn).is_open
-      → StandsInPlan (state g old.conn).now.trees old.plan (house_of old.plan terminals) room
+      → StandsInPlan (state g old.conn).now.trees old.plan (config_of old.plan terminals) room
   in_plan is_open = record { stands = is.tables is_open; plan = is.plan }
 
   pub room_after_row : new.plan ≡ old.plan → new.terminals ≡ old.terminals → KnowsNothing new.cache
@@ -83,22 +83,22 @@ module _ {S : Type 0} (g : Ghosts S) (old new : Store S) (row : FleetRow)
     plan = rw same (plan_by (fate_of room terminals row) row room ∙ is.plan);
     known = rw same_known (still_known room terminals row old.terminals.kept.items is.known);
     cache = knows_nothing new.cache (room_enrolled room terminals row) nothing;
-    tables = λ _. rw same (wrote.stands (house_of old.plan terminals) room (in_plan wrote.was_open));
+    tables = λ _. rw same (wrote.stands (config_of old.plan terminals) room (in_plan wrote.was_open));
   }
 
 -- what a stop leaves of the row in the tables, it leaves of the store
 pub store_survives : {S : Type 0} (g : Ghosts S) (old : Store S) (new : State) (row : FleetRow)
     → Survives (state g old.conn) new
-    (λ db. (house : House) (room : Room)
-    → StandsInPlan (state g old.conn).now.trees old.plan house room
-    → StandsAfter (fate_in row house room) row house room db)
+    (λ db. (config : Configuration) (room : Room)
+    → StandsInPlan (state g old.conn).now.trees old.plan config room
+    → StandsAfter (fate_in row config room) row config room db)
     → Survives (state g old.conn) new
     (λ db. IsTrue (state g old.conn).is_open → (terminals : List Terminal) (room : Room)
     → IsRoom g old terminals room
-    → Stands db (house_of old.plan (terminals_enrolled room terminals row))
+    → Stands db (config_of old.plan (terminals_enrolled room terminals row))
     (room_enrolled room terminals row))
 store_survives g old new row =
-    survives_weaker (state g old.conn) new _ _ (λ _ db left is_open terminals room is. left (house_of old.plan terminals) room (in_plan g old old row terminals room is is_open))
+    survives_weaker (state g old.conn) new _ _ (λ _ db left is_open terminals room is. left (config_of old.plan terminals) room (in_plan g old old row terminals room is is_open))
 
 -- the room and its terminals after a row
 abbrev pub after_row : FleetRow → Room × List Terminal → Room × List Terminal
@@ -142,14 +142,14 @@ module _ (rows : List FleetRow) (i : ℕ) (row : FleetRow)
       → Survives (state g first.conn) (state g mid.conn) (MayBeEnrolled g first rows)
       → Survives (state g mid.conn) (state g new.conn)
       (λ db. IsTrue (state g mid.conn).is_open → (ts : List Terminal) (r : Room)
-      → IsRoom g mid ts r → Stands db (house_of mid.plan (terminals_enrolled r ts row))
+      → IsRoom g mid ts r → Stands db (config_of mid.plan (terminals_enrolled r ts row))
       (room_enrolled r ts row))
       → Survives (state g first.conn) (state g new.conn) (MayBeEnrolled g first rows)
   rows_survive g first mid new same still done before last = survives_then (state g first.conn) (state g mid.conn) (state g new.conn) _ _ (MayBeEnrolled g first rows) (λ _ db left. left)
       (λ clean db left is_open ts r is.
       let early : HasCleanDisk (state g mid.conn) = omega (arith, last.clean) in
       let there = left (still early is_open) (terminals_after_rows (take i rows) r ts) (room_after_rows (take i rows) r ts) (done early ts r is) in
-      (i + 1, subst (λ (p : Room × List Terminal). Stands db (house_of first.plan p.1) p.0) (sym (enrolled_more r ts)) (rw same at there)))
+      (i + 1, subst (λ (p : Room × List Terminal). Stands db (config_of first.plan p.1) p.0) (sym (enrolled_more r ts)) (rw same at there)))
       before last
 
   -- What a stop leaves in that row, where what the first ones made was kept.
@@ -159,13 +159,13 @@ module _ (rows : List FleetRow) (i : ℕ) (row : FleetRow)
       → HasCleanDisk (state g new.conn)
       → Survives (state g mid.conn) (state g new.conn)
       (λ db. IsTrue (state g mid.conn).is_open → (ts : List Terminal) (r : Room)
-      → IsRoom g mid ts r → Stands db (house_of mid.plan (terminals_enrolled r ts row))
+      → IsRoom g mid ts r → Stands db (config_of mid.plan (terminals_enrolled r ts row))
       (room_enrolled r ts row))
       → (db : Trees) → (state g new.conn).may_leave db
       → StandsAfterRows db first.plan rows ts r i ⊎ StandsAfterRows db first.plan rows ts r (i + 1)
   rows_left g first mid new ts r same kept is clean last db left = elim (last.crash clean db left) [
     | inl before ↦ inl (rw same at (kept_stands g mid (terminals_after_rows (take i rows) r ts) (room_after_rows (take i rows) r ts) kept is db before))
     | inr after ↦
-        inr (subst (λ (p : Room × List Terminal). Stands db (house_of first.plan p.1) p.0) (sym (enrolled_more r ts))
+        inr (subst (λ (p : Room × List Terminal). Stands db (config_of first.plan p.1) p.0) (sym (enrolled_more r ts))
         (rw same at (after kept.is_open (terminals_after_rows (take i rows) r ts) (room_after_rows (take i rows) r ts) is)))
   ]

@@ -14,10 +14,10 @@ use Rattle.room_model.proofs.KeptCalls.{row_stays}
 use Rattle.room_model.specs.Enrol.{fate_of, new_terminal, terminal_at, terminal_key, terminals_by, terminals_enrolled, token_cmp}
 use Rattle.room_model.specs.Room.{Room}
 use Rattle.room_store_cache.specs.Cache.{IsCacheOf, KnowsNothing}
-use Rattle.room_store_cache.specs.Boards.{IsBoardOf}
-use Rattle.room_store_cache.specs.Dossiers.{IsDossierOf}
+use Rattle.room_store_cache.specs.Backlogs.{IsBacklogOf}
+use Rattle.room_store_cache.specs.IncidentViews.{IsIncidentViewOf}
 use Rattle.room_store_cache.specs.declared.cache.Cache.{Cache}
-use Rattle.room_store_cache.specs.Terminals.{AreTerminalsOf, IsOneOf}
+use Rattle.room_store_cache.specs.KnownTerminals.{AreTerminalsOf, IsOneOf}
 
 -- where none is kept, nothing is asked of any
 none_kept : {A : Type 0} (P : A → Type 0) (xs : List A) → xs ≡ [] → All P xs
@@ -27,9 +27,9 @@ none_kept P xs none = All-same P xs [] none (All-nil P)
 pub knows_nothing : (cache : Cache) (room : Room) → KnowsNothing cache → IsCacheOf cache room
 knows_nothing cache room nothing = record {
   fleet = λ is. let never : false ≡ true = sym nothing.fleet ∙ is in cc;
-  boards = none_kept (λ x. IsBoardOf x room) cache.boards.kept.items nothing.boards;
-  dossiers = none_kept (λ x. IsDossierOf x room) cache.dossiers.kept.items nothing.dossiers;
-  recents = rw nothing.recents tt;
+  backlogs = none_kept (λ x. IsBacklogOf x room) cache.backlogs.kept.items nothing.backlogs;
+  incident_views = none_kept (λ x. IsIncidentViewOf x room) cache.incident_views.kept.items nothing.incident_views;
+  recent_incidents = rw nothing.recent_incidents tt;
 }
 
 -- a store that begins knows no terminal

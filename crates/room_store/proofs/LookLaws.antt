@@ -7,16 +7,16 @@ use Rattle.sqlite.specs.State.{HasCleanDisk, IsUnchanged, State, Survives}
 use Rattle.sqlite.proofs.StateLemmas.{survives_then, survives_weaker}
 use Rattle.sqlite_trees.specs.Tree.{Trees}
 use Rattle.sqlite_trees.specs.declared.store.Store.{Ghosts}
-use Rattle.room_tables_schema.specs.Connections.{HasRoomSchema}
-use Rattle.room_tables_sql.specs.Outcomes.{Keeps}
-use Rattle.room_store_writes.specs.Writing.{IsSettled, Leaves}
-use Rattle.room_store.specs.Keeping.{ShowsRoom}
+use Rattle.room_tables_schema.specs.FileConnections.{HasRoomSchema}
+use Rattle.room_tables_laws.specs.Outcomes.{Keeps}
+use Rattle.room_store_writes.specs.Transactions.{IsSettled, Leaves}
+use Rattle.room_store.specs.StoredRoom.{ShowsRoom}
 
 -- outside a transaction the tables are as they were committed
 abbrev pub IsAsCommitted : State → Type 0
 IsAsCommitted at = IsTrue at.is_open → at.now ≡ at.committed
 
--- which a connection tells that says that it is in none
+-- as reported by a connection that says that it is in none
 pub outside : {P : Type 0} (told mode : Bool) → mode ≡ false → told ≡ not mode → (IsTrue told → P)
     → P
 outside told mode is says f = f (says ∙ ap not is)

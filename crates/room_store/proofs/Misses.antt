@@ -5,23 +5,23 @@ use Rattle.sqlite.proofs.StateLemmas.{survives_weaker}
 use Rattle.sqlite_trees.specs.Tree.{Trees}
 use Rattle.room_types.specs.declared.changes.Change.{Change}
 use Rattle.room_model.specs.Room.{Room, apply}
-use Rattle.room_tables.specs.Stands.{House, Stands}
-use Rattle.room_tables_schema.specs.declared.faults.Fault.TheVariants.{Memory, Storage}
-use Rattle.room_service.specs.Digests.{IsMiss}
-use Rattle.room_service.specs.declared.digests.Head.{Head}
-use Rattle.room_service.specs.declared.digests.Miss.TheVariants as miss
-use Rattle.room_store_digest.specs.Towards.{Reaches}
-use Rattle.room_store_digest.specs.declared.towards.Undone.{Undone}
-use Rattle.room_store_digest.specs.declared.towards.Undone.TheVariants.{Another, Want}
-use Rattle.room_store.specs.Faults.{miss_of}
+use Rattle.room_tables.specs.Stands.{Configuration, Stands}
+use Rattle.room_tables_schema.specs.declared.database_faults.Fault.TheVariants.{Memory, Storage}
+use Rattle.room_model.specs.Digests.{IsMiss}
+use Rattle.room_model.specs.declared.digests.Head.{Head}
+use Rattle.room_model.specs.declared.digests.Miss.TheVariants as miss
+use Rattle.room_store_file.specs.DigestChanges.{Reaches}
+use Rattle.room_store_file.specs.declared.digest_changes.Undone.{Undone}
+use Rattle.room_store_file.specs.declared.digest_changes.Undone.TheVariants.{Another, Want}
+use Rattle.room_store.specs.StoreFaults.{miss_of}
 
--- what is told of changes that were undone
+-- what is reported of changes that were undone
 pub miss_is : (undone : Undone) → IsMiss (miss_of undone)
 miss_is Another = inl refl
 miss_is (Want Memory) = inr (_, refl, inl refl)
 miss_is (Want Storage) = inr (_, refl, inr refl)
 
--- another digest is told where it was found
+-- another digest is reported where it was found
 pub told_another : (undone : Undone) → miss_of undone ≡ miss.Another → undone ≡ Another
 told_another Another is = refl
 told_another (Want fault) is = absurd (cc)
@@ -29,7 +29,7 @@ told_another (Want fault) is = absurd (cc)
 -- a stop leaves the room after the changes
 pub reaches_weaker : (changes : List Change) (head : Head) (old new : State) (from : Trees)
     → Survives old new (Reaches changes head from)
-    → Survives old new (λ db. (house : House) (room : Room) → Stands from house room
-    → Stands db house (apply room changes))
+    → Survives old new (λ db. (config : Configuration) (room : Room) → Stands from config room
+    → Stands db config (apply room changes))
 reaches_weaker changes head old new from =
-    survives_weaker old new (Reaches changes head from) (λ db. (house : House) (room : Room) → Stands from house room → Stands db house (apply room changes)) (λ _ db left house room h. (left house room h).0)
+    survives_weaker old new (Reaches changes head from) (λ db. (config : Configuration) (room : Room) → Stands from config room → Stands db config (apply room changes)) (λ _ db left config room h. (left config room h).0)

@@ -14,14 +14,14 @@ use Rattle.room_model.proofs.KeptEvents.{event_kept}
 use Rattle.room_model.specs.Events.{IsNumbered}
 use Rattle.room_model.specs.Room.{Room}
 use Rattle.room_model.specs.Step.{IsAddressed, room_after}
-use Rattle.room_tables.specs.Stands.{House, Stands}
-use Rattle.room_tables_schema.specs.Connections.{HasRoomSchema}
-use Rattle.room_store_writes.specs.Writing.{Commits, IsSettled, Leaves}
+use Rattle.room_tables.specs.Stands.{Configuration, Stands}
+use Rattle.room_tables_schema.specs.FileConnections.{HasRoomSchema}
+use Rattle.room_store_writes.specs.Transactions.{Commits, IsSettled, Leaves}
 use Rattle.room_store_cache.specs.Cache.{IsCacheOf}
-use Rattle.room_store.specs.Acting.{IsFor}
-use Rattle.room_store_cache.specs.Terminals.{AreTerminalsOf}
-use Rattle.room_store.specs.Keeping.{IsKept, IsReady, IsRoom, LeavesOneOf, ShowsRoom}
-use Rattle.room_store_writes.specs.Houses.{house_of}
+use Rattle.room_store.specs.ActedEvents.{IsFor}
+use Rattle.room_store_cache.specs.KnownTerminals.{AreTerminalsOf}
+use Rattle.room_store.specs.StoredRoom.{IsKept, IsReady, IsRoom, LeavesOneOf, ShowsRoom}
+use Rattle.room_store_writes.specs.Houses.{config_of}
 use Rattle.room_store.specs.declared.store.Store.{Store}
 
 -- a store may be called whose connection shows a room
@@ -50,7 +50,7 @@ room_left g old new terminals room left same known cache is = record {
   plan = rw same is.plan;
   known = known;
   cache = cache;
-  tables = λ is_open. rw same (subst (λ (db : Database). Stands db.trees (house_of old.plan terminals) room) (sym (left.now_is is_open)) (is.tables (left.was_open is_open)));
+  tables = λ is_open. rw same (subst (λ (db : Database). Stands db.trees (config_of old.plan terminals) room) (sym (left.now_is is_open)) (is.tables (left.was_open is_open)));
 }
 
 module _ {S : Type 0} (g : Ghosts S) (old new : Store S) (event : Event)
@@ -58,7 +58,7 @@ module _ {S : Type 0} (g : Ghosts S) (old new : Store S) (event : Event)
     (addressed : IsAddressed event room) where
   -- while the connection is open, the event is for the room in the tables
   pub for_room : IsTrue (state g old.conn).is_open
-      → IsFor (state g old.conn).now.trees old.plan old.cache event (house_of old.plan terminals)
+      → IsFor (state g old.conn).now.trees old.plan old.cache event (config_of old.plan terminals)
       room
   for_room is_open = record { stands = is.tables is_open; formed = is.formed; plan = is.plan; cache = is.cache; addressed = addressed }
 
@@ -73,21 +73,21 @@ module _ {S : Type 0} (g : Ghosts S) (old new : Store S) (event : Event)
     plan = rw same (plan_run (event ∷ []) room ∙ is.plan);
     known = rw same_known is.known;
     cache = cache;
-    tables = λ _. rw same (wrote.stands (house_of old.plan terminals) room (for_room wrote.was_open));
+    tables = λ _. rw same (wrote.stands (config_of old.plan terminals) room (for_room wrote.was_open));
   }
 
 -- what a stop leaves of the event in the tables, it leaves of the store
 pub event_survives : {S : Type 0} (g : Ghosts S) (old : Store S) (new : State) (event : Event)
     → Survives (state g old.conn) new
-    (λ db. (house : House) (room : Room)
-    → IsFor (state g old.conn).now.trees old.plan old.cache event house room
-    → Stands db house (room_after event room))
+    (λ db. (config : Configuration) (room : Room)
+    → IsFor (state g old.conn).now.trees old.plan old.cache event config room
+    → Stands db config (room_after event room))
     → Survives (state g old.conn) new
     (λ db. IsTrue (state g old.conn).is_open → (terminals : List Terminal) (room : Room)
     → IsRoom g old terminals room → IsAddressed event room
-    → Stands db (house_of old.plan terminals) (room_after event room))
+    → Stands db (config_of old.plan terminals) (room_after event room))
 event_survives g old new event =
-    survives_weaker (state g old.conn) new _ _ (λ _ db left is_open terminals room is addressed. left (house_of old.plan terminals) room (for_room g old old event terminals room is addressed is_open))
+    survives_weaker (state g old.conn) new _ _ (λ _ db left is_open terminals room is addressed. left (config_of old.plan terminals) room (for_room g old old event terminals room is addressed is_open))
 
 -- a failed call left two things
 pub err_both : {T E : Type 0} (r : Result T E) (P Q : Type 0) → OnErr r P → OnErr r Q
@@ -114,8 +114,8 @@ settled_kept g held leaves settled = record { is_open = settled.is_open; alone =
 pub kept_stands : {S : Type 0} (g : Ghosts S) (held : Store S) (terminals : List Terminal)
     (room : Room) → IsKept g held → IsRoom g held terminals room
     → (db : Trees) → (state g held.conn).may_leave db
-    → Stands db (house_of held.plan terminals) room
-kept_stands g held terminals room kept is db left = subst (λ (trees : Trees). Stands trees (house_of held.plan terminals) room) (sym (kept.alone db left)) (is.tables kept.is_open)
+    → Stands db (config_of held.plan terminals) room
+kept_stands g held terminals room kept is db left = subst (λ (trees : Trees). Stands trees (config_of held.plan terminals) room) (sym (kept.alone db left)) (is.tables kept.is_open)
 
 module _ {S : Type 0} (g : Ghosts S) (old new : Store S) (same : new.plan ≡ old.plan)
     (clean : HasCleanDisk (state g new.conn)) (kept : IsKept g old) where
@@ -145,7 +145,7 @@ module _ {S : Type 0} (g : Ghosts S) (old new : Store S) (same : new.plan ≡ ol
       → Survives (state g old.conn) (state g new.conn)
       (λ db. IsTrue (state g old.conn).is_open → (terminals : List Terminal) (room : Room)
       → IsRoom g old terminals room → IsAddressed event room
-      → Stands db (house_of old.plan terminals) (room_after event room))
+      → Stands db (config_of old.plan terminals) (room_after event room))
       → LeavesOneOf g new terminals (room ∷ room_after event room ∷ [])
   acted_left event terminals room is addressed survives db left =
       elim (survives.crash clean db left) [

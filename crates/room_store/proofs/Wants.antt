@@ -3,24 +3,24 @@ use Rattle.std.proofs.Common.{Err, List, Ok, Result, ap, inl, inr, refl, subst, 
 use Rattle.std.specs.Prelude.{IfOk}
 use Rattle.std.specs.Result.{IsErr}
 use Rattle.room_model.specs.Decisions.{Decides, Verdict, answer_of, changes_of}
-use Rattle.room_service.specs.Rooms.{IsWant}
-use Rattle.room_tables_schema.specs.declared.faults.Fault.{Fault}
-use Rattle.room_tables_schema.specs.declared.faults.Fault.TheVariants as fault
+use Rattle.room_model.specs.Rooms.{IsWant}
+use Rattle.room_tables_schema.specs.declared.database_faults.Fault.{Fault}
+use Rattle.room_tables_schema.specs.declared.database_faults.Fault.TheVariants as fault
 use Rattle.room_model.specs.Room.{Room}
 use Rattle.room_store_cache.specs.Cache.{HasFleetOf, IsCacheOf}
 use Rattle.room_store_cache.specs.declared.cache.Cache.{Cache}
 use Rattle.room_store_cache.specs.declared.fleets.Fleet.{Fleet}
-use Rattle.room_store_reads.specs.Parts.{AreKnown}
+use Rattle.room_store_cache.specs.Partitions.{AreKnown}
 use Rattle.room_types.specs.declared.answers.Answer.{Answer}
 use Rattle.room_types.specs.declared.changes.Change.{Change}
 use Rattle.room_types.specs.declared.decisions.Decision.{Decision}
 use Rattle.room_types.specs.declared.refusals.Refusal.{Refusal}
 use Rattle.room_types.specs.declared.refusals.Refusal.TheVariants as refusal
-use Rattle.room_store.specs.Deciding.{in_parts, unless_want}
-use Rattle.room_store.specs.Faults.{refusal_of}
+use Rattle.room_store.specs.EventDecisions.{in_parts, unless_out_of_memory}
+use Rattle.room_store.specs.StoreFaults.{refusal_of}
 
 -- what is so of a decision and of a refusal is so of what is decided
-pub says : (r : Result Decision Refusal) (P : Verdict → Type 0) → P r → IfOk (unless_want r) P
+pub says : (r : Result Decision Refusal) (P : Verdict → Type 0) → P r → IfOk (unless_out_of_memory r) P
 says (Ok x) P p = p
 says (Err refusal.Memory) P p = tt
 says (Err refusal.Storage) P p = tt
@@ -28,30 +28,30 @@ says (Err e) P p = p
 
 -- it is the machine's where the code decides as the machine
 pub machines : (r : Result Decision Refusal)
-    → IfOk (unless_want r) (λ x. (wanted : Verdict) → Decides wanted r → x ≡ wanted)
+    → IfOk (unless_out_of_memory r) (λ x. (wanted : Verdict) → Decides wanted r → x ≡ wanted)
 machines (Ok x) = λ wanted is. sym is
 machines (Err refusal.Memory) = tt
 machines (Err refusal.Storage) = tt
 machines (Err e) = λ wanted decides. ⊎_elim (λ is. sym is) (λ m. let no : e ≡ refusal.Memory = m.0 in absurd (cc)) decides
 
 -- a read that failed decides nothing
-unsaid_of : (f : Fault) (P : Verdict → Type 0) → IfOk (unless_want (Err (refusal_of f))) P
+unsaid_of : (f : Fault) (P : Verdict → Type 0) → IfOk (unless_out_of_memory (Err (refusal_of f))) P
 unsaid_of fault.Memory P = tt
 unsaid_of fault.Storage P = tt
 
-failed_of : (f : Fault) → IsErr (unless_want (Err (refusal_of f)))
+failed_of : (f : Fault) → IsErr (unless_out_of_memory (Err (refusal_of f)))
 failed_of fault.Memory = refl
 failed_of fault.Storage = refl
 
 module _ (f : Fault) {e : Refusal} (is : e ≡ refusal_of f) where
-  pub unsaid : (P : Verdict → Type 0) → IfOk (unless_want (Err e)) P
-  unsaid P = subst (λ x. IfOk (unless_want (Err x)) P) (sym is) (unsaid_of f P)
+  pub unsaid : (P : Verdict → Type 0) → IfOk (unless_out_of_memory (Err e)) P
+  unsaid P = subst (λ x. IfOk (unless_out_of_memory (Err x)) P) (sym is) (unsaid_of f P)
 
-  pub failed : IsErr (unless_want (Err e))
-  failed = subst (λ x. IsErr (unless_want (Err x))) (sym is) (failed_of f)
+  pub failed : IsErr (unless_out_of_memory (Err e))
+  failed = subst (λ x. IsErr (unless_out_of_memory (Err x))) (sym is) (failed_of f)
 
 -- what nothing is decided for is a want
-pub want_is : (r : Result Decision Refusal) (e : Refusal) → unless_want r ≡ Err e → IsWant e
+pub want_is : (r : Result Decision Refusal) (e : Refusal) → unless_out_of_memory r ≡ Err e → IsWant e
 want_is (Ok x) e is = absurd (cc)
 want_is (Err refusal.Memory) e is = let same : e ≡ refusal.Memory = cc in inl same
 want_is (Err refusal.Storage) e is = let same : e ≡ refusal.Storage = cc in inr same
@@ -75,9 +75,9 @@ pub all_known : {known : Cache} {room : Room} → HasFleetOf known.fleet room �
     → AreKnown known room
 all_known fleet is = record {
   rows = fleet.rows;
-  boards = is.boards;
-  dossiers = is.dossiers;
-  recents = is.recents;
+  backlogs = is.backlogs;
+  incident_views = is.incident_views;
+  recent_incidents = is.recent_incidents;
 }
 
 -- and after it
@@ -85,7 +85,7 @@ pub still_known : {before : Fleet} {after : Cache} {room : Room} → HasFleetOf 
     → AreKnown after room → after.fleet ≡ before → IsCacheOf after room
 still_known {room = room} fleet are same = record {
   fleet = λ _. subst (λ x. HasFleetOf x room) (sym same) fleet;
-  boards = are.boards;
-  dossiers = are.dossiers;
-  recents = are.recents;
+  backlogs = are.backlogs;
+  incident_views = are.incident_views;
+  recent_incidents = are.recent_incidents;
 }

@@ -1,14 +1,14 @@
 -- what is decided of an event, or why nothing is
-pub mod Deciding
+pub mod EventDecisions
 -- what acting on an event makes of the tables
-pub mod Acting
+pub mod ActedEvents
 -- what a store keeps, and which room it stands for
-pub mod Keeping
+pub mod StoredRoom
 -- a room that begins
-pub mod Creating
+pub mod StoreCreation
 -- what the enrolment of fleet rows makes of the tables, and of a store
-pub mod Enrolling
--- what a fault is told as
-pub mod Faults
+pub mod FleetEnrolment
+-- what a fault is reported as
+pub mod StoreFaults
 -- the digest that an event leads to
-pub mod Towards
+pub mod DigestEvents

@@ -1,14 +1,14 @@
 //! The room in its tables.
 #![tactic(auto)]
 
-mod acting;
-pub mod creating;
-mod deciding;
-pub mod digests;
-mod enrolling;
-mod faults;
-pub mod migrating;
-pub mod opening;
-mod serving;
+mod acted_events;
+mod digest_events;
+mod event_decisions;
+mod fleet_enrolment;
+pub mod opened_store;
+mod served_store;
 pub mod store;
-mod towards;
+pub mod store_creation;
+pub mod store_digest;
+mod store_faults;
+pub mod store_migration;

@@ -12,26 +12,26 @@ ghost use Rattle.room_model.specs.Room.{Room};
 ghost use Rattle.room_model.specs.Shares.{AgreeOn};
 ghost use Rattle.room_model.specs.Step.{IsAddressed, answer_to, room_after};
 ghost use Rattle.room_model.specs.WellFormed.{IsWellFormed};
-ghost use Rattle.room_tables_schema.specs.Connections.{HasRoomSchema};
-ghost use Rattle.room_service.specs.Digests.{IsMiss};
-ghost use Rattle.room_service.specs.Rooms.{IsWant, who_at};
-ghost use Rattle.room_service.specs.declared.digests.Miss.TheVariants.{Another};
+ghost use Rattle.room_tables_schema.specs.FileConnections.{HasRoomSchema};
+ghost use Rattle.room_model.specs.Digests.{IsMiss};
+ghost use Rattle.room_model.specs.Rooms.{IsWant, who_at};
+ghost use Rattle.room_model.specs.declared.digests.Miss.TheVariants.{Another};
 ghost use Rattle.room_tables.specs.Stands.{Stands};
-ghost use Rattle.room_store_writes.specs.Writing.{IsSettled, Leaves};
+ghost use Rattle.room_store_writes.specs.Transactions.{IsSettled, Leaves};
 ghost use Rattle.room_store_cache.specs.Cache.{KnowsNothing};
-ghost use Rattle.room_store.specs.Keeping.{IsReady, IsRoom, ShowsRoom};
-ghost use Rattle.room_store.specs.Towards.{IsHeadAfter};
-ghost use Rattle.room_store_writes.specs.Houses.{house_of};
+ghost use Rattle.room_store.specs.StoredRoom.{IsReady, IsRoom, ShowsRoom};
+ghost use Rattle.room_store.specs.DigestEvents.{IsHeadAfter};
+ghost use Rattle.room_store_writes.specs.Houses.{config_of};
 
-use crate::acting::{act_on, know_number};
-use crate::faults::refusal_of;
-use crate::towards::act_towards_on;
+use crate::acted_events::{act_on, lemma_numbered};
+use crate::digest_events::act_towards_on;
+use crate::store_faults::refusal_of;
+use room_model::digests::{Head, Miss};
 use room_place::plans::Plan;
-use room_service::digests::{Head, Miss};
 use room_store_cache::cache::Cache;
-use room_store_cache::terminals::Terminals;
-use room_tables::terminals::terminal_at;
-use room_tables_schema::testing::is_room;
+use room_store_cache::known_terminals::Terminals;
+use room_tables::terminal_table::terminal_at;
+use room_tables_schema::schema_tests::is_room;
 use room_types::answers::Answer;
 use room_types::asks::{Event, Who};
 use room_types::refusals::Refusal;
@@ -41,7 +41,7 @@ use std::alloc::Global;
 
 /// A room in the tables of a connection.
 ///
-/// A failed call may have shut the connection for good, which then tells nothing of the tables any
+/// A failed call may have shut the connection for good, which then says nothing of the tables any
 /// more. So after each failed call the store reads a row. It stays sound where it sees a room and
 /// can read; where not, every later call is refused as `Storage`, and the file has to be opened
 /// again.
@@ -170,12 +170,12 @@ impl<S: Alter> Store<S> {
             → OnErr result (Leaves (state S.Store self.old.conn) (state S.Store self.new.conn)) }
         ensures wants { IfErr result IsWant }
         // What a stop leaves is what it left before, or the room after the event; after an Ok the
-        // room as it is now alone.
+        // room as it is now and nothing else.
         ensures survives { Survives (state S.Store self.old.conn) (state S.Store self.new.conn)
             (λ db. IsTrue (state S.Store self.old.conn).is_open
             → (terminals : List Known) (room : Room) → IsRoom S.Store self.old terminals room
             → IsAddressed event.now room
-            → Stands db (house_of self.old.plan terminals) (room_after event.now room)) }
+            → Stands db (config_of self.old.plan terminals) (room_after event.now room)) }
         ensures alone { HasCleanDisk (state S.Store self.new.conn)
             → OnOk result ((db : Trees) → (state S.Store self.new.conn).may_leave db
             → db ≡ (state S.Store self.new.conn).now.trees) }
@@ -183,7 +183,7 @@ impl<S: Alter> Store<S> {
         if !self.is_sound {
             return Err(Refusal::Storage);
         }
-        know_number(&event.ask);
+        lemma_numbered(&event.ask);
         match act_on(
             alloc,
             &mut self.conn,
@@ -201,7 +201,7 @@ impl<S: Alter> Store<S> {
     }
 
     /// Acts on an addressed event, as `act` does, where the room comes by it to the digest of this
-    /// head. Where it would come to another one, that is told, and the room is kept as it was.
+    /// head. Where it would come to another one, that is reported, and the room is kept as it was.
     pub fn act_towards<F: FnOnce(&Result<Answer, Refusal>) -> Result<Vec<u8>, Refusal>>(
         &mut self,
         alloc: Global,
@@ -242,12 +242,12 @@ impl<S: Alter> Store<S> {
             (λ db. IsTrue (state S.Store self.old.conn).is_open
             → (terminals : List Known) (room : Room) → IsRoom S.Store self.old terminals room
             → IsAddressed event.now room
-            → Stands db (house_of self.old.plan terminals) (room_after event.now room)) }
+            → Stands db (config_of self.old.plan terminals) (room_after event.now room)) }
     {
         if !self.is_sound {
             return Err(Miss::Want(Refusal::Storage));
         }
-        know_number(&event.ask);
+        lemma_numbered(&event.ask);
         match act_towards_on(
             alloc,
             &mut self.conn,
@@ -265,7 +265,7 @@ impl<S: Alter> Store<S> {
         }
     }
 
-    // What is told of a miss once the file was tested: storage is wanting where it is shut.
+    // What is reported for a miss once the file was tested: `Storage` where it is shut.
     fn after_test(&self, miss: Miss) -> Miss
         ensures told { IsMiss miss → IsMiss result }
         ensures same { result ≡ Another → miss ≡ Another }

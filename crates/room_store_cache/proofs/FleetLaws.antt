@@ -12,7 +12,7 @@ use Rattle.room_types.specs.Texts.{Callsign}
 use Rattle.room_types.specs.declared.changes.Change.TheVariants.{PutTurn}
 use Rattle.room_types.specs.declared.tables.Turn.{Turn}
 use Rattle.room_model.specs.Room.{Room, apply_one}
-use Rattle.room_store_cache.specs.Turns.{AreTurnsOf}
+use Rattle.room_store_cache.specs.OpenTurns.{AreTurnsOf}
 
 -- the second room has this turn in its key's place, and the others of the first
 pub record HasMet (t : Turn) (before after : Room) : Type 0 where

@@ -6,7 +6,7 @@ pub mod KeptLaws
 pub mod RecentLaws
 -- what a change does to the fleet's rows and the turns that are known
 pub mod FleetLaws
--- what a change does to the dossiers that are kept
+-- what a change does to the incident views that are kept
 pub mod DossierLaws
 -- what a queue reads
 pub mod QueueReads
@@ -14,3 +14,6 @@ pub mod QueueReads
 pub mod OneIncident
 -- a terminal that is known
 pub mod TerminalLaws
+pub mod KeyedUnions
+pub mod Selected
+pub mod CrewReads

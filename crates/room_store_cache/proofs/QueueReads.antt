@@ -14,7 +14,7 @@ use Rattle.room_model.proofs.Tests.{is_equal, or_left, or_right}
 use Rattle.room_model.specs.Queries.{incident_of}
 use Rattle.room_model.specs.Room.{Room}
 use Rattle.room_model.specs.Working.{reads_incident, reads_number, working}
-use Rattle.room_store_cache.specs.Numbers.{contains}
+use Rattle.room_store_cache.specs.IncidentNumbers.{contains}
 use Rattle.room_store_cache.proofs.Filters.{filter_as, filter_owned, or_none, pair_turned}
 
 -- a queue names nothing: of these rows it reads what waits

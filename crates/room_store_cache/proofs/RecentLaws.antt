@@ -13,7 +13,7 @@ use Rattle.room_types.specs.declared.tables.Incident.{Incident}
 use Rattle.room_model.proofs.Tests.{filter_filter, left_true, right_true}
 use Rattle.room_model.specs.Working.{is_around, names_opening}
 use Rattle.room_store_cache.proofs.KeptLaws.{pass_put}
-use Rattle.room_store_cache.specs.Recent.{opened_since}
+use Rattle.room_store_cache.specs.RecentIncidents.{opened_since}
 
 -- it is one of the division that the call may be linked to
 abbrev pub may_have : ℕ → CallForm → ℕ → Incident → Bool

@@ -1,10 +1,10 @@
 -- What is known of a room.
 use Rattle.std.specs.Prelude.{IsTrue, None, [], false, ◌≡◌}
 use Rattle.room_model.specs.Room.{Room}
-use Rattle.room_store_cache.specs.Boards.{AreBoardsOf}
-use Rattle.room_store_cache.specs.Dossiers.{AreDossiersOf}
-use Rattle.room_store_cache.specs.Recent.{AreRecent}
-use Rattle.room_store_cache.specs.Turns.{AreTurnsOf}
+use Rattle.room_store_cache.specs.Backlogs.{AreBacklogsOf}
+use Rattle.room_store_cache.specs.IncidentViews.{AreIncidentViewsOf}
+use Rattle.room_store_cache.specs.RecentIncidents.{AreRecent}
+use Rattle.room_store_cache.specs.OpenTurns.{AreTurnsOf}
 use Rattle.room_store_cache.specs.declared.cache.Cache.{Cache}
 use Rattle.room_store_cache.specs.declared.fleets.Fleet.{Fleet}
 use Rattle.room_store_cache.specs.declared.fleets.FleetRows.{FleetRows}
@@ -30,13 +30,13 @@ IsFleetOf fleet room = IsTrue fleet.is_known → HasFleetOf fleet room
 -- nothing is known
 pub record KnowsNothing (cache : Cache) : Type 0 where
   pub fleet : cache.fleet.is_known ≡ false
-  pub boards : cache.boards.kept.items ≡ []
-  pub dossiers : cache.dossiers.kept.items ≡ []
-  pub recents : cache.recents.known ≡ None
+  pub backlogs : cache.backlogs.kept.items ≡ []
+  pub incident_views : cache.incident_views.kept.items ≡ []
+  pub recent_incidents : cache.recent_incidents.known ≡ None
 
 -- what is known is so in this room
 pub record IsCacheOf (cache : Cache) (room : Room) : Type 0 where
   pub fleet : IsFleetOf cache.fleet room
-  pub recents : AreRecent cache.recents room
-  pub boards : AreBoardsOf cache.boards.kept.items room
-  pub dossiers : AreDossiersOf cache.dossiers.kept.items room
+  pub recent_incidents : AreRecent cache.recent_incidents room
+  pub backlogs : AreBacklogsOf cache.backlogs.kept.items room
+  pub incident_views : AreIncidentViewsOf cache.incident_views.kept.items room

@@ -1,14 +1,22 @@
 -- which incidents are known
-pub mod Recent
+pub mod RecentIncidents
 -- which boards are of a room
-pub mod Boards
--- which dossiers are of a room
-pub mod Dossiers
+pub mod Backlogs
+-- which incident views are of a room
+pub mod IncidentViews
 -- which turns are of a room
-pub mod Turns
+pub mod OpenTurns
 -- which terminals are of a room
-pub mod Terminals
+pub mod KnownTerminals
 -- numbers of incidents
-pub mod Numbers
+pub mod IncidentNumbers
 -- what is known of a room
 pub mod Cache
+-- how much of a table a request reads
+pub mod Selections
+-- which incidents a request reads
+pub mod RequestReads
+-- what the parts of a division's working rows are of the room
+pub mod Partitions
+-- what the parts of a vehicle's rows are of the room
+pub mod CrewParts

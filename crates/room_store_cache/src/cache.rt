@@ -2,10 +2,10 @@
 ghost use Rattle.room_model.specs.Room.{IsInOrder, Room, apply};
 ghost use Rattle.room_store_cache.specs.Cache.{IsCacheOf, KnowsNothing};
 
-use crate::boards::Boards;
-use crate::dossiers::Dossiers;
+use crate::backlogs::Backlogs;
 use crate::fleets::Fleet;
-use crate::recents::Recents;
+use crate::incident_views::IncidentViews;
+use crate::recent_incidents::RecentIncidents;
 use crate::views::View;
 use room_types::changes::Change;
 use std::alloc::Global;
@@ -15,9 +15,9 @@ use std::alloc::Global;
 #[derive(Drop)]
 pub struct Cache {
     pub fleet: Fleet,
-    pub boards: Boards,
-    pub dossiers: Dossiers,
-    pub recents: Recents,
+    pub backlogs: Backlogs,
+    pub incident_views: IncidentViews,
+    pub recent_incidents: RecentIncidents,
 }
 
 impl Cache {
@@ -27,9 +27,9 @@ impl Cache {
     {
         Cache {
             fleet: Fleet::new(alloc),
-            boards: Boards::new(alloc),
-            dossiers: Dossiers::new(alloc),
-            recents: Recents::new(),
+            backlogs: Backlogs::new(alloc),
+            incident_views: IncidentViews::new(alloc),
+            recent_incidents: RecentIncidents::new(),
         }
     }
 
@@ -38,9 +38,9 @@ impl Cache {
         ensures { KnowsNothing self.new }
     {
         self.fleet.forget();
-        self.boards.forget();
-        self.dossiers.forget();
-        self.recents.forget();
+        self.backlogs.forget();
+        self.incident_views.forget();
+        self.recent_incidents.forget();
     }
 
     /// Makes changes of the room that were committed. What memory is refused for is not known any
@@ -51,9 +51,9 @@ impl Cache {
     {
         for change in changes {
             self.fleet.apply(change);
-            self.boards.apply(change);
-            self.dossiers.apply(change);
-            self.recents.apply(change);
+            self.backlogs.apply(change);
+            self.incident_views.apply(change);
+            self.recent_incidents.apply(change);
         }
     }
 }

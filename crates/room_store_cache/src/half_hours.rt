@@ -3,7 +3,7 @@ ghost use Rattle.std.specs.Prelude.{◌≡◌, ◌+◌, ◌≤◌, All, IfSome, 
 ghost use Rattle.room_types.specs.Keys.{incident_key, pair_cmp};
 ghost use Rattle.room_types_keyed.specs.Keyed.{drop_row, put_row};
 
-use crate::rows::put_if;
+use crate::cached_rows::put_if;
 use room_types::rows::Rows;
 use room_types::tables::Incident;
 

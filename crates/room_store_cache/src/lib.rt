@@ -1,15 +1,22 @@
-//! What is known of a room beside its tables: what stands of the fleet with open turns, what waits
-//! in a division, the incidents that desks named last with their turns, those that were opened
-//! last, and terminals.
+//! Only the prover needs this to be a crate of its own.
+//! What is known of a room beside its tables, a copy to which each commit is applied, and the rows
+//! that a request reads: those known, and others by key and by index of the tables.
 #![tactic(auto)]
 
-pub mod boards;
+pub mod backlogs;
 pub mod cache;
-pub mod dossiers;
+pub mod cached_rows;
+pub mod crew_reads;
 pub mod fleets;
 pub mod half_hours;
-pub mod recents;
-pub mod rows;
-pub mod terminals;
-pub mod turns;
+mod incident_reads;
+pub mod incident_views;
+pub mod known_terminals;
+pub mod open_turns;
+mod partitions;
+pub mod recent_incidents;
+mod request_reads;
+mod row_unions;
+mod selections;
 pub mod views;
+pub mod working_rows;

@@ -1,9 +1,9 @@
 //! What is known of parts of the room beside its tables: copies that each commit is applied to.
 ghost use Rattle.std.specs.Prelude.{◌≡◌, ◌≢◌, ◌≤◌, ℕ, All, AllPairs, IfErr, OnOk, map, vec_len};
-ghost use Rattle.room_tables_schema.specs.declared.faults.Fault.TheVariants.{Memory};
+ghost use Rattle.room_tables_schema.specs.declared.database_faults.Fault.TheVariants.{Memory};
 ghost use Rattle.room_model.specs.Room.{IsInOrder, Room, apply_one};
 
-use room_tables_schema::faults::Fault;
+use room_tables_schema::database_faults::Fault;
 use room_types::changes::Change;
 
 /// What is known of a part of the room. `fill` keeps what was read of the tables, where memory is

@@ -9,16 +9,16 @@ use Rattle.sqlite.proofs.Callers.{survives_begin}
 use Rattle.sqlite.proofs.StateLemmas.{survives_then}
 use Rattle.sqlite_trees.specs.Tree.{Trees}
 use Rattle.sqlite_trees.specs.declared.store.Store.{Ghosts}
-use Rattle.room_tables_sql.specs.Outcomes.{CommitsNothing, WritesInside}
-use Rattle.room_tables_sql.proofs.WriteLaws.{commits_none, write_commits}
+use Rattle.room_tables_laws.specs.Outcomes.{CommitsNothing, WritesInside}
+use Rattle.room_tables_laws.proofs.WriteLaws.{commits_none, write_commits}
 use Rattle.room_place.specs.declared.plans.Area.{Area}
 use Rattle.room_types.specs.declared.changes.Change.{Change}
 use Rattle.room_model.specs.Room.{Room, apply, apply_one}
-use Rattle.room_tables_schema.specs.Connections.{MayWrite}
+use Rattle.room_tables_schema.specs.FileConnections.{MayWrite}
 use Rattle.room_tables_schema.specs.Schema.{room_schema}
-use Rattle.room_tables.specs.Stands.{House, Stands}
+use Rattle.room_tables.specs.Stands.{Configuration, Stands}
 use Rattle.room_tables.specs.Writes.{AppendsArea, Changes}
-use Rattle.room_store_writes.specs.Writing.{IsSettled, Leaves}
+use Rattle.room_store_writes.specs.Transactions.{IsSettled, Leaves}
 
 pub on_ok : {T E : Type 0} (r : Result T E) (P : Type 0) → P → OnOk r P
 on_ok (Ok x) P p = p
@@ -33,19 +33,19 @@ ok_then (Ok x) P Q f p = f p
 ok_then (Err e) P Q f p = tt
 
 -- what changed a room's tables in a transaction may be followed by more
-pub may_on : {S T E : Type 0} (g : Ghosts S) (a b : Held S) (house_after : House → House)
+pub may_on : {S T E : Type 0} (g : Ghosts S) (a b : Held S) (config_after : Configuration → Configuration)
     (room_after : Room → Room) (r : Result T E)
-    → (HasCleanDisk (state g b) → OnOk r (Changes (state g a) (state g b) house_after room_after))
+    → (HasCleanDisk (state g b) → OnOk r (Changes (state g a) (state g b) config_after room_after))
     → OnOk r (MayWrite g b)
-may_on g a b house_after room_after (Ok x) made = record { room = λ clean. (made clean).schema; inside = λ clean. (made clean).inside.mode }
-may_on g a b house_after room_after (Err e) made = tt
+may_on g a b config_after room_after (Ok x) made = record { room = λ clean. (made clean).schema; inside = λ clean. (made clean).inside.mode }
+may_on g a b config_after room_after (Err e) made = tt
 
-module _ {S T E : Type 0} (g : Ghosts S) (a b : Held S) (house_after : House → House)
+module _ {S T E : Type 0} (g : Ghosts S) (a b : Held S) (config_after : Configuration → Configuration)
     (room_after : Room → Room) (r : Result T E)
-    (made : HasCleanDisk (state g b) → OnOk r (Changes (state g a) (state g b) house_after room_after)) where
+    (made : HasCleanDisk (state g b) → OnOk r (Changes (state g a) (state g b) config_after room_after)) where
   -- what changed them commits nothing
   pub put_commits : WritesInside g a b r → CommitsNothing g a b
-  put_commits wrote = write_commits r wrote (λ clean. ok_then r _ _ (λ (is : Changes (state g a) (state g b) house_after room_after). is.inside) (made clean))
+  put_commits wrote = write_commits r wrote (λ clean. ok_then r _ _ (λ (is : Changes (state g a) (state g b) config_after room_after). is.inside) (made clean))
 
 -- nor does the next area
 pub area_commits : {S T E : Type 0} (g : Ghosts S) (a b : Held S) (at : ℕ) (area : Area)
@@ -143,18 +143,18 @@ module _ {S A B C D : Type 0} (g : Ghosts S) (old begun last end : Held S) (done
 
 -- The tables stand for a room that these changes, the last ones, take to the room that all of them
 -- make.
-abbrev pub StandsBefore : List Change → House → Trees → Room → Type 0
-StandsBefore left house db after = (mid : Room) × Stands db house mid × (apply mid left ≡ after)
+abbrev pub StandsBefore : List Change → Configuration → Trees → Room → Type 0
+StandsBefore left config db after = (mid : Room) × Stands db config mid × (apply mid left ≡ after)
 
 -- one of them is made
-pub nearer : (left more : List Change) (change : Change) (house : House) (db next : Trees)
+pub nearer : (left more : List Change) (change : Change) (config : Configuration) (db next : Trees)
     (after : Room) → left ≡ change ∷ more
-    → ((room : Room) → Stands db house room → Stands next house (apply_one room change))
-    → StandsBefore left house db after → StandsBefore more house next after
-nearer left more change house db next after is made before =
+    → ((room : Room) → Stands db config room → Stands next config (apply_one room change))
+    → StandsBefore left config db after → StandsBefore more config next after
+nearer left more change config db next after is made before =
     (apply_one before.0 change, made before.0 before.1, sym (ap (apply before.0) is) ∙ before.2)
 
 -- all are made
-pub there : (left : List Change) (house : House) (db : Trees) (after : Room) → left ≡ []
-    → StandsBefore left house db after → Stands db house after
-there left house db after none before = subst (Stands db house) (sym (ap (apply before.0) none) ∙ before.2) before.1
+pub there : (left : List Change) (config : Configuration) (db : Trees) (after : Room) → left ≡ []
+    → StandsBefore left config db after → Stands db config after
+there left config db after none before = subst (Stands db config) (sym (ap (apply before.0) none) ∙ before.2) before.1

@@ -8,7 +8,7 @@ use Rattle.room_types_keyed.specs.Keyed.{put_row}
 use Rattle.room_types.specs.Keys.{division_key}
 use Rattle.room_types.specs.declared.tables.Division.{Division}
 use Rattle.room_tables.specs.Stands.{places_from}
-use Rattle.room_store_writes.specs.Filling.{new_division}
+use Rattle.room_store_writes.specs.NewRoom.{new_division}
 
 greater : (m n : ℕ) → n < m → nat_cmp m n ≡ Greater
 greater m n h = grind (arith, nat_tests)

@@ -2,8 +2,8 @@
 use Rattle.std.specs.Prelude.{List}
 use Rattle.room_place.specs.Plans.{Layout}
 use Rattle.room_types.specs.declared.fleet.Terminal.{Terminal}
-use Rattle.room_tables.specs.Stands.{House}
+use Rattle.room_tables.specs.Stands.{Configuration}
 
--- the house of these terminals in a plan
-abbrev pub house_of : Layout → List Terminal → House
-house_of plan terminals = record { zone = plan.zone; terminals = terminals }
+-- the configuration of these terminals in a plan
+abbrev pub config_of : Layout → List Terminal → Configuration
+config_of plan terminals = record { zone = plan.zone; terminals = terminals }

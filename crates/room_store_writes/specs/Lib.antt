@@ -1,8 +1,8 @@
 -- what a transaction makes of the tables
-pub mod Writing
+pub mod Transactions
 -- what they keep beside the room
 pub mod Houses
 -- a room that begins
-pub mod Filling
+pub mod NewRoom
 -- what the enrolment of a fleet row makes of them
-pub mod Enrolling
+pub mod EnrolledRows

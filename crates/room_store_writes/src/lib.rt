@@ -1,6 +1,7 @@
+//! Only the prover needs this to be a crate of its own.
 //! What a room's changes write: each in one transaction, committed whole or undone.
 #![tactic(auto)]
 
-pub mod enrolling;
-pub mod filling;
-pub mod writing;
+pub mod enrolled_rows;
+pub mod new_room;
+pub mod transactions;

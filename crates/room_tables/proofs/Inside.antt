@@ -4,10 +4,10 @@ use Rattle.sqlite.specs.Held.{Held}
 use Rattle.sqlite.specs.State.{IsUnchanged, State}
 use Rattle.sqlite.proofs.Callers.{unchanged_then}
 use Rattle.sqlite_trees.specs.declared.store.Store.{Ghosts}
-use Rattle.room_tables_sql.proofs.ReadLaws.{still}
-use Rattle.room_tables_sql.proofs.Refusals.{keeps_then}
+use Rattle.room_tables_laws.proofs.ReadLaws.{still}
+use Rattle.room_tables_laws.proofs.Refusals.{keeps_then}
 use Rattle.room_tables.proofs.RoomReads.{was_clean}
-use Rattle.room_tables_sql.specs.Outcomes.{ReadsInside}
+use Rattle.room_tables_laws.specs.Outcomes.{ReadsInside}
 use Rattle.room_tables_rows.specs.Writes.{Renews}
 
 module _ {S : Type 0} {g : Ghosts S} {a b c : Held S} {T E U F : Type 0} {x : T} where

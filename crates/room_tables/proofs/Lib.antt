@@ -10,10 +10,12 @@ pub mod Settles
 -- calls in a loop that change nothing
 pub mod Repeats
 -- the rowids of all tables
-pub mod Rowids
+pub mod RowidLemmas
 -- what was shown and is not read
 pub mod Unread
--- want of memory, a query whose rows are none of what is read, and the last of some reads
+-- lack of memory, a query whose rows are none of what is read, and the last of some reads
 pub mod Told
 -- a table whose rows are read one at a time
 pub mod Streams
+-- the greatest serial of calls
+pub mod Serials

@@ -8,7 +8,7 @@ use Rattle.sqlite.specs.State.{Executes, IsUnchanged, State}
 use Rattle.room_model.specs.Room.{Room, apply_one}
 use Rattle.room_types.specs.declared.changes.Change.{Change}
 use Rattle.room_types.specs.declared.changes.Change.TheVariants as change
-use Rattle.room_tables_sql.specs.Outcomes.{Inside}
+use Rattle.room_tables_laws.specs.Outcomes.{Inside}
 use Rattle.room_tables_schema.specs.Schema.{room_schema}
 use Rattle.room_tables_rows.specs.Tables.{InsertsRow, IsDropped, IsOverwritten, IsTable, Texts}
 use Rattle.room_tables_rows.specs.Writes.{Changes, Makes}
@@ -24,7 +24,7 @@ use Rattle.room_tables_rows.proofs.LoansTable.{loans_are, loans_dropped}
 use Rattle.room_tables_rows.proofs.OffersTable.{offers_are, offers_dropped}
 use Rattle.room_tables_rows.proofs.ReportsTable.{report_inserts, reports_are}
 use Rattle.room_tables.proofs.RoomReads.{kept}
-use Rattle.room_tables.specs.Running.{AreInsertions, AreStatements, IsStatement, Ran}
+use Rattle.room_tables.specs.ChangeStatements.{AreInsertions, AreStatements, IsStatement, Ran}
 
 module _ {old new : State} {text : List ℕ} {params : Row} (it : Ran text params old new) where
   module _ {X K : Type 0} {order : K → K → Ordering} {key : X → K} {row : X → Row}
@@ -56,7 +56,7 @@ module _ {old new : State} {text : List ℕ} {params : Row} (it : Ran text param
 
 -- a row was written over, or none was
 abbrev pub Overwrites : State → State → ℕ → Change → Type 0
-Overwrites old new count made = Changes old new (λ house. house)
+Overwrites old new count made = Changes old new (λ config. config)
     (λ room. if count == 0 then room else apply_one room made)
 
 module _ (old new : State) (text : List ℕ) (params : Row) (count : ℕ)
@@ -100,7 +100,7 @@ overwritten old new count made some over = let is : (count == 0) ≡ false = gri
 
 -- the room is as before
 abbrev pub Stays : State → State → Type 0
-Stays old new = Changes old new (λ house. house) (λ room. room)
+Stays old new = Changes old new (λ config. config) (λ room. room)
 
 -- then the change is that of the put after it
 put_after : (old mid new : State) (made : Change) → Stays old mid → Makes mid new made
@@ -108,7 +108,7 @@ put_after : (old mid new : State) (made : Change) → Stays old mid → Makes mi
 put_after old mid new made before put = record {
   inside = record { was_open = before.inside.was_open; is_open = put.inside.is_open; now_is = put.inside.now_is; committed_is = put.inside.committed_is ∙ before.inside.committed_is; mode = put.inside.mode };
   schema = put.schema;
-  stands = λ house room h. put.stands house room (before.stands house room h);
+  stands = λ config room h. put.stands config room (before.stands config room h);
 }
 
 -- so it is where none was written over ..

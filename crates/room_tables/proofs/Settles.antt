@@ -11,18 +11,18 @@ use Rattle.room_types.specs.declared.tables.Vehicle.{Vehicle}
 use Rattle.room_model.specs.Room.{Room, settled}
 use Rattle.room_tables_schema.specs.Schema.{room_schema}
 use Rattle.room_tables_rows.specs.Finds.{listed}
-use Rattle.room_tables_rows.specs.Keys.{text_cells}
-use Rattle.room_tables_rows.specs.Stands.{House, Stands}
-use Rattle.room_tables_rows.specs.Vehicles.{vehicle_row}
+use Rattle.room_tables_rows.specs.KeyColumns.{text_cells}
+use Rattle.room_tables_rows.specs.Stands.{Configuration, Stands}
+use Rattle.room_tables_rows.specs.VehicleColumns.{vehicle_row}
 use Rattle.room_tables_rows.specs.Writes.{Makes}
-use Rattle.room_tables_rows.specs.declared.vehicles.TheConstants.{VEHICLE_AT}
+use Rattle.room_tables_rows.specs.declared.vehicle_columns.TheConstants.{VEHICLE_AT}
 use Rattle.room_tables_rows.proofs.Loads.{row_of_key}
 use Rattle.room_tables_rows.proofs.VehiclesTable.{vehicles_are}
 use Rattle.room_tables.proofs.RoomReads.{kept}
 
 -- this is the row of the callsign, of whatever room the tables stand for
 abbrev pub IsFound : Trees → Callsign → Option Vehicle → Type 0
-IsFound trees callsign found = (house : House) (room : Room) → Stands trees house room → found ≡ row_at callsign_cmp vehicle_key room.vehicles callsign
+IsFound trees callsign found = (config : Configuration) (room : Room) → Stands trees config room → found ≡ row_at callsign_cmp vehicle_key room.vehicles callsign
 
 -- what a selection by the callsign shows
 pub found_by : (old mid : State) (callsign : Callsign) (found : Option Vehicle)
@@ -38,8 +38,8 @@ module _ (old mid : State) (callsign : Callsign) (division : ℕ) (same : IsUnch
   settles_found vehicle new found put = record {
     inside = record { was_open = same.0.was_open; is_open = put.inside.is_open; now_is = put.inside.now_is; committed_is = put.inside.committed_is ∙ same.0.committed_is; mode = put.inside.mode };
     schema = put.schema;
-    stands = λ house room h.
-        subst (λ at. Stands new.now.trees house (record room { vehicles = settled at division room.vehicles })) (found house room h) (put.stands house room (kept old mid same house room h));
+    stands = λ config room h.
+        subst (λ at. Stands new.now.trees config (record room { vehicles = settled at division room.vehicles })) (found config room h) (put.stands config room (kept old mid same config room h));
   }
 
   pub settles_none : old.in_transaction ≡ true → old.now.schema ≡ room_schema
@@ -47,6 +47,6 @@ module _ (old mid : State) (callsign : Callsign) (division : ℕ) (same : IsUnch
   settles_none inside has none = record {
     inside = record { was_open = same.0.was_open; is_open = same.0.is_open; now_is = λ i. mid.now; committed_is = same.0.committed_is; mode = same.0.mode ∙ inside };
     schema = subst (λ db. db.schema ≡ room_schema) (sym same.0.now_is) has;
-    stands = λ house room h.
-        subst (λ at. Stands mid.now.trees house (record room { vehicles = settled at division room.vehicles })) (none house room h) (kept old mid same house room h);
+    stands = λ config room h.
+        subst (λ at. Stands mid.now.trees config (record room { vehicles = settled at division room.vehicles })) (none config room h) (kept old mid same config room h);
   }

@@ -8,10 +8,10 @@ use Rattle.std.specs.Result.{is_ok}
 use Rattle.sqlite_value.specs.Order.{Row}
 use Rattle.room_types_keyed.specs.Keyed.{IsBelowAll, IsKeyed, put_row}
 use Rattle.room_types_keyed.proofs.KeyedLaws.{keyed_put}
-use Rattle.room_tables_schema.specs.declared.faults.Fault.{Fault}
-use Rattle.room_tables_schema.specs.declared.faults.Fault.TheVariants.{Memory, Storage}
+use Rattle.room_tables_schema.specs.declared.database_faults.Fault.{Fault}
+use Rattle.room_tables_schema.specs.declared.database_faults.Fault.TheVariants.{Memory, Storage}
 use Rattle.room_tables.specs.Failures.{AreNoRows, IfStorage}
-use Rattle.room_tables.specs.Streams.{AreRead, AreTaken, last_of}
+use Rattle.room_tables.specs.RowStreams.{AreRead, AreTaken, last_of}
 
 pub last_end : {X : Type 0} (xs : List X) (x : X) → last_of (xs ++ x ∷ []) ≡ Some x
 last_end [] x = refl
@@ -71,7 +71,7 @@ module _ {X K T : Type 0} (is_row : Row → Bool) (order : K → K → Ordering)
   all_of first shown P (Ok now) (last, (rows, are, keyed, is, taken)) all = (rows, all rows are keyed, taken)
   all_of first shown P (Err fault) h all = tt
 
-  -- and a fault tells of what was shown
+  -- and a fault is about what was shown
   pub fault_of_all : (first : T) (shown : List Row) (P : Fault → Type 0) (result : Result T Fault)
       → AreRead is_row order key row takes first shown result
       → ((fault : Fault) → IfStorage (AreNoRows is_row order key row shown) fault → P fault)

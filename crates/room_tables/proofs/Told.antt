@@ -1,4 +1,4 @@
--- What is told of want of memory, of a query whose rows are none of what is read, and of the last of
+-- What is said of lack of memory, of a query whose rows are none of what is read, and the last of
 -- some reads.
 use Rattle.std.proofs.Common.{◌≡◌, Err, List, Ok, Result, inr, subst, sym, ℕ}
 use Rattle.std.specs.Prelude.{IfErr}
@@ -7,8 +7,8 @@ use Rattle.sqlite.specs.Held.{Held, state}
 use Rattle.sqlite.specs.State.{Shown, State}
 use Rattle.sqlite_trees.specs.declared.store.Store.{Ghosts}
 use Rattle.sqlite_value.specs.Order.{Row}
-use Rattle.room_tables_schema.specs.declared.faults.Fault.{Fault}
-use Rattle.room_tables_schema.specs.declared.faults.Fault.TheVariants.{Memory, Storage}
+use Rattle.room_tables_schema.specs.declared.database_faults.Fault.{Fault}
+use Rattle.room_tables_schema.specs.declared.database_faults.Fault.TheVariants.{Memory, Storage}
 use Rattle.room_tables.specs.Failures.{FailsAtLast, FailsToRead, IfStorage, WentWell}
 
 -- memory was wanting
@@ -25,13 +25,13 @@ pub shown_fails : (text : List ℕ) (params : Row) (old new : State) (AreNone : 
 shown_fails text params old new AreNone shown is Memory none = tt
 shown_fails text params old new AreNone shown is Storage none = inr (shown, is, none)
 
--- what holds of a fault holds where it is told
+-- what holds of a fault holds where it is given
 pub told_on : {T E : Type 0} (r : Result T E) (fault : E) (P : E → Type 0)
     → IsErrAnd r (λ e. e ≡ fault) → P fault → IfErr r P
 told_on (Ok x) fault P is h = tt
 told_on (Err e) fault P is h = subst P (sym is) h
 
--- what tells of a cause tells of what follows from it
+-- what reports a cause reports what follows from it
 pub if_storage : {P Q : Type 0} (fault : Fault) → IfStorage P fault → (P → Q) → IfStorage Q fault
 if_storage Memory so follows = tt
 if_storage Storage so follows = follows so

@@ -5,7 +5,7 @@ use Rattle.std.specs.List.{slice_get}
 use Rattle.std.proofs.lemmas.List.{drop_more, length-take-le, map-append, take_more, take-append-drop}
 use Rattle.sqlite_value.specs.Order.{Row}
 use Rattle.room_place.specs.declared.plans.Area.{Area}
-use Rattle.room_tables_rows.specs.Areas.{area_row}
+use Rattle.room_tables_rows.specs.AreaColumns.{area_row}
 use Rattle.room_types_keyed.specs.Keyed.{IsBelowAll, IsKeyed}
 use Rattle.room_tables.specs.Failures.{HasMisnumbered, HasStranger}
 

@@ -1,4 +1,4 @@
--- What a fault tells. Memory may run out at any time; storage is told for a cause.
+-- What a fault says. Memory may run out at any time; storage is reported for a cause.
 use Rattle.std.specs.Prelude.{IfErr, Result, ◌≡◌, ◌≤◌, ◌++◌, ◌⊎◌, ⊤, ℕ, suc, List, ◌∷◌, map, length, Bool, false, Err, Ok}
 use Rattle.std.specs.declared.cmp.Ordering.{Ordering}
 use Rattle.sqlite_value.specs.Order.{Row}
@@ -8,28 +8,28 @@ use Rattle.sqlite.specs.State.{HasCleanDisk, ExecutesInside, FailsToQuery, Shown
 use Rattle.sqlite.specs.declared.error.Error.{Error}
 use Rattle.room_place.specs.declared.plans.Area.{Area}
 use Rattle.room_types_keyed.specs.Keyed.{IsKeyed}
-use Rattle.room_tables_sql.specs.Outcomes.{ReadsInside}
-use Rattle.room_tables_rows.specs.Areas.{is_area_row, area_row}
-use Rattle.room_tables_schema.specs.Faults.{fault_of}
-use Rattle.room_tables_schema.specs.declared.faults.Fault.{Fault}
-use Rattle.room_tables_schema.specs.declared.faults.Fault.TheVariants.{Memory, Storage}
+use Rattle.room_tables_laws.specs.Outcomes.{ReadsInside}
+use Rattle.room_tables_rows.specs.AreaColumns.{is_area_row, area_row}
+use Rattle.room_tables_schema.specs.DatabaseFaults.{fault_of}
+use Rattle.room_tables_schema.specs.declared.database_faults.Fault.{Fault}
+use Rattle.room_tables_schema.specs.declared.database_faults.Fault.TheVariants.{Memory, Storage}
 
--- where storage is told, this is so
+-- where storage is given, this is so
 abbrev pub IfStorage : Type 0 → Fault → Type 0
 IfStorage IsSo Memory = ⊤
 IfStorage IsSo Storage = IsSo
 
 module _ (text : List ℕ) (params : Row) (old new : State) where
-  -- The query failed, and not for want of memory; or what it showed is none of what is read.
+  -- The query failed, and not for lack of memory; or what it showed is none of what is read.
   abbrev pub FailsToRead : (List Row → Type 0) → Type 0
   FailsToRead AreNone = ((e : Error) × FailsToQuery text params old new e × (fault_of e ≡ Storage))
       ⊎ ((shown : List Row) × Shown text params old new shown × AreNone shown)
 
-  -- The statement failed, and not for want of memory.
+  -- The statement failed, and not for lack of memory.
   abbrev pub FailsToWrite : Type 0
   FailsToWrite = (e : Error) × ExecutesInside 0 text params old new (Err e) × (fault_of e ≡ Storage)
 
--- why a read failed: storage is told for one of these causes
+-- why a read failed: storage is reported for one of these causes
 abbrev pub TellsWhy : {S T : Type 0} → Ghosts S → Held S → Held S → Result T Fault → List ℕ → Row
     → (List Row → Type 0) → Type 0
 TellsWhy g old new result text params AreNone =
@@ -47,13 +47,13 @@ pub record FailsAtLast {S : Type 0} (g : Ghosts S) (Fails : State → State → 
   pub well : WentWell g old before
   pub fails : Fails (state g before) (state g new)
 
--- why the last of them failed: storage is told for this cause
+-- why the last of them failed: storage is reported for this cause
 abbrev pub TellsWhyAtLast : {S T : Type 0} → Ghosts S → Held S → Held S → Result T Fault
     → (State → State → Type 0) → Type 0
 TellsWhyAtLast g old new result Fails =
     HasCleanDisk (state g new) → IfErr result (IfStorage (FailsAtLast g Fails old new))
 
--- why a write failed: storage is told for this cause
+-- why a write failed: storage is reported for this cause
 abbrev pub TellsWhyUnwritten : {S T : Type 0} → Ghosts S → Held S → Held S → Result T Fault
     → List ℕ → Row → Type 0
 TellsWhyUnwritten g old new result text params =

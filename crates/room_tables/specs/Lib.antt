@@ -1,16 +1,16 @@
--- Whether the tables number their rows, and what a fault tells; and, for callers, which room the
+-- Whether the tables number their rows, and what a fault says; and, for callers, which room the
 -- tables stand for and what writes make of it. whether all rows are numbered
-pub mod Numbering
+pub mod Rowids
 -- what is found of a room
-pub mod Finding
--- what a fault tells
+pub mod FoundRows
+-- what a fault says
 pub mod Failures
 -- rows that are read one at a time
-pub mod Streams
+pub mod RowStreams
 -- a statement that ran
-pub mod Running
+pub mod ChangeStatements
 pub use Rattle.room_tables_rows.specs.Stands
 pub use Rattle.room_tables_rows.specs.Tables
-pub use Rattle.room_tables_rows.specs.Versions
+pub use Rattle.room_tables_rows.specs.MetaVersions
 pub use Rattle.room_tables_rows.specs.Finds
 pub use Rattle.room_tables_rows.specs.Writes

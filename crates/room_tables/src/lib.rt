@@ -6,23 +6,23 @@
 //! `Table`.
 #![tactic(auto)]
 
-pub mod areas;
-pub mod assignments;
-pub mod calls;
-pub mod changing;
-pub mod divisions;
-pub mod incidents;
-pub mod loading;
-pub mod loans;
-pub mod meta;
-pub mod numbering;
-pub mod offers;
-pub mod points;
-mod reading;
-pub mod reports;
-mod running;
-pub mod streaming;
-pub mod tables;
-pub mod terminals;
-pub mod turns;
-pub mod vehicles;
+pub mod area_table;
+pub mod assignment_table;
+pub mod call_table;
+mod change_statements;
+pub mod division_table;
+pub mod incident_table;
+mod loaded_rows;
+pub mod loan_table;
+pub mod meta_table;
+pub mod offer_table;
+pub mod point_table;
+pub mod report_table;
+pub mod room_table;
+pub mod row_changes;
+pub mod row_streams;
+pub mod rowids;
+pub mod table_loads;
+pub mod terminal_table;
+pub mod turn_table;
+pub mod vehicle_table;

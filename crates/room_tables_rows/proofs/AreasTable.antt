@@ -1,32 +1,32 @@
 -- What the statements on the table areas say, and what they make of a room. (Written by tools/tables.py.)
 use Rattle.room_model.specs.Room.{Room}
 use Rattle.room_place.specs.declared.plans.Area.{Area}
+use Rattle.room_tables_laws.proofs.ColumnValues.{cast-Int, cast-Null}
+use Rattle.room_tables_laws.proofs.Comparisons.{conflict_of_one}
+use Rattle.room_tables_laws.proofs.StoredRows.{stores_rowid}
+use Rattle.room_tables_laws.specs.Statements.{Selects, StandsAlone, Stores, Upserts, rowid_update, rowid_values}
+use Rattle.room_tables_laws.specs.TypedRows.{number}
 use Rattle.room_tables_rows.proofs.Loads.{ShowsAll, all_rows}
 use Rattle.room_tables_rows.proofs.RowLaws.{area_faithful}
-use Rattle.room_tables_rows.specs.Areas.{area_key, area_row}
-use Rattle.room_tables_rows.specs.Stands.{House, numbered}
+use Rattle.room_tables_rows.specs.AreaColumns.{area_key, area_row}
+use Rattle.room_tables_rows.specs.Stands.{Configuration, numbered}
 use Rattle.room_tables_rows.specs.Tables.{IsHeld, PutsRow}
-use Rattle.room_tables_rows.specs.declared.areas.TheConstants.{ALL_AREAS, PUT_AREA}
+use Rattle.room_tables_rows.specs.declared.area_columns.TheConstants.{ALL_AREAS, PUT_AREA}
 use Rattle.room_tables_schema.specs.Schema.{areas_table, room_schema}
-use Rattle.room_tables_sql.proofs.ColumnValues.{cast-Int, cast-Null}
-use Rattle.room_tables_sql.proofs.Comparisons.{conflict_of_one}
-use Rattle.room_tables_sql.proofs.StoredRows.{stores_rowid}
-use Rattle.room_tables_sql.specs.Statements.{Selects, StandsAlone, Stores, Upserts, rowid_update, rowid_values}
-use Rattle.room_tables_sql.specs.Typed.{number}
 use Rattle.sqlite.specs.Listing.{understood}
 use Rattle.sqlite_tied.specs.Compute.{everything}
 use Rattle.sqlite_value.specs.Order.{column}
 use Rattle.std.proofs.Common.{List, [], refl, ℕ, ◌∷◌}
 use Rattle.std.specs.Ordering.{nat_cmp}
 
-abbrev all_of : House → Room → List (ℕ × Area)
-all_of house room = (numbered 1 room.plan)
+abbrev all_of : Configuration → Room → List (ℕ × Area)
+all_of config room = (numbered 1 room.plan)
 
 pub areas_alone : StandsAlone room_schema 1 areas_table
 areas_alone = record { is_there = refl; unreferenced = λ olds news. refl; uncounted = refl }
 
 abbrev pub areas_held : IsHeld nat_cmp area_key area_row areas_table all_of
-areas_held = record { faithful = area_faithful; others = (2 ∷ 3 ∷ 4 ∷ 5 ∷ 6 ∷ []); places_are = refl; at = 1; alone = areas_alone; held = λ trees house room h. h.areas }
+areas_held = record { faithful = area_faithful; others = (2 ∷ 3 ∷ 4 ∷ 5 ∷ 6 ∷ []); places_are = refl; at = 1; alone = areas_alone; held = λ trees config room h. h.areas }
 
 pub all_areas_means : Selects room_schema ALL_AREAS.now 1 (0 ∷ 2 ∷ 3 ∷ 4 ∷ 5 ∷ 6 ∷ []) (0 ∷ []) ([])
 unfolding understood everything

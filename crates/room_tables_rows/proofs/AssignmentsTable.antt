@@ -1,17 +1,17 @@
 -- What the statements on the table assignments say, and what they make of a room. (Written by tools/tables.py.)
 use Rattle.room_model.specs.Room.{Room}
+use Rattle.room_tables_laws.proofs.ColumnValues.{cast-Int}
+use Rattle.room_tables_laws.proofs.Comparisons.{and_last, conflict_of_one, tie-texts}
+use Rattle.room_tables_laws.proofs.StoredRows.{stores_row}
+use Rattle.room_tables_laws.specs.Statements.{Deletes, Inserts, Selects, StandsAlone, Stores, Upserts, equals, row_update, row_values}
 use Rattle.room_tables_rows.proofs.Kept.{with_assignments}
 use Rattle.room_tables_rows.proofs.RowLaws.{assignment_faithful}
-use Rattle.room_tables_rows.specs.Assignments.{assignment_row}
-use Rattle.room_tables_rows.specs.Keys.{text_cells}
-use Rattle.room_tables_rows.specs.Stands.{House}
+use Rattle.room_tables_rows.specs.AssignmentColumns.{assignment_row}
+use Rattle.room_tables_rows.specs.KeyColumns.{text_cells}
+use Rattle.room_tables_rows.specs.Stands.{Configuration}
 use Rattle.room_tables_rows.specs.Tables.{InsertsRow, IsDropped, IsHeld, IsTable, PutsRow, SelectsChosen}
-use Rattle.room_tables_rows.specs.declared.assignments.TheConstants.{ALL_ASSIGNMENTS, ASSIGNMENT_AT, DROP_ASSIGNMENT, INSERT_ASSIGNMENT, PUT_ASSIGNMENT}
+use Rattle.room_tables_rows.specs.declared.assignment_columns.TheConstants.{ALL_ASSIGNMENTS, ASSIGNMENT_AT, DROP_ASSIGNMENT, INSERT_ASSIGNMENT, PUT_ASSIGNMENT}
 use Rattle.room_tables_schema.specs.Schema.{assignments_table, room_schema}
-use Rattle.room_tables_sql.proofs.ColumnValues.{cast-Int}
-use Rattle.room_tables_sql.proofs.Comparisons.{and_last, conflict_of_one, tie-texts}
-use Rattle.room_tables_sql.proofs.StoredRows.{stores_row}
-use Rattle.room_tables_sql.specs.Statements.{Deletes, Inserts, Selects, StandsAlone, Stores, Upserts, equals, row_update, row_values}
 use Rattle.room_types.specs.Keys.{assignment_key, callsign_cmp}
 use Rattle.room_types.specs.Texts.{Callsign}
 use Rattle.room_types.specs.declared.changes.Change.TheVariants.{DropAssignment, PutAssignment}
@@ -25,14 +25,14 @@ use Rattle.sqlite_value.specs.declared.value.Value.TheVariants.{Text}
 use Rattle.std.proofs.Common.{List, [], refl, ◌∷◌}
 use Rattle.std.specs.Ordering.{is_eq}
 
-abbrev all_of : House → Room → List Assignment
-all_of house room = room.assignments
+abbrev all_of : Configuration → Room → List Assignment
+all_of config room = room.assignments
 
 pub assignments_alone : StandsAlone room_schema 8 assignments_table
 assignments_alone = record { is_there = refl; unreferenced = λ olds news. refl; uncounted = refl }
 
 abbrev pub assignments_held : IsHeld callsign_cmp assignment_key assignment_row assignments_table all_of
-assignments_held = record { faithful = assignment_faithful; others = (2 ∷ 3 ∷ 4 ∷ 5 ∷ 6 ∷ 7 ∷ []); places_are = refl; at = 8; alone = assignments_alone; held = λ trees house room h. h.assignments }
+assignments_held = record { faithful = assignment_faithful; others = (2 ∷ 3 ∷ 4 ∷ 5 ∷ 6 ∷ 7 ∷ []); places_are = refl; at = 8; alone = assignments_alone; held = λ trees config room h. h.assignments }
 
 pub all_assignments_means : Selects room_schema ALL_ASSIGNMENTS.now 13 (1 ∷ 2 ∷ 3 ∷ 4 ∷ 5 ∷ 6 ∷ 7 ∷ []) (1 ∷ []) ([])
 unfolding understood everything
@@ -63,7 +63,7 @@ assignments_are = record {
   selects_all = all_assignments_means;
   selects_at = λ k. assignment_at_chooses k;
   puts = assignment_puts;
-  leads = λ old new house room x h only is. with_assignments old new house room h only _ is;
+  leads = λ old new config room x h only is. with_assignments old new config room h only _ is;
 }
 
 pub insert_assignment_means : Inserts room_schema INSERT_ASSIGNMENT.now 8 7 (row_values 7)
@@ -83,5 +83,5 @@ assignments_dropped = record {
   at = 8;
   alone = assignments_alone;
   deletes = λ k. record { terms = equals 1 0 ∷ []; deletes = drop_assignment_means; chooses = record { test = λ r. equal Binary (column r 0) (Text k); tells = λ r. and_last refl; same = λ x. tie-texts x.callsign k } };
-  leads = λ old new house room k h only is. with_assignments old new house room h only _ is;
+  leads = λ old new config room k h only is. with_assignments old new config room h only _ is;
 }

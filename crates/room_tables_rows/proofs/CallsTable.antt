@@ -1,19 +1,19 @@
 -- What the statements on the table calls say, and what they make of a room. (Written by tools/tables.py.)
 use Rattle.room_model.specs.Room.{Room}
+use Rattle.room_tables_laws.proofs.ColumnValues.{cast-Int}
+use Rattle.room_tables_laws.proofs.Comparisons.{and_last, and_then, conflict_of_two, equal-numbers, is_eq-then, tie-numbers}
+use Rattle.room_tables_laws.proofs.StoredRows.{stores_row}
+use Rattle.room_tables_laws.specs.Statements.{Inserts, Selects, StandsAlone, Stores, Upserts, equals, row_update, row_values}
+use Rattle.room_tables_laws.specs.TypedRows.{number}
 use Rattle.room_tables_rows.proofs.Kept.{with_calls}
 use Rattle.room_tables_rows.proofs.Loads.{Shows, chosen_rows}
 use Rattle.room_tables_rows.proofs.RowLaws.{call_faithful}
-use Rattle.room_tables_rows.specs.Calls.{call_row}
-use Rattle.room_tables_rows.specs.Keys.{pair_cells}
-use Rattle.room_tables_rows.specs.Stands.{House}
+use Rattle.room_tables_rows.specs.CallColumns.{call_row}
+use Rattle.room_tables_rows.specs.KeyColumns.{pair_cells}
+use Rattle.room_tables_rows.specs.Stands.{Configuration}
 use Rattle.room_tables_rows.specs.Tables.{InsertsRow, IsHeld, IsTable, PutsRow, SelectsChosen}
-use Rattle.room_tables_rows.specs.declared.calls.TheConstants.{ALL_CALLS, CALLS_OF, CALL_AT, INSERT_CALL, PUT_CALL}
+use Rattle.room_tables_rows.specs.declared.call_columns.TheConstants.{ALL_CALLS, CALLS_BY, CALLS_OF, CALL_AT, INSERT_CALL, PUT_CALL}
 use Rattle.room_tables_schema.specs.Schema.{calls_table, room_schema}
-use Rattle.room_tables_sql.proofs.ColumnValues.{cast-Int}
-use Rattle.room_tables_sql.proofs.Comparisons.{and_last, and_then, conflict_of_two, equal-numbers, is_eq-then, tie-numbers}
-use Rattle.room_tables_sql.proofs.StoredRows.{stores_row}
-use Rattle.room_tables_sql.specs.Statements.{Inserts, Selects, StandsAlone, Stores, Upserts, equals, row_update, row_values}
-use Rattle.room_tables_sql.specs.Typed.{number}
 use Rattle.room_types.specs.Keys.{call_key, pair_cmp}
 use Rattle.room_types.specs.declared.changes.Change.TheVariants.{PutCall}
 use Rattle.room_types.specs.declared.tables.Call.{Call}
@@ -25,14 +25,14 @@ use Rattle.sqlite_value.specs.declared.keys.Collation.TheVariants.{Binary}
 use Rattle.std.proofs.Common.{List, [], filter, refl, sym, ℕ, ◌&&◌, ◌==◌, ◌∙◌, ◌∷◌, ◌≡◌}
 use Rattle.std.specs.Ordering.{is_eq, nat_cmp}
 
-abbrev all_of : House → Room → List Call
-all_of house room = room.calls
+abbrev all_of : Configuration → Room → List Call
+all_of config room = room.calls
 
 pub calls_alone : StandsAlone room_schema 5 calls_table
 calls_alone = record { is_there = refl; unreferenced = λ olds news. refl; uncounted = refl }
 
 abbrev pub calls_held : IsHeld pair_cmp call_key call_row calls_table all_of
-calls_held = record { faithful = call_faithful; others = (3 ∷ 4 ∷ 5 ∷ 6 ∷ 7 ∷ 8 ∷ 9 ∷ 10 ∷ 11 ∷ 12 ∷ 13 ∷ 14 ∷ []); places_are = refl; at = 5; alone = calls_alone; held = λ trees house room h. h.calls }
+calls_held = record { faithful = call_faithful; others = (3 ∷ 4 ∷ 5 ∷ 6 ∷ 7 ∷ 8 ∷ 9 ∷ 10 ∷ 11 ∷ 12 ∷ 13 ∷ 14 ∷ []); places_are = refl; at = 5; alone = calls_alone; held = λ trees config room h. h.calls }
 
 pub all_calls_means : Selects room_schema ALL_CALLS.now 7 (1 ∷ 2 ∷ 3 ∷ 4 ∷ 5 ∷ 6 ∷ 7 ∷ 8 ∷ 9 ∷ 10 ∷ 11 ∷ 12 ∷ 13 ∷ 14 ∷ []) (1 ∷ 2 ∷ []) ([])
 unfolding understood everything
@@ -52,8 +52,18 @@ calls_of_means = record { names = _; command = refl; plain = (refl, refl); unlis
 pub calls_of_chooses : (d n : ℕ) → SelectsChosen calls_table call_row CALLS_OF.now (number n ∷ number d ∷ []) (λ x. x.incident == n && x.division == d)
 calls_of_chooses d n = record { terms = equals 4 0 ∷ equals 3 1 ∷ []; selects = calls_of_means; chooses = record { test = λ r. equal Binary (column r 3) (number n) && equal Binary (column r 2) (number d); tells = λ r. and_then refl (and_last refl); same = λ x. and_then (equal-numbers x.incident n) (equal-numbers x.division d) } }
 
-pub calls_of_are : (d n : ℕ) → Shows call_row CALLS_OF.now (number n ∷ number d ∷ []) (λ found house room. found ≡ filter (λ x. x.incident == n && x.division == d) room.calls)
+pub calls_of_are : (d n : ℕ) → Shows call_row CALLS_OF.now (number n ∷ number d ∷ []) (λ found config room. found ≡ filter (λ x. x.incident == n && x.division == d) room.calls)
 calls_of_are d n = chosen_rows calls_held CALLS_OF.now (number n ∷ number d ∷ []) (λ x. x.incident == n && x.division == d) (calls_of_chooses d n)
+
+pub calls_by_means : Selects room_schema CALLS_BY.now 7 (1 ∷ 2 ∷ 3 ∷ 4 ∷ 5 ∷ 6 ∷ 7 ∷ 8 ∷ 9 ∷ 10 ∷ 11 ∷ 12 ∷ 13 ∷ 14 ∷ []) (1 ∷ 2 ∷ []) (equals 1 0 ∷ [])
+unfolding understood everything
+calls_by_means = record { names = _; command = refl; plain = (refl, refl); unlisted = refl }
+
+pub calls_by_chooses : (p : ℕ) → SelectsChosen calls_table call_row CALLS_BY.now (number p ∷ []) (λ x. x.position == p)
+calls_by_chooses p = record { terms = equals 1 0 ∷ []; selects = calls_by_means; chooses = record { test = λ r. equal Binary (column r 0) (number p); tells = λ r. and_last refl; same = λ x. equal-numbers x.position p } }
+
+pub calls_by_are : (p : ℕ) → Shows call_row CALLS_BY.now (number p ∷ []) (λ found config room. found ≡ filter (λ x. x.position == p) room.calls)
+calls_by_are p = chosen_rows calls_held CALLS_BY.now (number p ∷ []) (λ x. x.position == p) (calls_by_chooses p)
 
 pub put_call_means : Upserts room_schema PUT_CALL.now 5 calls_table (1 ∷ 2 ∷ []) 14 (row_values 14) (row_update 14)
 unfolding understood everything
@@ -73,7 +83,7 @@ calls_are = record {
   selects_all = all_calls_means;
   selects_at = λ k. call_at_chooses k.0 k.1;
   puts = call_puts;
-  leads = λ old new house room x h only is. with_calls old new house room h only _ is;
+  leads = λ old new config room x h only is. with_calls old new config room h only _ is;
 }
 
 pub insert_call_means : Inserts room_schema INSERT_CALL.now 5 14 (row_values 14)

@@ -1,18 +1,18 @@
 -- What the statements on the table divisions say, and what they make of a room. (Written by tools/tables.py.)
 use Rattle.room_model.specs.Room.{Room}
+use Rattle.room_tables_laws.proofs.ColumnValues.{cast-Int, cast-Null}
+use Rattle.room_tables_laws.proofs.Comparisons.{and_last, conflict_of_one, tie-numbers}
+use Rattle.room_tables_laws.proofs.StoredRows.{stores_rowid}
+use Rattle.room_tables_laws.specs.Statements.{Selects, StandsAlone, Stores, Upserts, equals, rowid_update, rowid_values}
+use Rattle.room_tables_laws.specs.TypedRows.{number}
 use Rattle.room_tables_rows.proofs.Kept.{with_divisions}
 use Rattle.room_tables_rows.proofs.RowLaws.{division_faithful}
-use Rattle.room_tables_rows.specs.Divisions.{division_row}
-use Rattle.room_tables_rows.specs.Keys.{number_cells}
-use Rattle.room_tables_rows.specs.Stands.{House}
+use Rattle.room_tables_rows.specs.DivisionColumns.{division_row}
+use Rattle.room_tables_rows.specs.KeyColumns.{number_cells}
+use Rattle.room_tables_rows.specs.Stands.{Configuration}
 use Rattle.room_tables_rows.specs.Tables.{IsHeld, IsTable, PutsRow, SelectsChosen}
-use Rattle.room_tables_rows.specs.declared.divisions.TheConstants.{ALL_DIVISIONS, DIVISION_AT, PUT_DIVISION}
+use Rattle.room_tables_rows.specs.declared.division_columns.TheConstants.{ALL_DIVISIONS, DIVISION_AT, PUT_DIVISION}
 use Rattle.room_tables_schema.specs.Schema.{divisions_table, room_schema}
-use Rattle.room_tables_sql.proofs.ColumnValues.{cast-Int, cast-Null}
-use Rattle.room_tables_sql.proofs.Comparisons.{and_last, conflict_of_one, tie-numbers}
-use Rattle.room_tables_sql.proofs.StoredRows.{stores_rowid}
-use Rattle.room_tables_sql.specs.Statements.{Selects, StandsAlone, Stores, Upserts, equals, rowid_update, rowid_values}
-use Rattle.room_tables_sql.specs.Typed.{number}
 use Rattle.room_types.specs.Keys.{division_key}
 use Rattle.room_types.specs.declared.changes.Change.TheVariants.{PutDivision}
 use Rattle.room_types.specs.declared.tables.Division.{Division}
@@ -24,14 +24,14 @@ use Rattle.sqlite_value.specs.declared.keys.Collation.TheVariants.{Binary}
 use Rattle.std.proofs.Common.{List, [], refl, ℕ, ◌∷◌}
 use Rattle.std.specs.Ordering.{is_eq, nat_cmp}
 
-abbrev all_of : House → Room → List Division
-all_of house room = room.divisions
+abbrev all_of : Configuration → Room → List Division
+all_of config room = room.divisions
 
 pub divisions_alone : StandsAlone room_schema 3 divisions_table
 divisions_alone = record { is_there = refl; unreferenced = λ olds news. refl; uncounted = refl }
 
 abbrev pub divisions_held : IsHeld nat_cmp division_key division_row divisions_table all_of
-divisions_held = record { faithful = division_faithful; others = (2 ∷ []); places_are = refl; at = 3; alone = divisions_alone; held = λ trees house room h. h.divisions }
+divisions_held = record { faithful = division_faithful; others = (2 ∷ []); places_are = refl; at = 3; alone = divisions_alone; held = λ trees config room h. h.divisions }
 
 pub all_divisions_means : Selects room_schema ALL_DIVISIONS.now 4 (0 ∷ 2 ∷ []) (0 ∷ []) ([])
 unfolding understood everything
@@ -62,5 +62,5 @@ divisions_are = record {
   selects_all = all_divisions_means;
   selects_at = λ k. division_at_chooses k;
   puts = division_puts;
-  leads = λ old new house room x h only is. with_divisions old new house room h only _ is;
+  leads = λ old new config room x h only is. with_divisions old new config room h only _ is;
 }

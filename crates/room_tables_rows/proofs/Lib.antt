@@ -1,7 +1,7 @@
 -- Rows are read back as they were written; what reads and writes make of the room.
 
 pub mod RowLaws
--- what a reader tells of codes and texts
+-- what a reader returns for codes and texts
 pub mod ReadLaws
 -- lists: the next row, the row of a key
 pub mod Found
@@ -31,9 +31,9 @@ pub mod TerminalsTable
 pub mod PlanLaws
 -- the puts that a room begins with
 pub mod Starts
--- the version that a file tells
+-- the version that a file gives
 pub mod Version
 -- a room of the first version that becomes one of this
 pub mod Moves
--- one room alone
+-- one room only
 pub mod OneRoom

@@ -6,43 +6,43 @@ use Rattle.sqlite_schema.specs.declared.schema.Table.{Table}
 use Rattle.sqlite_trees.specs.Tree.{Trees}
 use Rattle.sqlite.specs.State.{State, Shown}
 use Rattle.room_types_keyed.specs.Keyed.{IsKeyed, row_at}
-use Rattle.room_tables_sql.specs.Tables.{cells, AreNumbered, Holds}
-use Rattle.room_tables_sql.specs.Statements.{passes, Selects}
-use Rattle.room_tables_sql.proofs.TypedTables.{stands_for_one, selection_is_chosen}
-use Rattle.room_tables_sql.proofs.Selections.{shows_all}
-use Rattle.room_tables_sql.proofs.Openings.{stands_for_read}
+use Rattle.room_tables_laws.specs.TableTrees.{cells, AreNumbered, Holds}
+use Rattle.room_tables_laws.specs.Statements.{passes, Selects}
+use Rattle.room_tables_laws.proofs.TypedTables.{stands_for_one, selection_is_chosen}
+use Rattle.room_tables_laws.proofs.Selections.{shows_all}
+use Rattle.room_tables_laws.proofs.Openings.{stands_for_read}
 use Rattle.room_model.specs.Room.{Room}
 use Rattle.room_tables_schema.specs.Schema.{room_schema}
 use Rattle.room_tables_rows.specs.Finds.{listed}
-use Rattle.room_tables_rows.specs.Stands.{House, Stands, StandsFor, places}
+use Rattle.room_tables_rows.specs.Stands.{Configuration, Stands, StandsFor, places}
 use Rattle.room_tables_rows.specs.Tables.{IsHeld, SelectsChosen}
 use Rattle.room_tables_rows.proofs.Found.{found_at}
 
--- what a selection of rows shows is so for every house and room that the tables stand for
-abbrev pub Shows : {X : Type 0} → (X → Row) → List ℕ → Row → (List X → House → Room → Type 0)
+-- what a selection of rows shows is so for every configuration and room that the tables stand for
+abbrev pub Shows : {X : Type 0} → (X → Row) → List ℕ → Row → (List X → Configuration → Room → Type 0)
     → Type 1
 Shows {X} row text params IsSo =
     (old new : State) (found : List X) → old.now.schema ≡ room_schema → Shown text params old new (map row found)
-    → (house : House) (room : Room) → Stands old.now.trees house room → IsSo found house room
+    → (config : Configuration) (room : Room) → Stands old.now.trees config room → IsSo found config room
 
 -- the same of one row, which may be absent
-abbrev pub ShowsRow : {X : Type 0} → (X → Row) → List ℕ → Row → (Option X → House → Room → Type 0)
+abbrev pub ShowsRow : {X : Type 0} → (X → Row) → List ℕ → Row → (Option X → Configuration → Room → Type 0)
     → Type 1
 ShowsRow {X} row text params IsSo =
     (old new : State) (found : Option X) → old.now.schema ≡ room_schema → Shown text params old new (map row (listed found))
-    → (house : House) (room : Room) → Stands old.now.trees house room → IsSo found house room
+    → (config : Configuration) (room : Room) → Stands old.now.trees config room → IsSo found config room
 
 -- the same of a whole table, which holds what was read, if its rowids differ, whatever else is
 -- known of the tables
 abbrev pub ShowsAll : {X K : Type 0} → (K → K → Ordering) → (X → K) → (X → Row) → Table → List ℕ
-    → (House → Room → List X) → Type 1
+    → (Configuration → Room → List X) → Type 1
 ShowsAll {X} order key row table text rows =
     (old new : State) (found : List X) → old.now.schema ≡ room_schema → Shown text [] old new (map row found) → IsKeyed order key found
     → (AreNumbered (old.now.trees table.tree) → StandsFor old.now.trees table row found)
-    × ((house : House) (room : Room) → Stands old.now.trees house room → found ≡ rows house room)
+    × ((config : Configuration) (room : Room) → Stands old.now.trees config room → found ≡ rows config room)
 
 module _ {X K : Type 0} {order : K → K → Ordering} {key : X → K} {row : X → Row} {table : Table}
-    {rows : House → Room → List X} (is : IsHeld order key row table rows) (text : List ℕ) where
+    {rows : Configuration → Room → List X} (is : IsHeld order key row table rows) (text : List ℕ) where
   held_there : (trees : Trees) (xs : List X) → StandsFor trees table row xs
       → Holds (table.primary ++ is.others) table.primary (trees table.tree) (map row xs)
   held_there trees xs h = subst (λ p. Holds p table.primary (trees table.tree) (map row xs)) is.places_are h
@@ -54,17 +54,17 @@ module _ {X K : Type 0} {order : K → K → Ordering} {key : X → K} {row : X 
 
   -- the rows that are chosen
   pub chosen_rows : (params : Row) (chosen : X → Bool) → SelectsChosen table row text params chosen
-      → Shows row text params (λ found house room. found ≡ filter chosen (rows house room))
-  chosen_rows params chosen means old new found has shown house room h =
-      selection_is_chosen order key row room_schema text old new table.tree table.primary is.others means.terms params means.chooses.test chosen _ found (rows house room) (selects_there means.terms means.selects) is.faithful
-      (λ r. subst (λ p. passes means.terms params r ≡ means.chooses.test (cells p r)) is.places_are (means.chooses.tells r)) means.chooses.same has shown refl (held_there old.now.trees (rows house room) (is.held old.now.trees house room h))
+      → Shows row text params (λ found config room. found ≡ filter chosen (rows config room))
+  chosen_rows params chosen means old new found has shown config room h =
+      selection_is_chosen order key row room_schema text old new table.tree table.primary is.others means.terms params means.chooses.test chosen _ found (rows config room) (selects_there means.terms means.selects) is.faithful
+      (λ r. subst (λ p. passes means.terms params r ≡ means.chooses.test (cells p r)) is.places_are (means.chooses.tells r)) means.chooses.same has shown refl (held_there old.now.trees (rows config room) (is.held old.now.trees config room h))
 
   -- the row of a key
   pub row_of_key : (params : Row) (k : K)
       → SelectsChosen table row text params (λ x. is_eq (order k (key x)))
-      → ShowsRow row text params (λ found house room. found ≡ row_at order key (rows house room) k)
-  row_of_key params k means old new found has shown house room h =
-      found_at order key k (rows house room) found (chosen_rows params (λ x. is_eq (order k (key x))) means old new (listed found) has shown house room h)
+      → ShowsRow row text params (λ found config room. found ≡ row_at order key (rows config room) k)
+  row_of_key params k means old new found has shown config room h =
+      found_at order key k (rows config room) found (chosen_rows params (λ x. is_eq (order k (key x))) means old new (listed found) has shown config room h)
 
   -- the whole table
   pub all_rows : Selects room_schema text table.tree (places table) table.primary []
@@ -74,7 +74,7 @@ module _ {X K : Type 0} {order : K → K → Ordering} {key : X → K} {row : X 
       stands_for_read order key row (table.primary ++ is.others) table.primary (old.now.trees table.tree) found is.faithful numbered
       (shows_all room_schema text old new table.tree table.primary is.others [] (map row found) (selects_there [] means) has shown).0 keyed in (
         λ numbered. subst (λ p. Holds p table.primary (old.now.trees table.tree) (map row found)) (sym is.places_are) (holds numbered),
-        λ house room h.
-            let xs = held_there old.now.trees (rows house room) (is.held old.now.trees house room h) in
-            (stands_for_one order key row (table.primary ++ is.others) table.primary (old.now.trees table.tree) found (rows house room) is.faithful (holds xs.numbered) xs).0,
+        λ config room h.
+            let xs = held_there old.now.trees (rows config room) (is.held old.now.trees config room h) in
+            (stands_for_one order key row (table.primary ++ is.others) table.primary (old.now.trees table.tree) found (rows config room) is.faithful (holds xs.numbered) xs).0,
       )

@@ -1,17 +1,17 @@
 -- What the statements on the table loans say, and what they make of a room. (Written by tools/tables.py.)
 use Rattle.room_model.specs.Room.{Room}
+use Rattle.room_tables_laws.proofs.ColumnValues.{cast-Int}
+use Rattle.room_tables_laws.proofs.Comparisons.{and_last, conflict_of_one, tie-texts}
+use Rattle.room_tables_laws.proofs.StoredRows.{stores_row}
+use Rattle.room_tables_laws.specs.Statements.{Deletes, Selects, StandsAlone, Stores, Upserts, equals, row_update, row_values}
 use Rattle.room_tables_rows.proofs.Kept.{with_loans}
 use Rattle.room_tables_rows.proofs.RowLaws.{loan_faithful}
-use Rattle.room_tables_rows.specs.Keys.{text_cells}
-use Rattle.room_tables_rows.specs.Loans.{loan_row}
-use Rattle.room_tables_rows.specs.Stands.{House}
+use Rattle.room_tables_rows.specs.KeyColumns.{text_cells}
+use Rattle.room_tables_rows.specs.LoanColumns.{loan_row}
+use Rattle.room_tables_rows.specs.Stands.{Configuration}
 use Rattle.room_tables_rows.specs.Tables.{IsDropped, IsHeld, IsTable, PutsRow, SelectsChosen}
-use Rattle.room_tables_rows.specs.declared.loans.TheConstants.{ALL_LOANS, DROP_LOAN, LOAN_AT, PUT_LOAN}
+use Rattle.room_tables_rows.specs.declared.loan_columns.TheConstants.{ALL_LOANS, DROP_LOAN, LOAN_AT, PUT_LOAN}
 use Rattle.room_tables_schema.specs.Schema.{loans_table, room_schema}
-use Rattle.room_tables_sql.proofs.ColumnValues.{cast-Int}
-use Rattle.room_tables_sql.proofs.Comparisons.{and_last, conflict_of_one, tie-texts}
-use Rattle.room_tables_sql.proofs.StoredRows.{stores_row}
-use Rattle.room_tables_sql.specs.Statements.{Deletes, Selects, StandsAlone, Stores, Upserts, equals, row_update, row_values}
 use Rattle.room_types.specs.Keys.{callsign_cmp, loan_key}
 use Rattle.room_types.specs.Texts.{Callsign}
 use Rattle.room_types.specs.declared.changes.Change.TheVariants.{DropLoan, PutLoan}
@@ -25,14 +25,14 @@ use Rattle.sqlite_value.specs.declared.value.Value.TheVariants.{Text}
 use Rattle.std.proofs.Common.{List, [], refl, ◌∷◌}
 use Rattle.std.specs.Ordering.{is_eq}
 
-abbrev all_of : House → Room → List Loan
-all_of house room = room.loans
+abbrev all_of : Configuration → Room → List Loan
+all_of config room = room.loans
 
 pub loans_alone : StandsAlone room_schema 10 loans_table
 loans_alone = record { is_there = refl; unreferenced = λ olds news. refl; uncounted = refl }
 
 abbrev pub loans_held : IsHeld callsign_cmp loan_key loan_row loans_table all_of
-loans_held = record { faithful = loan_faithful; others = (2 ∷ 3 ∷ 4 ∷ 5 ∷ 6 ∷ []); places_are = refl; at = 10; alone = loans_alone; held = λ trees house room h. h.loans }
+loans_held = record { faithful = loan_faithful; others = (2 ∷ 3 ∷ 4 ∷ 5 ∷ 6 ∷ []); places_are = refl; at = 10; alone = loans_alone; held = λ trees config room h. h.loans }
 
 pub all_loans_means : Selects room_schema ALL_LOANS.now 17 (1 ∷ 2 ∷ 3 ∷ 4 ∷ 5 ∷ 6 ∷ []) (1 ∷ []) ([])
 unfolding understood everything
@@ -63,7 +63,7 @@ loans_are = record {
   selects_all = all_loans_means;
   selects_at = λ k. loan_at_chooses k;
   puts = loan_puts;
-  leads = λ old new house room x h only is. with_loans old new house room h only _ is;
+  leads = λ old new config room x h only is. with_loans old new config room h only _ is;
 }
 
 pub drop_loan_means : Deletes room_schema DROP_LOAN.now 10 loans_table (equals 1 0 ∷ [])
@@ -75,5 +75,5 @@ loans_dropped = record {
   at = 10;
   alone = loans_alone;
   deletes = λ k. record { terms = equals 1 0 ∷ []; deletes = drop_loan_means; chooses = record { test = λ r. equal Binary (column r 0) (Text k); tells = λ r. and_last refl; same = λ x. tie-texts x.callsign k } };
-  leads = λ old new house room k h only is. with_loans old new house room h only _ is;
+  leads = λ old new config room k h only is. with_loans old new config room h only _ is;
 }

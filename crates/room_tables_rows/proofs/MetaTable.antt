@@ -1,31 +1,31 @@
 -- What the statements on the table meta say, and what they make of a room. (Written by tools/tables.py.)
 use Rattle.room_model.specs.Room.{Room}
+use Rattle.room_tables_laws.proofs.ColumnValues.{cast-Int, cast-Null}
+use Rattle.room_tables_laws.proofs.Comparisons.{conflict_of_one}
+use Rattle.room_tables_laws.proofs.StoredRows.{stores_rowid}
+use Rattle.room_tables_laws.specs.Statements.{Selects, StandsAlone, Stores, Upserts, rowid_update, rowid_values}
+use Rattle.room_tables_laws.specs.TypedRows.{number}
 use Rattle.room_tables_rows.proofs.Loads.{ShowsAll, all_rows}
 use Rattle.room_tables_rows.proofs.RowLaws.{meta_faithful}
-use Rattle.room_tables_rows.specs.Meta.{meta_key, meta_row}
-use Rattle.room_tables_rows.specs.Stands.{House}
+use Rattle.room_tables_rows.specs.MetaColumns.{meta_key, meta_row}
+use Rattle.room_tables_rows.specs.Stands.{Configuration}
 use Rattle.room_tables_rows.specs.Tables.{IsHeld, PutsRow}
-use Rattle.room_tables_rows.specs.declared.meta.TheConstants.{ALL_META, PUT_META}
+use Rattle.room_tables_rows.specs.declared.meta_columns.TheConstants.{ALL_META, PUT_META}
 use Rattle.room_tables_schema.specs.Schema.{meta_table, room_schema}
-use Rattle.room_tables_sql.proofs.ColumnValues.{cast-Int, cast-Null}
-use Rattle.room_tables_sql.proofs.Comparisons.{conflict_of_one}
-use Rattle.room_tables_sql.proofs.StoredRows.{stores_rowid}
-use Rattle.room_tables_sql.specs.Statements.{Selects, StandsAlone, Stores, Upserts, rowid_update, rowid_values}
-use Rattle.room_tables_sql.specs.Typed.{number}
 use Rattle.sqlite.specs.Listing.{understood}
 use Rattle.sqlite_tied.specs.Compute.{everything}
 use Rattle.sqlite_value.specs.Order.{column}
 use Rattle.std.proofs.Common.{List, [], refl, ℕ, ◌∷◌}
 use Rattle.std.specs.Ordering.{nat_cmp}
 
-abbrev all_of : House → Room → List (List ℕ)
-all_of house room = (house.zone ∷ [])
+abbrev all_of : Configuration → Room → List (List ℕ)
+all_of config room = (config.zone ∷ [])
 
 pub meta_alone : StandsAlone room_schema 0 meta_table
 meta_alone = record { is_there = refl; unreferenced = λ olds news. refl; uncounted = refl }
 
 abbrev pub meta_held : IsHeld nat_cmp meta_key meta_row meta_table all_of
-meta_held = record { faithful = meta_faithful; others = (2 ∷ 3 ∷ []); places_are = refl; at = 0; alone = meta_alone; held = λ trees house room h. h.meta }
+meta_held = record { faithful = meta_faithful; others = (2 ∷ 3 ∷ []); places_are = refl; at = 0; alone = meta_alone; held = λ trees config room h. h.meta }
 
 pub all_meta_means : Selects room_schema ALL_META.now 0 (0 ∷ 2 ∷ 3 ∷ []) (0 ∷ []) ([])
 unfolding understood everything

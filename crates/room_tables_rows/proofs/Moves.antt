@@ -5,35 +5,35 @@ use Rattle.sqlite.specs.Effect.{Database}
 use Rattle.sqlite.specs.State.{State}
 use Rattle.sqlite_trees.specs.Tree.{Trees}
 use Rattle.room_model.specs.Room.{Room}
-use Rattle.room_tables_sql.proofs.Standing.{holds_none, holds_still}
-use Rattle.room_tables_sql.proofs.TypedTables.{stands_for_one}
-use Rattle.room_tables_sql.specs.Outcomes.{Only}
+use Rattle.room_tables_laws.proofs.Standing.{holds_none, holds_still}
+use Rattle.room_tables_laws.proofs.TypedTables.{stands_for_one}
+use Rattle.room_tables_laws.specs.Outcomes.{Only}
 use Rattle.room_tables_schema.specs.Definitions.{AddsLast}
 use Rattle.room_tables_schema.specs.Schema.{meta_table, room_schema}
 use Rattle.room_tables_rows.proofs.RowLaws.{offer_faithful, version_faithful}
-use Rattle.room_tables_rows.specs.Meta.{meta_row, version_row}
-use Rattle.room_tables_rows.specs.Stands.{House, Stands, StandsFor, StandsInFirst}
+use Rattle.room_tables_rows.specs.MetaColumns.{meta_row, version_row}
+use Rattle.room_tables_rows.specs.Stands.{Configuration, Stands, StandsFor, StandsInFirst}
 use Rattle.room_tables_rows.specs.Writes.{Renews}
 
--- a version's row tells one zone
+-- a version's row gives one zone
 pub one_zone : (version : ℕ) (trees : Trees) (zone other : List ℕ)
     → StandsFor trees meta_table (version_row version) (zone ∷ [])
     → StandsFor trees meta_table (version_row version) (other ∷ []) → zone ≡ other
 one_zone version trees zone other h k = let listed : zone ∷ [] ≡ other ∷ [] = (stands_for_one _ _ _ _ _ _ _ _ (version_faithful version) h k).0 in cc
 
 -- tables of the first version stand for a room without offers
-pub no_offers : (trees : Trees) (house : House) (room : Room) → StandsInFirst trees house room
+pub no_offers : (trees : Trees) (config : Configuration) (room : Room) → StandsInFirst trees config room
     → room.offers ≡ []
-no_offers trees house room h = (stands_for_one _ _ _ _ _ _ _ [] offer_faithful h.offers (holds_none _ _ [] refl)).0
+no_offers trees config room h = (stands_for_one _ _ _ _ _ _ _ [] offer_faithful h.offers (holds_none _ _ [] refl)).0
 
 module _ (old : Trees) (mid new : State) (adds : AddsLast old mid.now.trees)
-    (renews : Renews mid new) (house : House) (room : Room) where
-  pub moves : StandsInFirst old house room → Stands new.now.trees house room
+    (renews : Renews mid new) (config : Configuration) (room : Room) where
+  pub moves : StandsInFirst old config room → Stands new.now.trees config room
   moves h =
       let only = renews.only.tables in
       let rows = adds.rows in
       let was = holds_still _ _ _ _ _ rows.0 h.meta in
-      let told = subst (λ zone. StandsFor new.now.trees meta_table meta_row (zone ∷ [])) (one_zone 1 mid.now.trees renews.zone house.zone renews.was was) renews.is in
+      let told = subst (λ zone. StandsFor new.now.trees meta_table meta_row (zone ∷ [])) (one_zone 1 mid.now.trees renews.zone config.zone renews.was was) renews.is in
       record {
         meta = told;
         areas = holds_still _ _ _ _ _ (only.1.0 (eqb-false _ _ refl) ∙ rows.1.0) h.areas;
@@ -50,12 +50,12 @@ module _ (old : Trees) (mid new : State) (adds : AddsLast old mid.now.trees)
         offers = holds_still _ _ [] _ _ (only.1.1.1.1.1.1.1.1.1.1.1.1.0 (eqb-false _ _ refl) ∙ adds.blank) h.offers;
       }
 
-  pub moved_from : Stands new.now.trees house room → StandsInFirst old house room
+  pub moved_from : Stands new.now.trees config room → StandsInFirst old config room
   moved_from h =
       let only = renews.only.tables in
       let rows = adds.rows in
       let was = holds_still _ _ _ _ _ (sym rows.0) renews.was in
-      let told = subst (λ zone. StandsFor old meta_table (version_row 1) (zone ∷ [])) (one_zone 2 new.now.trees renews.zone house.zone renews.is h.meta) was in
+      let told = subst (λ zone. StandsFor old meta_table (version_row 1) (zone ∷ [])) (one_zone 2 new.now.trees renews.zone config.zone renews.is h.meta) was in
       record {
         meta = told;
         areas = holds_still _ _ _ _ _ (sym (only.1.0 (eqb-false _ _ refl) ∙ rows.1.0)) h.areas;

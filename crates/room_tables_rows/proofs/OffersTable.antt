@@ -1,17 +1,17 @@
 -- What the statements on the table offers say, and what they make of a room. (Written by tools/tables.py.)
 use Rattle.room_model.specs.Room.{Room}
+use Rattle.room_tables_laws.proofs.ColumnValues.{cast-Int}
+use Rattle.room_tables_laws.proofs.Comparisons.{and_last, conflict_of_one, tie-texts}
+use Rattle.room_tables_laws.proofs.StoredRows.{stores_row}
+use Rattle.room_tables_laws.specs.Statements.{Deletes, Selects, StandsAlone, Stores, Upserts, equals, row_update, row_values}
 use Rattle.room_tables_rows.proofs.Kept.{with_offers}
 use Rattle.room_tables_rows.proofs.RowLaws.{offer_faithful}
-use Rattle.room_tables_rows.specs.Keys.{text_cells}
-use Rattle.room_tables_rows.specs.Offers.{offer_row}
-use Rattle.room_tables_rows.specs.Stands.{House}
+use Rattle.room_tables_rows.specs.KeyColumns.{text_cells}
+use Rattle.room_tables_rows.specs.OfferColumns.{offer_row}
+use Rattle.room_tables_rows.specs.Stands.{Configuration}
 use Rattle.room_tables_rows.specs.Tables.{IsDropped, IsHeld, IsTable, PutsRow, SelectsChosen}
-use Rattle.room_tables_rows.specs.declared.offers.TheConstants.{ALL_OFFERS, DROP_OFFER, OFFER_AT, PUT_OFFER}
+use Rattle.room_tables_rows.specs.declared.offer_columns.TheConstants.{ALL_OFFERS, DROP_OFFER, OFFER_AT, PUT_OFFER}
 use Rattle.room_tables_schema.specs.Schema.{offers_table, room_schema}
-use Rattle.room_tables_sql.proofs.ColumnValues.{cast-Int}
-use Rattle.room_tables_sql.proofs.Comparisons.{and_last, conflict_of_one, tie-texts}
-use Rattle.room_tables_sql.proofs.StoredRows.{stores_row}
-use Rattle.room_tables_sql.specs.Statements.{Deletes, Selects, StandsAlone, Stores, Upserts, equals, row_update, row_values}
 use Rattle.room_types.specs.Keys.{callsign_cmp, offer_key}
 use Rattle.room_types.specs.Texts.{Callsign}
 use Rattle.room_types.specs.declared.changes.Change.TheVariants.{DropOffer, PutOffer}
@@ -25,14 +25,14 @@ use Rattle.sqlite_value.specs.declared.value.Value.TheVariants.{Text}
 use Rattle.std.proofs.Common.{List, [], refl, ◌∷◌}
 use Rattle.std.specs.Ordering.{is_eq}
 
-abbrev all_of : House → Room → List Offer
-all_of house room = room.offers
+abbrev all_of : Configuration → Room → List Offer
+all_of config room = room.offers
 
 pub offers_alone : StandsAlone room_schema 12 offers_table
 offers_alone = record { is_there = refl; unreferenced = λ olds news. refl; uncounted = refl }
 
 abbrev pub offers_held : IsHeld callsign_cmp offer_key offer_row offers_table all_of
-offers_held = record { faithful = offer_faithful; others = (2 ∷ 3 ∷ 4 ∷ 5 ∷ []); places_are = refl; at = 12; alone = offers_alone; held = λ trees house room h. h.offers }
+offers_held = record { faithful = offer_faithful; others = (2 ∷ 3 ∷ 4 ∷ 5 ∷ []); places_are = refl; at = 12; alone = offers_alone; held = λ trees config room h. h.offers }
 
 pub all_offers_means : Selects room_schema ALL_OFFERS.now 21 (1 ∷ 2 ∷ 3 ∷ 4 ∷ 5 ∷ []) (1 ∷ []) ([])
 unfolding understood everything
@@ -63,7 +63,7 @@ offers_are = record {
   selects_all = all_offers_means;
   selects_at = λ k. offer_at_chooses k;
   puts = offer_puts;
-  leads = λ old new house room x h only is. with_offers old new house room h only _ is;
+  leads = λ old new config room x h only is. with_offers old new config room h only _ is;
 }
 
 pub drop_offer_means : Deletes room_schema DROP_OFFER.now 12 offers_table (equals 1 0 ∷ [])
@@ -75,5 +75,5 @@ offers_dropped = record {
   at = 12;
   alone = offers_alone;
   deletes = λ k. record { terms = equals 1 0 ∷ []; deletes = drop_offer_means; chooses = record { test = λ r. equal Binary (column r 0) (Text k); tells = λ r. and_last refl; same = λ x. tie-texts x.callsign k } };
-  leads = λ old new house room k h only is. with_offers old new house room h only _ is;
+  leads = λ old new config room k h only is. with_offers old new config room h only _ is;
 }

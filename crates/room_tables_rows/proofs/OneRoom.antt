@@ -1,19 +1,19 @@
--- The tables stand for one house and room alone.
+-- The tables stand for only one house and room.
 use Rattle.std.proofs.Common.{◌≡◌, [], ◌∷◌}
 use Rattle.sqlite_trees.specs.Tree.{Trees}
-use Rattle.room_tables_sql.proofs.TypedTables.{stands_for_one}
+use Rattle.room_tables_laws.proofs.TypedTables.{stands_for_one}
 use Rattle.room_model.specs.Room.{Room}
 use Rattle.room_tables_rows.proofs.RowLaws.{meta_faithful, area_faithful, terminal_faithful, division_faithful, incident_faithful, call_faithful, vehicle_faithful, turn_faithful, assignment_faithful, point_faithful, loan_faithful, report_faithful, offer_faithful}
-use Rattle.room_tables_rows.specs.Stands.{House, Stands}
+use Rattle.room_tables_rows.specs.Stands.{Configuration, Stands}
 use Rattle.room_tables_rows.proofs.PlanLaws.{numbered-injective}
 
-module _ (trees : Trees) (house other : House) (room another : Room) (h : Stands trees house room)
+module _ (trees : Trees) (config other : Configuration) (room another : Room) (h : Stands trees config room)
     (k : Stands trees other another) where
-  same_zone : house.zone ≡ other.zone
-  same_zone = let listed : house.zone ∷ [] ≡ other.zone ∷ [] = (stands_for_one _ _ _ _ _ _ _ _ meta_faithful h.meta k.meta).0 in cc
+  same_zone : config.zone ≡ other.zone
+  same_zone = let listed : config.zone ∷ [] ≡ other.zone ∷ [] = (stands_for_one _ _ _ _ _ _ _ _ meta_faithful h.meta k.meta).0 in cc
 
-  pub one_house : house ≡ other
-  one_house i = record {
+  pub one_config : config ≡ other
+  one_config i = record {
     zone = same_zone i;
     terminals = (stands_for_one _ _ _ _ _ _ _ _ terminal_faithful h.terminals k.terminals).0 i;
   }

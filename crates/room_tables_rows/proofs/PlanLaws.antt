@@ -6,7 +6,7 @@ use Rattle.std.proofs.lemmas.List.{take_more, map-append}
 use Rattle.sqlite_value.specs.Order.{Row}
 use Rattle.room_place.specs.declared.plans.Area.{Area}
 use Rattle.room_types_keyed.specs.Keyed.{IsBelowAll, IsKeyed, put_row}
-use Rattle.room_tables_rows.specs.Areas.{area_key, area_row}
+use Rattle.room_tables_rows.specs.AreaColumns.{area_key, area_row}
 use Rattle.room_tables_rows.specs.Stands.{numbered}
 
 less : (m n : ℕ) → m < n → nat_cmp m n ≡ Less
@@ -35,7 +35,7 @@ numbered-areas : (n : ℕ) (plan : List Area) → map (λ (p : ℕ × Area). p.1
 numbered-areas n [] = refl
 numbered-areas n (a ∷ plan) = ap (λ l. a ∷ l) (numbered-areas (suc n) plan)
 
--- the areas are told by their numbered list
+-- the areas are known from their numbered list
 pub numbered-injective : (n : ℕ) (plan other : List Area) → numbered n plan ≡ numbered n other
     → plan ≡ other
 numbered-injective n plan other e = sym (numbered-areas n plan) ∙ ap (map (λ (p : ℕ × Area). p.1)) e ∙ numbered-areas n other

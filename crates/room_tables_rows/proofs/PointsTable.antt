@@ -1,18 +1,18 @@
 -- What the statements on the table points say, and what they make of a room. (Written by tools/tables.py.)
 use Rattle.room_model.specs.Room.{Room}
+use Rattle.room_tables_laws.proofs.ColumnValues.{cast-Int}
+use Rattle.room_tables_laws.proofs.Comparisons.{and_last, and_then, conflict_of_two, is_eq-then, tie-numbers}
+use Rattle.room_tables_laws.proofs.StoredRows.{stores_row}
+use Rattle.room_tables_laws.specs.Statements.{Selects, StandsAlone, Stores, Upserts, equals, row_update, row_values}
+use Rattle.room_tables_laws.specs.TypedRows.{number}
 use Rattle.room_tables_rows.proofs.Kept.{with_points}
 use Rattle.room_tables_rows.proofs.RowLaws.{point_faithful}
-use Rattle.room_tables_rows.specs.Keys.{pair_cells}
-use Rattle.room_tables_rows.specs.Points.{point_row}
-use Rattle.room_tables_rows.specs.Stands.{House}
+use Rattle.room_tables_rows.specs.KeyColumns.{pair_cells}
+use Rattle.room_tables_rows.specs.PointColumns.{point_row}
+use Rattle.room_tables_rows.specs.Stands.{Configuration}
 use Rattle.room_tables_rows.specs.Tables.{IsHeld, IsTable, PutsRow, SelectsChosen}
-use Rattle.room_tables_rows.specs.declared.points.TheConstants.{ALL_POINTS, POINT_AT, PUT_POINT}
+use Rattle.room_tables_rows.specs.declared.point_columns.TheConstants.{ALL_POINTS, POINT_AT, PUT_POINT}
 use Rattle.room_tables_schema.specs.Schema.{points_table, room_schema}
-use Rattle.room_tables_sql.proofs.ColumnValues.{cast-Int}
-use Rattle.room_tables_sql.proofs.Comparisons.{and_last, and_then, conflict_of_two, is_eq-then, tie-numbers}
-use Rattle.room_tables_sql.proofs.StoredRows.{stores_row}
-use Rattle.room_tables_sql.specs.Statements.{Selects, StandsAlone, Stores, Upserts, equals, row_update, row_values}
-use Rattle.room_tables_sql.specs.Typed.{number}
 use Rattle.room_types.specs.Keys.{pair_cmp, point_key}
 use Rattle.room_types.specs.declared.changes.Change.TheVariants.{PutPoint}
 use Rattle.room_types.specs.declared.tables.Point.{Point}
@@ -24,14 +24,14 @@ use Rattle.sqlite_value.specs.declared.keys.Collation.TheVariants.{Binary}
 use Rattle.std.proofs.Common.{List, [], refl, sym, ℕ, ◌&&◌, ◌∙◌, ◌∷◌}
 use Rattle.std.specs.Ordering.{is_eq, nat_cmp}
 
-abbrev all_of : House → Room → List Point
-all_of house room = room.points
+abbrev all_of : Configuration → Room → List Point
+all_of config room = room.points
 
 pub points_alone : StandsAlone room_schema 9 points_table
 points_alone = record { is_there = refl; unreferenced = λ olds news. refl; uncounted = refl }
 
 abbrev pub points_held : IsHeld pair_cmp point_key point_row points_table all_of
-points_held = record { faithful = point_faithful; others = (3 ∷ 4 ∷ 5 ∷ []); places_are = refl; at = 9; alone = points_alone; held = λ trees house room h. h.points }
+points_held = record { faithful = point_faithful; others = (3 ∷ 4 ∷ 5 ∷ []); places_are = refl; at = 9; alone = points_alone; held = λ trees config room h. h.points }
 
 pub all_points_means : Selects room_schema ALL_POINTS.now 15 (1 ∷ 2 ∷ 3 ∷ 4 ∷ 5 ∷ []) (1 ∷ 2 ∷ []) ([])
 unfolding understood everything
@@ -62,5 +62,5 @@ points_are = record {
   selects_all = all_points_means;
   selects_at = λ k. point_at_chooses k.0 k.1;
   puts = point_puts;
-  leads = λ old new house room x h only is. with_points old new house room h only _ is;
+  leads = λ old new config room x h only is. with_points old new config room h only _ is;
 }

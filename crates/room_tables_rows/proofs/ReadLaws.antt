@@ -1,4 +1,4 @@
--- What a reader tells of numbers, of the numbers of codes, and of texts.
+-- What a reader returns for numbers, for the numbers of codes, and for texts.
 use Rattle.std.proofs.Common.{◌≡◌, ◌+◌, ◌<◌, ◌&&◌, ◌||◌, ◌∙◌, not, nat_eq, ℕ, zero, suc, List, [], ◌∷◌, length, Bool, true, false, Option, Some, None, Result, Ok, Err, MatchResult, is_some, is_ok, IfSome, refl, sym, ap, arith}
 use Rattle.std.specs.Str.{IsUtf8, is_utf8}
 use Rattle.std.proofs.lemmas.Bool.{and_parts}
@@ -7,8 +7,8 @@ use Rattle.std.proofs.lemmas.Str.{is_utf8-from_IsUtf8, IsUtf8-from_is_utf8}
 use Rattle.sqlite_value.specs.declared.value.Value.{Value}
 use Rattle.sqlite_value.specs.declared.value.Value.TheVariants.{Null, Int, Real, Text, Blob}
 use Rattle.sqlite_value.specs.Order.{Row}
-use Rattle.room_tables_sql.proofs.ColumnValues.{columns_are, columns_from}
-use Rattle.room_tables_sql.specs.Typed.{number, number_or_null}
+use Rattle.room_tables_laws.proofs.ColumnValues.{columns_are, columns_from}
+use Rattle.room_tables_laws.specs.TypedRows.{number, number_or_null}
 use Rattle.room_types.specs.Codes.{Decodes, kind_number, status_number, button_number, outcome_number, state_columns, state_number, merged_into}
 use Rattle.room_types.specs.declared.codes.Kind.{Kind}
 use Rattle.room_types.specs.declared.codes.Kind.TheVariants.{Ambulance, Car, Support}
@@ -20,7 +20,7 @@ use Rattle.room_types.specs.declared.codes.Outcome.{Outcome}
 use Rattle.room_types.specs.declared.codes.Outcome.TheVariants.{Normal, Skipped, Wrong, Late, Stale}
 use Rattle.room_types.specs.declared.codes.State.{State}
 use Rattle.room_types.specs.declared.codes.State.TheVariants.{Active, Closed, Merged}
-use Rattle.room_tables_rows.specs.Columns.{kind_in, status_in, button_in, outcome_in}
+use Rattle.room_tables_rows.specs.ColumnValues.{kind_in, status_in, button_in, outcome_in}
 use Rattle.room_tables_rows.specs.Readable.{all_stand, is_number, is_kind, is_status, is_button, is_outcome, is_or_null, is_serial, is_state, is_text}
 
 taken : {C : Type 0} {c : C} → None ≡ Some c → ⊥

@@ -1,21 +1,21 @@
 -- What the statements on the table reports say, and what they make of a room. (Written by tools/tables.py.)
 use Rattle.room_model.specs.Room.{Room}
+use Rattle.room_tables_laws.proofs.ColumnValues.{cast-Int}
+use Rattle.room_tables_laws.proofs.Comparisons.{and_last, and_then, conflict_of_two, equal-numbers, is_eq-then, tie-numbers, tie-texts}
+use Rattle.room_tables_laws.proofs.StoredRows.{stores_row}
+use Rattle.room_tables_laws.specs.Statements.{Inserts, Selects, StandsAlone, Stores, Upserts, equals, row_update, row_values}
+use Rattle.room_tables_laws.specs.TypedRows.{number}
 use Rattle.room_tables_rows.proofs.Kept.{with_reports}
 use Rattle.room_tables_rows.proofs.Loads.{Shows, chosen_rows}
 use Rattle.room_tables_rows.proofs.RowLaws.{report_faithful}
 use Rattle.room_tables_rows.proofs.Tests.{and_three, equal-false}
-use Rattle.room_tables_rows.specs.Columns.{outcome_code, truth}
-use Rattle.room_tables_rows.specs.Keys.{numbered_cells}
-use Rattle.room_tables_rows.specs.Reports.{report_row}
-use Rattle.room_tables_rows.specs.Stands.{House}
+use Rattle.room_tables_rows.specs.ColumnValues.{outcome_code, truth}
+use Rattle.room_tables_rows.specs.KeyColumns.{numbered_cells}
+use Rattle.room_tables_rows.specs.ReportColumns.{report_row}
+use Rattle.room_tables_rows.specs.Stands.{Configuration}
 use Rattle.room_tables_rows.specs.Tables.{InsertsRow, IsHeld, IsTable, PutsRow, SelectsChosen}
-use Rattle.room_tables_rows.specs.declared.reports.TheConstants.{ALL_REPORTS, INSERT_REPORT, PUT_REPORT, REPORT_AT, UNCLEARED_REPORTS}
+use Rattle.room_tables_rows.specs.declared.report_columns.TheConstants.{ALL_REPORTS, INSERT_REPORT, PUT_REPORT, REPORT_AT, UNCLEARED_REPORTS}
 use Rattle.room_tables_schema.specs.Schema.{reports_table, room_schema}
-use Rattle.room_tables_sql.proofs.ColumnValues.{cast-Int}
-use Rattle.room_tables_sql.proofs.Comparisons.{and_last, and_then, conflict_of_two, equal-numbers, is_eq-then, tie-numbers, tie-texts}
-use Rattle.room_tables_sql.proofs.StoredRows.{stores_row}
-use Rattle.room_tables_sql.specs.Statements.{Inserts, Selects, StandsAlone, Stores, Upserts, equals, row_update, row_values}
-use Rattle.room_tables_sql.specs.Typed.{number}
 use Rattle.room_types.specs.Codes.{outcome_number}
 use Rattle.room_types.specs.Keys.{callsign_cmp, numbered_cmp, report_key}
 use Rattle.room_types.specs.Texts.{Callsign}
@@ -31,14 +31,14 @@ use Rattle.sqlite_value.specs.declared.value.Value.TheVariants.{Text}
 use Rattle.std.proofs.Common.{List, [], false, filter, not, refl, sym, ℕ, ◌&&◌, ◌==◌, ◌∙◌, ◌∷◌, ◌≡◌}
 use Rattle.std.specs.Ordering.{is_eq, nat_cmp}
 
-abbrev all_of : House → Room → List Report
-all_of house room = room.reports
+abbrev all_of : Configuration → Room → List Report
+all_of config room = room.reports
 
 pub reports_alone : StandsAlone room_schema 11 reports_table
 reports_alone = record { is_there = refl; unreferenced = λ olds news. refl; uncounted = refl }
 
 abbrev pub reports_held : IsHeld numbered_cmp report_key report_row reports_table all_of
-reports_held = record { faithful = report_faithful; others = (3 ∷ 4 ∷ 5 ∷ 6 ∷ 7 ∷ 8 ∷ 9 ∷ 10 ∷ 11 ∷ []); places_are = refl; at = 11; alone = reports_alone; held = λ trees house room h. h.reports }
+reports_held = record { faithful = report_faithful; others = (3 ∷ 4 ∷ 5 ∷ 6 ∷ 7 ∷ 8 ∷ 9 ∷ 10 ∷ 11 ∷ []); places_are = refl; at = 11; alone = reports_alone; held = λ trees config room h. h.reports }
 
 pub all_reports_means : Selects room_schema ALL_REPORTS.now 19 (1 ∷ 2 ∷ 3 ∷ 4 ∷ 5 ∷ 6 ∷ 7 ∷ 8 ∷ 9 ∷ 10 ∷ 11 ∷ []) (1 ∷ 2 ∷ []) ([])
 unfolding understood everything
@@ -58,7 +58,7 @@ uncleared_reports_means = record { names = _; command = refl; plain = (refl, ref
 pub uncleared_reports_chooses : (o : Outcome) (d : ℕ) → SelectsChosen reports_table report_row UNCLEARED_REPORTS.now (outcome_code o ∷ truth false ∷ number d ∷ []) (λ x. outcome_number x.outcome == outcome_number o && (not x.cleared && x.division == d))
 uncleared_reports_chooses o d = record { terms = equals 9 0 ∷ equals 11 1 ∷ equals 8 2 ∷ []; selects = uncleared_reports_means; chooses = record { test = λ r. equal Binary (column r 8) (outcome_code o) && (equal Binary (column r 10) (truth false) && equal Binary (column r 7) (number d)); tells = λ r. and_three (equal Binary (column r 9) (outcome_code o)) (equal Binary (column r 11) (truth false)) (equal Binary (column r 8) (number d)); same = λ x. and_then (equal-numbers (outcome_number x.outcome) (outcome_number o)) (and_then (equal-false x.cleared) (equal-numbers x.division d)) } }
 
-pub uncleared_reports_are : (o : Outcome) (d : ℕ) → Shows report_row UNCLEARED_REPORTS.now (outcome_code o ∷ truth false ∷ number d ∷ []) (λ found house room. found ≡ filter (λ x. outcome_number x.outcome == outcome_number o && (not x.cleared && x.division == d)) room.reports)
+pub uncleared_reports_are : (o : Outcome) (d : ℕ) → Shows report_row UNCLEARED_REPORTS.now (outcome_code o ∷ truth false ∷ number d ∷ []) (λ found config room. found ≡ filter (λ x. outcome_number x.outcome == outcome_number o && (not x.cleared && x.division == d)) room.reports)
 uncleared_reports_are o d = chosen_rows reports_held UNCLEARED_REPORTS.now (outcome_code o ∷ truth false ∷ number d ∷ []) (λ x. outcome_number x.outcome == outcome_number o && (not x.cleared && x.division == d)) (uncleared_reports_chooses o d)
 
 pub put_report_means : Upserts room_schema PUT_REPORT.now 11 reports_table (1 ∷ 2 ∷ []) 11 (row_values 11) (row_update 11)
@@ -79,7 +79,7 @@ reports_are = record {
   selects_all = all_reports_means;
   selects_at = λ k. report_at_chooses k.0 k.1;
   puts = report_puts;
-  leads = λ old new house room x h only is. with_reports old new house room h only _ is;
+  leads = λ old new config room x h only is. with_reports old new config room h only _ is;
 }
 
 pub insert_report_means : Inserts room_schema INSERT_REPORT.now 11 11 (row_values 11)

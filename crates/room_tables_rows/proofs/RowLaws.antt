@@ -5,8 +5,8 @@ use Rattle.std.specs.Ordering.{nat_cmp}
 use Rattle.std.proofs.lemmas.Cmp.{nat_cmp_total, nat_list_cmp_total}
 use Rattle.sqlite_value.specs.Order.{Row, column}
 use Rattle.sqlite_value.proofs.OrderLemmas.{value_cmp-Text}
-use Rattle.room_tables_sql.specs.Typed.{IsFaithful, number, number_or_null}
-use Rattle.room_tables_sql.proofs.Comparisons.{value_cmp-numbers, key_of_one, key_of_two}
+use Rattle.room_tables_laws.specs.TypedRows.{IsFaithful, number, number_or_null}
+use Rattle.room_tables_laws.proofs.Comparisons.{value_cmp-numbers, key_of_one, key_of_two}
 use Rattle.room_types.specs.Codes.{state_number, merged_into}
 use Rattle.room_types.specs.Keys.{callsign_cmp, pair_cmp, numbered_cmp, division_key, incident_key, call_key, vehicle_key, turn_key, assignment_key, point_key, loan_key, offer_key, report_key}
 use Rattle.room_types.specs.Orders.{pairs_total, numbered_total}
@@ -24,20 +24,20 @@ use Rattle.room_types.specs.declared.codes.State.{State}
 use Rattle.room_types.specs.declared.codes.State.TheVariants.{Active, Closed, Merged}
 use Rattle.room_types.specs.declared.fleet.Terminal.{Terminal}
 use Rattle.room_model.specs.Enrol.{token_cmp, terminal_key}
-use Rattle.room_tables_rows.specs.Columns.{truth, kind_code, status_code, button_code, outcome_code, number_in, number_or_none, truth_in, kind_in, status_in, button_in, outcome_in, state_in}
-use Rattle.room_tables_rows.specs.Meta.{meta_key, meta_row, version_row, zone_in}
-use Rattle.room_tables_rows.specs.Areas.{area_key, area_row, area_in}
-use Rattle.room_tables_rows.specs.Terminals.{terminal_row, terminal_in}
-use Rattle.room_tables_rows.specs.Divisions.{division_row, division_in}
-use Rattle.room_tables_rows.specs.Incidents.{incident_row, incident_in}
-use Rattle.room_tables_rows.specs.Calls.{call_row, call_in}
-use Rattle.room_tables_rows.specs.Vehicles.{vehicle_row, vehicle_in}
-use Rattle.room_tables_rows.specs.Turns.{turn_row, turn_in}
-use Rattle.room_tables_rows.specs.Assignments.{assignment_row, assignment_in}
-use Rattle.room_tables_rows.specs.Points.{point_row, point_in}
-use Rattle.room_tables_rows.specs.Loans.{loan_row, loan_in}
-use Rattle.room_tables_rows.specs.Reports.{report_row, report_in}
-use Rattle.room_tables_rows.specs.Offers.{offer_row, offer_in}
+use Rattle.room_tables_rows.specs.ColumnValues.{truth, kind_code, status_code, button_code, outcome_code, number_in, number_or_none, truth_in, kind_in, status_in, button_in, outcome_in, state_in}
+use Rattle.room_tables_rows.specs.MetaColumns.{meta_key, meta_row, version_row, zone_in}
+use Rattle.room_tables_rows.specs.AreaColumns.{area_key, area_row, area_in}
+use Rattle.room_tables_rows.specs.TerminalColumns.{terminal_row, terminal_in}
+use Rattle.room_tables_rows.specs.DivisionColumns.{division_row, division_in}
+use Rattle.room_tables_rows.specs.IncidentColumns.{incident_row, incident_in}
+use Rattle.room_tables_rows.specs.CallColumns.{call_row, call_in}
+use Rattle.room_tables_rows.specs.VehicleColumns.{vehicle_row, vehicle_in}
+use Rattle.room_tables_rows.specs.TurnColumns.{turn_row, turn_in}
+use Rattle.room_tables_rows.specs.AssignmentColumns.{assignment_row, assignment_in}
+use Rattle.room_tables_rows.specs.PointColumns.{point_row, point_in}
+use Rattle.room_tables_rows.specs.LoanColumns.{loan_row, loan_in}
+use Rattle.room_tables_rows.specs.ReportColumns.{report_row, report_in}
+use Rattle.room_tables_rows.specs.OfferColumns.{offer_row, offer_in}
 
 -- ---- values
 

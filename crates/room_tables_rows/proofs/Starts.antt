@@ -4,22 +4,22 @@ use Rattle.std.proofs.Common.{◌≡◌, ◌++◌, ℕ, List, [], ◌∷◌, map
 use Rattle.std.specs.Ordering.{nat_cmp}
 use Rattle.sqlite_value.specs.Order.{Row}
 use Rattle.sqlite.specs.State.{State, Executes, Shown}
-use Rattle.room_tables_sql.specs.Outcomes.{Inside, Only}
-use Rattle.room_tables_sql.specs.Tables.{AreNumbered}
-use Rattle.room_tables_sql.specs.Statements.{rowid_values, rowid_update}
-use Rattle.room_tables_sql.proofs.Standing.{holds_none}
-use Rattle.room_tables_sql.proofs.TypedTables.{upsert_puts}
-use Rattle.room_tables_sql.proofs.Upserts.{upserted_schema}
+use Rattle.room_tables_laws.specs.Outcomes.{Inside, Only}
+use Rattle.room_tables_laws.specs.TableTrees.{AreNumbered}
+use Rattle.room_tables_laws.specs.Statements.{rowid_values, rowid_update}
+use Rattle.room_tables_laws.proofs.Standing.{holds_none}
+use Rattle.room_tables_laws.proofs.TypedTables.{upsert_puts}
+use Rattle.room_tables_laws.proofs.Upserts.{upserted_schema}
 use Rattle.room_place.specs.declared.plans.Area.{Area}
-use Rattle.room_tables_rows.specs.Meta.{meta_key, meta_row, version_row}
-use Rattle.room_tables_rows.specs.Areas.{area_key, area_row}
+use Rattle.room_tables_rows.specs.MetaColumns.{meta_key, meta_row, version_row}
+use Rattle.room_tables_rows.specs.AreaColumns.{area_key, area_row}
 use Rattle.room_tables_rows.proofs.RowLaws.{meta_faithful, told_faithful, told_row, area_faithful}
 use Rattle.room_model.specs.Room.{Room}
 use Rattle.room_tables_schema.specs.Definitions.{IsBlank}
 use Rattle.room_tables_schema.specs.Schema.{room_schema, meta_table, areas_table}
-use Rattle.room_tables_rows.specs.declared.meta.TheConstants.{PUT_META}
-use Rattle.room_tables_rows.specs.declared.areas.TheConstants.{ALL_AREAS, PUT_AREA}
-use Rattle.room_tables_rows.specs.Stands.{House, Stands, StandsFor, numbered, empty_room}
+use Rattle.room_tables_rows.specs.declared.meta_columns.TheConstants.{PUT_META}
+use Rattle.room_tables_rows.specs.declared.area_columns.TheConstants.{ALL_AREAS, PUT_AREA}
+use Rattle.room_tables_rows.specs.Stands.{Configuration, Stands, StandsFor, numbered, empty_room}
 use Rattle.room_tables_rows.specs.Writes.{Changes, AppendsArea}
 use Rattle.room_tables_rows.proofs.Kept.{with_meta, with_areas, with_first}
 use Rattle.room_tables_rows.proofs.Puts.{put_changes}
@@ -29,10 +29,10 @@ use Rattle.room_tables_rows.proofs.AreasTable.{all_areas_are, areas_alone, put_a
 
 module _ (zone : List ℕ) (old new : State) (count : ℕ) (has : old.now.schema ≡ room_schema)
     (inside : Inside old new) (ran : Executes PUT_META.now (meta_row zone) old new (Ok count)) where
-  pub put_meta_makes : Changes old new (λ house. record house { zone = zone }) (λ room. room)
+  pub put_meta_makes : Changes old new (λ config. record config { zone = zone }) (λ room. room)
   put_meta_makes =
-      put_changes meta_held PUT_META.now meta_puts zone (λ house. record house { zone = zone }) (λ room. room)
-      (λ old new house room h only is. with_meta old new house room h only zone is) old new count has inside ran
+      put_changes meta_held PUT_META.now meta_puts zone (λ config. record config { zone = zone }) (λ room. room)
+      (λ old new config room h only is. with_meta old new config room h only zone is) old new count has inside ran
 
   pub put_meta_begins : IsBlank old.now.trees
       → Stands new.now.trees (record { zone = zone; terminals = [] }) empty_room
@@ -41,7 +41,7 @@ module _ (zone : List ℕ) (old new : State) (count : ℕ) (has : old.now.schema
       (holds_none (0 ∷ 2 ∷ 3 ∷ []) (0 ∷ []) (old.now.trees 0) blank.meta) in
       with_first old.now new.now blank it.0 zone it.1
 
--- whichever version and zone were told, this version and this zone are told instead, and nothing
+-- whichever version and zone were given, this version and this zone are given instead, and nothing
 -- else changes
 pub put_meta_renews : (version : ℕ) (was zone : List ℕ) (old new : State) (count : ℕ)
     → old.now.schema ≡ room_schema → Executes PUT_META.now (meta_row zone) old new (Ok count)
@@ -56,9 +56,9 @@ pub put_area_makes : (at : ℕ) (area : Area) (old new : State) (count : ℕ)
 put_area_makes at area old new count has inside ran = record {
   inside = inside;
   schema = upserted_schema room_schema PUT_AREA.now 1 areas_table areas_alone (0 ∷ 2 ∷ 3 ∷ 4 ∷ 5 ∷ 6 ∷ []) (0 ∷ []) 6 (rowid_values 6) (rowid_update 6) put_area_means (area_row (at, area)) (area_stores (at, area)) old new count has ran;
-  stands = λ house room h next.
+  stands = λ config room h next.
       let it = upsert_puts nat_cmp area_key area_row room_schema PUT_AREA.now old new 1 areas_table (0 ∷ 2 ∷ 3 ∷ 4 ∷ 5 ∷ 6 ∷ []) (0 ∷ []) 6 (rowid_values 6) (rowid_update 6) count (at, area) (numbered 1 room.plan) areas_alone put_area_means area_faithful (area_stores (at, area)) has ran h.areas in
-      with_areas old.now new.now house room h it.0 (room.plan ++ area ∷ []) (subst (λ xs. StandsFor new.now.trees areas_table area_row xs) (put_row-numbered 1 at room.plan area (omega arith)) it.1);
+      with_areas old.now new.now config room h it.0 (room.plan ++ area ∷ []) (subst (λ xs. StandsFor new.now.trees areas_table area_row xs) (put_row-numbered 1 at room.plan area (omega arith)) it.1);
 }
 
 module _ (areas : List Area) (old new : State) (shown : List Row)
@@ -70,6 +70,6 @@ module _ (areas : List Area) (old new : State) (shown : List Row)
   areas_found = (all_areas_are old new (numbered 1 areas) has (subst (Shown ALL_AREAS.now [] old new) (sym is) shows) (numbered-keyed 1 areas)).0
 
   -- .. and are the plan's
-  pub areas_are : (house : House) (room : Room) → Stands old.now.trees house room
+  pub areas_are : (config : Configuration) (room : Room) → Stands old.now.trees config room
       → areas ≡ room.plan
-  areas_are house room h = numbered-injective 1 areas room.plan ((all_areas_are old new (numbered 1 areas) has (subst (Shown ALL_AREAS.now [] old new) (sym is) shows) (numbered-keyed 1 areas)).1 house room h)
+  areas_are config room h = numbered-injective 1 areas room.plan ((all_areas_are old new (numbered 1 areas) has (subst (Shown ALL_AREAS.now [] old new) (sym is) shows) (numbered-keyed 1 areas)).1 config room h)

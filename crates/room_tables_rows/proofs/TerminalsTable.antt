@@ -1,22 +1,22 @@
 -- What the statements on the table terminals say, and what they make of a room. (Written by tools/tables.py.)
 use Rattle.room_model.specs.Enrol.{terminal_key, token_cmp}
 use Rattle.room_model.specs.Room.{Room}
+use Rattle.room_tables_laws.proofs.ColumnValues.{cast-Int}
+use Rattle.room_tables_laws.proofs.Comparisons.{and_last, conflict_of_one, tie-texts}
+use Rattle.room_tables_laws.proofs.StoredRows.{stores_row}
+use Rattle.room_tables_laws.specs.Outcomes.{Inside}
+use Rattle.room_tables_laws.specs.Statements.{Selects, StandsAlone, Stores, Upserts, equals, row_update, row_values}
 use Rattle.room_tables_rows.proofs.Kept.{with_terminals}
 use Rattle.room_tables_rows.proofs.Loads.{ShowsAll, ShowsRow, all_rows, row_of_key}
 use Rattle.room_tables_rows.proofs.Puts.{put_changes}
 use Rattle.room_tables_rows.proofs.RowLaws.{terminal_faithful}
 use Rattle.room_tables_rows.proofs.Tests.{cast-text_or_null}
-use Rattle.room_tables_rows.specs.Stands.{House}
+use Rattle.room_tables_rows.specs.Stands.{Configuration}
 use Rattle.room_tables_rows.specs.Tables.{IsHeld, PutsRow, SelectsChosen}
-use Rattle.room_tables_rows.specs.Terminals.{terminal_row}
+use Rattle.room_tables_rows.specs.TerminalColumns.{terminal_row}
 use Rattle.room_tables_rows.specs.Writes.{Changes}
-use Rattle.room_tables_rows.specs.declared.terminals.TheConstants.{ALL_TERMINALS, PUT_TERMINAL, TERMINAL_AT}
+use Rattle.room_tables_rows.specs.declared.terminal_columns.TheConstants.{ALL_TERMINALS, PUT_TERMINAL, TERMINAL_AT}
 use Rattle.room_tables_schema.specs.Schema.{room_schema, terminals_table}
-use Rattle.room_tables_sql.proofs.ColumnValues.{cast-Int}
-use Rattle.room_tables_sql.proofs.Comparisons.{and_last, conflict_of_one, tie-texts}
-use Rattle.room_tables_sql.proofs.StoredRows.{stores_row}
-use Rattle.room_tables_sql.specs.Outcomes.{Inside}
-use Rattle.room_tables_sql.specs.Statements.{Selects, StandsAlone, Stores, Upserts, equals, row_update, row_values}
 use Rattle.room_types.specs.Texts.{Token}
 use Rattle.room_types.specs.declared.fleet.Terminal.{Terminal}
 use Rattle.room_types_keyed.specs.Keyed.{put_row, row_at}
@@ -30,14 +30,14 @@ use Rattle.sqlite_value.specs.declared.value.Value.TheVariants.{Text}
 use Rattle.std.proofs.Common.{List, Ok, [], refl, ℕ, ◌∷◌, ◌≡◌}
 use Rattle.std.specs.Ordering.{is_eq}
 
-abbrev all_of : House → Room → List Terminal
-all_of house room = house.terminals
+abbrev all_of : Configuration → Room → List Terminal
+all_of config room = config.terminals
 
 pub terminals_alone : StandsAlone room_schema 2 terminals_table
 terminals_alone = record { is_there = refl; unreferenced = λ olds news. refl; uncounted = refl }
 
 abbrev pub terminals_held : IsHeld token_cmp terminal_key terminal_row terminals_table all_of
-terminals_held = record { faithful = terminal_faithful; others = (2 ∷ 3 ∷ 4 ∷ []); places_are = refl; at = 2; alone = terminals_alone; held = λ trees house room h. h.terminals }
+terminals_held = record { faithful = terminal_faithful; others = (2 ∷ 3 ∷ 4 ∷ []); places_are = refl; at = 2; alone = terminals_alone; held = λ trees config room h. h.terminals }
 
 pub all_terminals_means : Selects room_schema ALL_TERMINALS.now 2 (1 ∷ 2 ∷ 3 ∷ 4 ∷ []) (1 ∷ []) ([])
 unfolding understood everything
@@ -53,7 +53,7 @@ terminal_at_means = record { names = _; command = refl; plain = (refl, refl); un
 pub terminal_at_chooses : (k : Token) → SelectsChosen terminals_table terminal_row TERMINAL_AT.now (Text k ∷ []) (λ x. is_eq (token_cmp k (terminal_key x)))
 terminal_at_chooses k = record { terms = equals 1 0 ∷ []; selects = terminal_at_means; chooses = record { test = λ r. equal Binary (column r 0) (Text k); tells = λ r. and_last refl; same = λ x. tie-texts x.token k } }
 
-pub terminal_at_is : (k : Token) → ShowsRow terminal_row TERMINAL_AT.now (Text k ∷ []) (λ found house room. found ≡ row_at token_cmp terminal_key house.terminals k)
+pub terminal_at_is : (k : Token) → ShowsRow terminal_row TERMINAL_AT.now (Text k ∷ []) (λ found config room. found ≡ row_at token_cmp terminal_key config.terminals k)
 terminal_at_is k = row_of_key terminals_held TERMINAL_AT.now (Text k ∷ []) k (terminal_at_chooses k)
 
 pub put_terminal_means : Upserts room_schema PUT_TERMINAL.now 2 terminals_table (1 ∷ []) 4 (row_values 4) (row_update 4)
@@ -69,5 +69,5 @@ pub terminal_puts : PutsRow terminals_table terminal_row 2 PUT_TERMINAL.now
 terminal_puts = record { columns = 4; values = row_values 4; update = row_update 4; upserts = put_terminal_means; stores = terminal_stores }
 
 pub put_terminal_makes : (x : Terminal) (old new : State) (count : ℕ) → old.now.schema ≡ room_schema → Inside old new → Executes PUT_TERMINAL.now (terminal_row x) old new (Ok count)
-    → Changes old new (λ house. record house { terminals = put_row token_cmp terminal_key house.terminals x }) (λ room. room)
-put_terminal_makes x = put_changes terminals_held PUT_TERMINAL.now terminal_puts x (λ house. record house { terminals = put_row token_cmp terminal_key house.terminals x }) (λ room. room) (λ old new house room h only is. with_terminals old new house room h only _ is)
+    → Changes old new (λ config. record config { terminals = put_row token_cmp terminal_key config.terminals x }) (λ room. room)
+put_terminal_makes x = put_changes terminals_held PUT_TERMINAL.now terminal_puts x (λ config. record config { terminals = put_row token_cmp terminal_key config.terminals x }) (λ room. room) (λ old new config room h only is. with_terminals old new config room h only _ is)

@@ -14,12 +14,12 @@ use Rattle.sqlite_schema.specs.Rules.{equal}
 use Rattle.sqlite_schema.specs.declared.schema.Kind.TheVariants as kind
 use Rattle.sqlite_rules.specs.Cast.{cast}
 use Rattle.sqlite.specs.Values.{or_null}
-use Rattle.room_tables_sql.specs.Typed.{number}
-use Rattle.room_tables_sql.proofs.Comparisons.{compare_by, equal-numbers}
+use Rattle.room_tables_laws.specs.TypedRows.{number}
+use Rattle.room_tables_laws.proofs.Comparisons.{compare_by, equal-numbers}
 use Rattle.room_types.specs.Codes.{state_number, is_active}
 use Rattle.room_types.specs.declared.codes.State.{State}
 use Rattle.room_types.specs.declared.codes.State.TheVariants.{Active, Closed, Merged}
-use Rattle.room_tables_rows.specs.Columns.{truth}
+use Rattle.room_tables_rows.specs.ColumnValues.{truth}
 
 -- a state is active where its number is that of Active
 pub equal-active : (s : State) → equal Binary (number (state_number s))

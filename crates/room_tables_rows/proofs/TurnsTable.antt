@@ -1,19 +1,19 @@
 -- What the statements on the table turns say, and what they make of a room. (Written by tools/tables.py.)
 use Rattle.room_model.specs.Room.{Room}
+use Rattle.room_tables_laws.proofs.ColumnValues.{AreKept, cast-Int, cast-number_or_null}
+use Rattle.room_tables_laws.proofs.Comparisons.{and_last, and_then, conflict_of_two, equal-numbers, is_eq-then, tie-numbers, tie-texts, tie_of_two}
+use Rattle.room_tables_laws.proofs.StoredRows.{covers_row, stores_row}
+use Rattle.room_tables_laws.specs.Statements.{Covers, Inserts, Overwrites, Selects, StandsAlone, Stores, Upserts, equals, row_update, row_values}
+use Rattle.room_tables_laws.specs.TypedRows.{number}
 use Rattle.room_tables_rows.proofs.Kept.{with_turns}
 use Rattle.room_tables_rows.proofs.Loads.{Shows, chosen_rows}
 use Rattle.room_tables_rows.proofs.RowLaws.{turn_faithful}
-use Rattle.room_tables_rows.specs.Keys.{numbered_cells}
-use Rattle.room_tables_rows.specs.Stands.{House}
+use Rattle.room_tables_rows.specs.KeyColumns.{numbered_cells}
+use Rattle.room_tables_rows.specs.Stands.{Configuration}
 use Rattle.room_tables_rows.specs.Tables.{InsertsRow, IsHeld, IsOverwritten, IsTable, PutsRow, SelectsChosen}
-use Rattle.room_tables_rows.specs.Turns.{turn_row}
-use Rattle.room_tables_rows.specs.declared.turns.TheConstants.{ALL_TURNS, INSERT_TURN, OVERWRITE_TURN, PUT_TURN, TURNS_OF, TURN_AT}
+use Rattle.room_tables_rows.specs.TurnColumns.{turn_row}
+use Rattle.room_tables_rows.specs.declared.turn_columns.TheConstants.{ALL_TURNS, INSERT_TURN, OVERWRITE_TURN, PUT_TURN, TURNS_OF, TURN_AT}
 use Rattle.room_tables_schema.specs.Schema.{room_schema, turns_table}
-use Rattle.room_tables_sql.proofs.ColumnValues.{AreKept, cast-Int, cast-number_or_null}
-use Rattle.room_tables_sql.proofs.Comparisons.{and_last, and_then, conflict_of_two, equal-numbers, is_eq-then, tie-numbers, tie-texts, tie_of_two}
-use Rattle.room_tables_sql.proofs.StoredRows.{covers_row, stores_row}
-use Rattle.room_tables_sql.specs.Statements.{Covers, Inserts, Overwrites, Selects, StandsAlone, Stores, Upserts, equals, row_update, row_values}
-use Rattle.room_tables_sql.specs.Typed.{number}
 use Rattle.room_types.specs.Keys.{callsign_cmp, numbered_cmp, turn_key}
 use Rattle.room_types.specs.Texts.{Callsign}
 use Rattle.room_types.specs.declared.changes.Change.TheVariants.{PutTurn}
@@ -27,14 +27,14 @@ use Rattle.sqlite_value.specs.declared.value.Value.TheVariants.{Text}
 use Rattle.std.proofs.Common.{List, [], filter, refl, sym, ℕ, ◌&&◌, ◌==◌, ◌∙◌, ◌∷◌, ◌≡◌}
 use Rattle.std.specs.Ordering.{is_eq, nat_cmp}
 
-abbrev all_of : House → Room → List Turn
-all_of house room = room.turns
+abbrev all_of : Configuration → Room → List Turn
+all_of config room = room.turns
 
 pub turns_alone : StandsAlone room_schema 7 turns_table
 turns_alone = record { is_there = refl; unreferenced = λ olds news. refl; uncounted = refl }
 
 abbrev pub turns_held : IsHeld numbered_cmp turn_key turn_row turns_table all_of
-turns_held = record { faithful = turn_faithful; others = (3 ∷ 4 ∷ 5 ∷ 6 ∷ 7 ∷ 8 ∷ 9 ∷ 10 ∷ 11 ∷ 12 ∷ []); places_are = refl; at = 7; alone = turns_alone; held = λ trees house room h. h.turns }
+turns_held = record { faithful = turn_faithful; others = (3 ∷ 4 ∷ 5 ∷ 6 ∷ 7 ∷ 8 ∷ 9 ∷ 10 ∷ 11 ∷ 12 ∷ []); places_are = refl; at = 7; alone = turns_alone; held = λ trees config room h. h.turns }
 
 pub all_turns_means : Selects room_schema ALL_TURNS.now 11 (1 ∷ 2 ∷ 3 ∷ 4 ∷ 5 ∷ 6 ∷ 7 ∷ 8 ∷ 9 ∷ 10 ∷ 11 ∷ 12 ∷ []) (1 ∷ 2 ∷ []) ([])
 unfolding understood everything
@@ -54,7 +54,7 @@ turns_of_means = record { names = _; command = refl; plain = (refl, refl); unlis
 pub turns_of_chooses : (d n : ℕ) → SelectsChosen turns_table turn_row TURNS_OF.now (number n ∷ number d ∷ []) (λ x. x.incident == n && x.division == d)
 turns_of_chooses d n = record { terms = equals 4 0 ∷ equals 3 1 ∷ []; selects = turns_of_means; chooses = record { test = λ r. equal Binary (column r 3) (number n) && equal Binary (column r 2) (number d); tells = λ r. and_then refl (and_last refl); same = λ x. and_then (equal-numbers x.incident n) (equal-numbers x.division d) } }
 
-pub turns_of_are : (d n : ℕ) → Shows turn_row TURNS_OF.now (number n ∷ number d ∷ []) (λ found house room. found ≡ filter (λ x. x.incident == n && x.division == d) room.turns)
+pub turns_of_are : (d n : ℕ) → Shows turn_row TURNS_OF.now (number n ∷ number d ∷ []) (λ found config room. found ≡ filter (λ x. x.incident == n && x.division == d) room.turns)
 turns_of_are d n = chosen_rows turns_held TURNS_OF.now (number n ∷ number d ∷ []) (λ x. x.incident == n && x.division == d) (turns_of_chooses d n)
 
 pub put_turn_means : Upserts room_schema PUT_TURN.now 7 turns_table (1 ∷ 2 ∷ []) 12 (row_values 12) (row_update 12)
@@ -78,7 +78,7 @@ turns_are = record {
   selects_all = all_turns_means;
   selects_at = λ k. turn_at_chooses k.0 k.1;
   puts = turn_puts;
-  leads = λ old new house room x h only is. with_turns old new house room h only _ is;
+  leads = λ old new config room x h only is. with_turns old new config room h only _ is;
 }
 
 pub insert_turn_means : Inserts room_schema INSERT_TURN.now 7 12 (row_values 12)
@@ -98,4 +98,4 @@ unfolding Rattle.sqlite_value.specs.Keys.first_key
 turn_covers x = covers_row room_schema turns_table (1 ∷ 2 ∷ 3 ∷ 4 ∷ 5 ∷ 6 ∷ 7 ∷ 8 ∷ 9 ∷ 10 ∷ 11 ∷ 12 ∷ []) (1 ∷ 2 ∷ []) 12 (turn_row x) (turn_kept x) (λ id. refl) (λ r. tie_of_two (column r 1) (column r 2) (Text x.callsign) (number x.order) refl refl) (λ r. refl)
 
 pub turns_overwritten : IsOverwritten turns_table turn_row (λ room. room.turns) OVERWRITE_TURN.now
-turns_overwritten = record { at = 7; alone = turns_alone; columns = 12; overwrites = overwrite_turn_means; covers = turn_covers; stays = λ old new house room h only is. with_turns old new house room h only _ is }
+turns_overwritten = record { at = 7; alone = turns_alone; columns = 12; overwrites = overwrite_turn_means; covers = turn_covers; stays = λ old new config room h only is. with_turns old new config room h only _ is }

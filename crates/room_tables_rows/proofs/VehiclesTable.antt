@@ -1,17 +1,17 @@
 -- What the statements on the table vehicles say, and what they make of a room. (Written by tools/tables.py.)
 use Rattle.room_model.specs.Room.{Room}
+use Rattle.room_tables_laws.proofs.ColumnValues.{AreKept, cast-Int, cast-number_or_null}
+use Rattle.room_tables_laws.proofs.Comparisons.{and_last, conflict_of_one, tie-texts, tie_of_one}
+use Rattle.room_tables_laws.proofs.StoredRows.{covers_row, stores_row}
+use Rattle.room_tables_laws.specs.Statements.{Covers, Overwrites, Selects, StandsAlone, Stores, Upserts, equals, row_update, row_values}
 use Rattle.room_tables_rows.proofs.Kept.{with_vehicles}
 use Rattle.room_tables_rows.proofs.RowLaws.{vehicle_faithful}
-use Rattle.room_tables_rows.specs.Keys.{text_cells}
-use Rattle.room_tables_rows.specs.Stands.{House}
+use Rattle.room_tables_rows.specs.KeyColumns.{text_cells}
+use Rattle.room_tables_rows.specs.Stands.{Configuration}
 use Rattle.room_tables_rows.specs.Tables.{IsHeld, IsOverwritten, IsTable, PutsRow, SelectsChosen}
-use Rattle.room_tables_rows.specs.Vehicles.{vehicle_row}
-use Rattle.room_tables_rows.specs.declared.vehicles.TheConstants.{ALL_VEHICLES, OVERWRITE_VEHICLE, PUT_VEHICLE, VEHICLE_AT}
+use Rattle.room_tables_rows.specs.VehicleColumns.{vehicle_row}
+use Rattle.room_tables_rows.specs.declared.vehicle_columns.TheConstants.{ALL_VEHICLES, OVERWRITE_VEHICLE, PUT_VEHICLE, VEHICLE_AT}
 use Rattle.room_tables_schema.specs.Schema.{room_schema, vehicles_table}
-use Rattle.room_tables_sql.proofs.ColumnValues.{AreKept, cast-Int, cast-number_or_null}
-use Rattle.room_tables_sql.proofs.Comparisons.{and_last, conflict_of_one, tie-texts, tie_of_one}
-use Rattle.room_tables_sql.proofs.StoredRows.{covers_row, stores_row}
-use Rattle.room_tables_sql.specs.Statements.{Covers, Overwrites, Selects, StandsAlone, Stores, Upserts, equals, row_update, row_values}
 use Rattle.room_types.specs.Keys.{callsign_cmp, vehicle_key}
 use Rattle.room_types.specs.Texts.{Callsign}
 use Rattle.room_types.specs.declared.changes.Change.TheVariants.{PutVehicle}
@@ -25,14 +25,14 @@ use Rattle.sqlite_value.specs.declared.value.Value.TheVariants.{Text}
 use Rattle.std.proofs.Common.{List, [], refl, ◌∷◌}
 use Rattle.std.specs.Ordering.{is_eq}
 
-abbrev all_of : House → Room → List Vehicle
-all_of house room = room.vehicles
+abbrev all_of : Configuration → Room → List Vehicle
+all_of config room = room.vehicles
 
 pub vehicles_alone : StandsAlone room_schema 6 vehicles_table
 vehicles_alone = record { is_there = refl; unreferenced = λ olds news. refl; uncounted = refl }
 
 abbrev pub vehicles_held : IsHeld callsign_cmp vehicle_key vehicle_row vehicles_table all_of
-vehicles_held = record { faithful = vehicle_faithful; others = (2 ∷ 3 ∷ 4 ∷ 5 ∷ 6 ∷ 7 ∷ 8 ∷ 9 ∷ 10 ∷ 11 ∷ []); places_are = refl; at = 6; alone = vehicles_alone; held = λ trees house room h. h.vehicles }
+vehicles_held = record { faithful = vehicle_faithful; others = (2 ∷ 3 ∷ 4 ∷ 5 ∷ 6 ∷ 7 ∷ 8 ∷ 9 ∷ 10 ∷ 11 ∷ []); places_are = refl; at = 6; alone = vehicles_alone; held = λ trees config room h. h.vehicles }
 
 pub all_vehicles_means : Selects room_schema ALL_VEHICLES.now 9 (1 ∷ 2 ∷ 3 ∷ 4 ∷ 5 ∷ 6 ∷ 7 ∷ 8 ∷ 9 ∷ 10 ∷ 11 ∷ []) (1 ∷ []) ([])
 unfolding understood everything
@@ -66,7 +66,7 @@ vehicles_are = record {
   selects_all = all_vehicles_means;
   selects_at = λ k. vehicle_at_chooses k;
   puts = vehicle_puts;
-  leads = λ old new house room x h only is. with_vehicles old new house room h only _ is;
+  leads = λ old new config room x h only is. with_vehicles old new config room h only _ is;
 }
 
 pub overwrite_vehicle_means : Overwrites room_schema OVERWRITE_VEHICLE.now 6 vehicles_table (1 ∷ []) 11
@@ -78,4 +78,4 @@ unfolding Rattle.sqlite_value.specs.Keys.first_key
 vehicle_covers x = covers_row room_schema vehicles_table (1 ∷ 2 ∷ 3 ∷ 4 ∷ 5 ∷ 6 ∷ 7 ∷ 8 ∷ 9 ∷ 10 ∷ 11 ∷ []) (1 ∷ []) 11 (vehicle_row x) (vehicle_kept x) (λ id. refl) (λ r. tie_of_one (column r 1) (Text x.callsign) refl) (λ r. refl)
 
 pub vehicles_overwritten : IsOverwritten vehicles_table vehicle_row (λ room. room.vehicles) OVERWRITE_VEHICLE.now
-vehicles_overwritten = record { at = 6; alone = vehicles_alone; columns = 11; overwrites = overwrite_vehicle_means; covers = vehicle_covers; stays = λ old new house room h only is. with_vehicles old new house room h only _ is }
+vehicles_overwritten = record { at = 6; alone = vehicles_alone; columns = 11; overwrites = overwrite_vehicle_means; covers = vehicle_covers; stays = λ old new config room h only is. with_vehicles old new config room h only _ is }

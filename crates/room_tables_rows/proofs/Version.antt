@@ -1,4 +1,4 @@
--- Which version a file tells, as its table `meta` alone says, and its zone.
+-- Which version a file gives, going only by its table `meta`, and its zone.
 use Rattle.std.proofs.Common.{◌≡◌, ℕ, List, [], ◌∷◌, map, true, Some, ap, refl, IsPermutation, slice_get}
 use Rattle.std.proofs.lemmas.List.Sorted.{IsPermutation-sym}
 use Rattle.sqlite_tied.specs.Compute.{everything}
@@ -12,15 +12,15 @@ use Rattle.sqlite_trees.specs.View.{is_int}
 use Rattle.sqlite.specs.Listing.{understood}
 use Rattle.sqlite.specs.State.{State, Shown}
 use Rattle.sqlite.proofs.Callers.{one_permutation}
-use Rattle.room_tables_sql.specs.Statements.{Selects}
-use Rattle.room_tables_sql.specs.Tables.{cells}
-use Rattle.room_tables_sql.proofs.Selections.{shows_all}
+use Rattle.room_tables_laws.specs.Statements.{Selects}
+use Rattle.room_tables_laws.specs.TableTrees.{cells}
+use Rattle.room_tables_laws.proofs.Selections.{shows_all}
 use Rattle.room_tables_schema.specs.Schema.{meta_table}
 use Rattle.room_tables_schema.specs.Versions.{BeginsAsRoom}
-use Rattle.room_tables_rows.specs.Meta.{version_row}
+use Rattle.room_tables_rows.specs.MetaColumns.{version_row}
 use Rattle.room_tables_rows.specs.Stands.{StandsFor}
-use Rattle.room_tables_rows.specs.Versions.{IsOfVersion, OneTells}
-use Rattle.room_tables_rows.specs.declared.meta.TheConstants.{ALL_META}
+use Rattle.room_tables_rows.specs.MetaVersions.{IsOfVersion, OneTells}
+use Rattle.room_tables_rows.specs.declared.meta_columns.TheConstants.{ALL_META}
 
 -- The text selects all of `meta`, whatever tables and indexes stand behind it ..
 behind : (others : List Table) (indexes : List Index)
@@ -50,7 +50,7 @@ one_held [] shown is = cc
 one_held (r ∷ []) shown is = (r, refl, cc)
 one_held (r ∷ s ∷ more) shown is = cc
 
--- tables that hold the row of a version tell it
+-- tables that hold the row of a version give it
 pub tells_held : (version : ℕ) (zone : List ℕ) (trees : Trees)
     → StandsFor trees meta_table (version_row version) (zone ∷ []) → IsOfVersion version trees
 tells_held version zone trees h =
@@ -80,7 +80,7 @@ module _ (old new : State) (shown : List Row) (begins : BeginsAsRoom old.now.sch
             record { row = one.0; alone = one.1; told = rw (← one.2) at told }
         go (r ∷ s ∷ more) same none = absurd none
 
-  -- one row that tells a version and a zone is what the table holds
+  -- one row that gives a version and a zone is what the table holds
   pub version_found : (version : ℕ) (zone : List ℕ) → version_row version zone ∷ [] ≡ shown
       → StandsFor old.now.trees meta_table (version_row version) (zone ∷ [])
   version_found version zone is =

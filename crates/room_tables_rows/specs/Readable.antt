@@ -2,7 +2,7 @@
 use Rattle.std.specs.Prelude.{ℕ, List, [], ◌∷◌, ◌+◌, pos, Bool, true, false, length, nat_le, ◌&&◌, ◌||◌}
 use Rattle.sqlite_value.specs.declared.value.Value.TheVariants.{Text, Blob, Null, Int}
 use Rattle.sqlite_value.specs.Order.{Row, column}
-use Rattle.room_tables_rows.specs.Columns.{number_in}
+use Rattle.room_tables_rows.specs.ColumnValues.{number_in}
 use Rattle.std.specs.Str.{is_utf8}
 use Rattle.sqlite_value.specs.declared.value.Value.{Value}
 use Rattle.room_types.specs.Needs.{is_some_need}

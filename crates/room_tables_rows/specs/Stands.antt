@@ -3,24 +3,24 @@ use Rattle.std.specs.Prelude.{◌-◌, ◌==◌, if◌then◌else◌, ℕ, zero,
 use Rattle.sqlite_value.specs.Order.{Row}
 use Rattle.sqlite_trees.specs.Tree.{Trees}
 use Rattle.sqlite_schema.specs.declared.schema.Table.{Table}
-use Rattle.room_tables_sql.specs.Tables.{Holds}
+use Rattle.room_tables_laws.specs.TableTrees.{Holds}
 use Rattle.room_place.specs.declared.plans.Area.{Area}
 use Rattle.room_types.specs.declared.fleet.Terminal.{Terminal}
 use Rattle.room_model.specs.Room.{Room}
 use Rattle.room_tables_schema.specs.Schema.{meta_table, areas_table, terminals_table, divisions_table, incidents_table, calls_table, vehicles_table, turns_table, assignments_table, points_table, loans_table, reports_table, offers_table}
-use Rattle.room_tables_rows.specs.Meta.{version_row}
-use Rattle.room_tables_rows.specs.Areas.{area_row}
-use Rattle.room_tables_rows.specs.Terminals.{terminal_row}
-use Rattle.room_tables_rows.specs.Divisions.{division_row}
-use Rattle.room_tables_rows.specs.Incidents.{incident_row}
-use Rattle.room_tables_rows.specs.Calls.{call_row}
-use Rattle.room_tables_rows.specs.Vehicles.{vehicle_row}
-use Rattle.room_tables_rows.specs.Turns.{turn_row}
-use Rattle.room_tables_rows.specs.Assignments.{assignment_row}
-use Rattle.room_tables_rows.specs.Points.{point_row}
-use Rattle.room_tables_rows.specs.Loans.{loan_row}
-use Rattle.room_tables_rows.specs.Reports.{report_row}
-use Rattle.room_tables_rows.specs.Offers.{offer_row}
+use Rattle.room_tables_rows.specs.MetaColumns.{version_row}
+use Rattle.room_tables_rows.specs.AreaColumns.{area_row}
+use Rattle.room_tables_rows.specs.TerminalColumns.{terminal_row}
+use Rattle.room_tables_rows.specs.DivisionColumns.{division_row}
+use Rattle.room_tables_rows.specs.IncidentColumns.{incident_row}
+use Rattle.room_tables_rows.specs.CallColumns.{call_row}
+use Rattle.room_tables_rows.specs.VehicleColumns.{vehicle_row}
+use Rattle.room_tables_rows.specs.TurnColumns.{turn_row}
+use Rattle.room_tables_rows.specs.AssignmentColumns.{assignment_row}
+use Rattle.room_tables_rows.specs.PointColumns.{point_row}
+use Rattle.room_tables_rows.specs.LoanColumns.{loan_row}
+use Rattle.room_tables_rows.specs.ReportColumns.{report_row}
+use Rattle.room_tables_rows.specs.OfferColumns.{offer_row}
 
 -- so many places, from one on
 abbrev pub places_from : ℕ → ℕ → List ℕ
@@ -47,15 +47,16 @@ numbered n (area ∷ plan) = (n, area) ∷ numbered (suc n) plan
 
 -- what the tables keep beside the room: the zone of its days, and the terminals in the order of
 -- their tokens
-pub record House : Type 0 where
+pub record Configuration : Type 0 where
   pub zone : List ℕ
   pub terminals : List Terminal
 
--- The tables, which tell this version, stand for this house and this room. No index is looked at.
-pub record StandsIn (version : ℕ) (trees : Trees) (house : House) (room : Room) : Type 0 where
-  pub meta : StandsFor trees meta_table (version_row version) (house.zone ∷ [])
+-- The tables, which give this version, stand for this house and this room. No index is looked at.
+pub record StandsIn (version : ℕ) (trees : Trees) (config : Configuration)
+    (room : Room) : Type 0 where
+  pub meta : StandsFor trees meta_table (version_row version) (config.zone ∷ [])
   pub areas : StandsFor trees areas_table area_row (numbered 1 room.plan)
-  pub terminals : StandsFor trees terminals_table terminal_row house.terminals
+  pub terminals : StandsFor trees terminals_table terminal_row config.terminals
   pub divisions : StandsFor trees divisions_table division_row room.divisions
   pub incidents : StandsFor trees incidents_table incident_row room.incidents
   pub calls : StandsFor trees calls_table call_row room.calls
@@ -67,16 +68,16 @@ pub record StandsIn (version : ℕ) (trees : Trees) (house : House) (room : Room
   pub reports : StandsFor trees reports_table report_row room.reports
   pub offers : StandsFor trees offers_table offer_row room.offers
 
--- The tables of a room stand for this house and this room.
-abbrev pub Stands : Trees → House → Room → Type 0
+-- The tables of a room stand for this configuration and this room.
+abbrev pub Stands : Trees → Configuration → Room → Type 0
 Stands = StandsIn 2
 
 -- the tables, with no offers
 abbrev pub without_offers : Trees → Trees
 without_offers trees tree = if tree == offers_table.tree then [] else trees tree
 
--- The tables of the first version stand for this house and this room. They had no offers.
-abbrev pub StandsInFirst : Trees → House → Room → Type 0
+-- The tables of the first version stand for this configuration and this room. They had no offers.
+abbrev pub StandsInFirst : Trees → Configuration → Room → Type 0
 StandsInFirst trees = StandsIn 1 (without_offers trees)
 
 -- no plan and no rows

@@ -7,27 +7,27 @@ use Rattle.sqlite_trees.specs.Tree.{Trees}
 use Rattle.sqlite_sql.specs.Term.{Term}
 use Rattle.sqlite_schema.specs.declared.schema.Table.{Table}
 use Rattle.sqlite.specs.Effect.{Database}
-use Rattle.room_tables_sql.specs.Outcomes.{Only}
-use Rattle.room_tables_sql.specs.Statements.{passes, Selects, StandsAlone, Deletes, Inserts, Upserts, Stores, Overwrites, Covers}
-use Rattle.room_tables_sql.specs.Tables.{cells}
-use Rattle.room_tables_sql.specs.Typed.{IsFaithful}
+use Rattle.room_tables_laws.specs.Outcomes.{Only}
+use Rattle.room_tables_laws.specs.Statements.{passes, Selects, StandsAlone, Deletes, Inserts, Upserts, Stores, Overwrites, Covers}
+use Rattle.room_tables_laws.specs.TableTrees.{cells}
+use Rattle.room_tables_laws.specs.TypedRows.{IsFaithful}
 use Rattle.room_types_keyed.specs.Keyed.{put_row, drop_row}
 use Rattle.room_types.specs.declared.changes.Change.{Change}
 use Rattle.room_model.specs.Room.{Room, apply_one}
 use Rattle.room_tables_schema.specs.Schema.{room_schema}
-use Rattle.room_tables_rows.specs.Stands.{House, Stands, StandsFor, places}
+use Rattle.room_tables_rows.specs.Stands.{Configuration, Stands, StandsFor, places}
 
--- The table holds these rows of a house and a room, and no other table refers to it.
+-- The table holds these rows of a configuration and a room, and no other table refers to it.
 pub record IsHeld {X K : Type 0} (order : K → K → Ordering) (key : X → K) (row : X → Row)
-    (table : Table) (rows : House → Room → List X) : Type 0 where
+    (table : Table) (rows : Configuration → Room → List X) : Type 0 where
   pub faithful : IsFaithful order key row table.primary
   -- the columns of the key stand first
   pub others : List ℕ
   pub places_are : places table ≡ table.primary ++ others
   pub at : ℕ
   pub alone : StandsAlone room_schema at table
-  pub held : (trees : Trees) (house : House) (room : Room) → Stands trees house room
-      → StandsFor trees table row (rows house room)
+  pub held : (trees : Trees) (config : Configuration) (room : Room) → Stands trees config room
+      → StandsFor trees table row (rows config room)
 
 module _ {X : Type 0} (table : Table) (row : X → Row) where
   -- the terms choose among the columns of rows as `chosen` does among the rows
@@ -75,9 +75,9 @@ module _ {X : Type 0} (table : Table) (row : X → Row) (rows : Room → List X)
     pub columns : ℕ
     pub overwrites : Overwrites room_schema text at table table.primary columns
     pub covers : (x : X) → Covers table (places table) table.primary columns (row x)
-    pub stays : (old new : Database) (house : House) (room : Room)
-        → Stands old.trees house room → Only room_schema table.tree old new
-        → StandsFor new.trees table row (rows room) → Stands new.trees house room
+    pub stays : (old new : Database) (config : Configuration) (room : Room)
+        → Stands old.trees config room → Only room_schema table.tree old new
+        → StandsFor new.trees table row (rows room) → Stands new.trees config room
 
 -- the statements that every table of the room's rows has: all rows, the row of a key, and the put
 -- of a row
@@ -91,15 +91,15 @@ module _ {X K : Type 0} (order : K → K → Ordering) (key : X → K) (row : X 
   -- The table holds these rows of a room, and the texts are the statements on them: a put makes
   -- this change.
   pub record IsTable (put : X → Change) (texts : Texts) : Type 0 where
-    pub is_held : IsHeld order key row table (λ house room. rows room)
+    pub is_held : IsHeld order key row table (λ config room. rows room)
     pub selects_all : Selects room_schema texts.all table.tree (places table) table.primary []
     pub selects_at : (k : K) → SelectsChosen table row texts.at (key_row k)
         (λ x. is_eq (order k (key x)))
     pub puts : PutsRow table row is_held.at texts.put
-    pub leads : (old new : Database) (house : House) (room : Room) (x : X)
-        → Stands old.trees house room → Only room_schema table.tree old new
+    pub leads : (old new : Database) (config : Configuration) (room : Room) (x : X)
+        → Stands old.trees config room → Only room_schema table.tree old new
         → StandsFor new.trees table row (put_row order key (rows room) x)
-        → Stands new.trees house (apply_one room (put x))
+        → Stands new.trees config (apply_one room (put x))
 
   -- The text drops the row of a key from the table, and this is the change that it makes.
   pub record IsDropped (drop : K → Change) (text : List ℕ) : Type 0 where
@@ -108,7 +108,7 @@ module _ {X K : Type 0} (order : K → K → Ordering) (key : X → K) (row : X 
     pub alone : StandsAlone room_schema at table
     pub deletes : (k : K) → DeletesChosen table row at text (key_row k)
         (λ x. is_eq (order k (key x)))
-    pub leads : (old new : Database) (house : House) (room : Room) (k : K)
-        → Stands old.trees house room → Only room_schema table.tree old new
+    pub leads : (old new : Database) (config : Configuration) (room : Room) (k : K)
+        → Stands old.trees config room → Only room_schema table.tree old new
         → StandsFor new.trees table row (drop_row order key (rows room) k)
-        → Stands new.trees house (apply_one room (drop k))
+        → Stands new.trees config (apply_one room (drop k))

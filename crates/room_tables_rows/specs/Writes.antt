@@ -1,35 +1,35 @@
 -- What a write in a transaction leaves.
 use Rattle.std.specs.Prelude.{◌≡◌, ◌++◌, ℕ, suc, List, [], ◌∷◌, length}
 use Rattle.sqlite.specs.State.{State}
-use Rattle.room_tables_sql.specs.Outcomes.{Inside, Only}
+use Rattle.room_tables_laws.specs.Outcomes.{Inside, Only}
 use Rattle.room_place.specs.declared.plans.Area.{Area}
 use Rattle.room_types.specs.declared.changes.Change.{Change}
 use Rattle.room_model.specs.Room.{Room, apply_one}
 use Rattle.room_tables_schema.specs.Schema.{meta_table, room_schema}
-use Rattle.room_tables_rows.specs.Meta.{meta_row, version_row}
-use Rattle.room_tables_rows.specs.Stands.{House, Stands, StandsFor}
+use Rattle.room_tables_rows.specs.MetaColumns.{meta_row, version_row}
+use Rattle.room_tables_rows.specs.Stands.{Configuration, Stands, StandsFor}
 
--- The tables stand for another house and room than before, and nothing is committed.
-pub record Changes (old new : State) (house_after : House → House)
+-- The tables stand for another configuration and room than before, and nothing is committed.
+pub record Changes (old new : State) (config_after : Configuration → Configuration)
     (room_after : Room → Room) : Type 0 where
   pub inside : Inside old new
   pub schema : new.now.schema ≡ room_schema
-  pub stands : (house : House) (room : Room) → Stands old.now.trees house room
-      → Stands new.now.trees (house_after house) (room_after room)
+  pub stands : (config : Configuration) (room : Room) → Stands old.now.trees config room
+      → Stands new.now.trees (config_after config) (room_after room)
 
 -- One change of rows is made.
 abbrev pub Makes : State → State → Change → Type 0
-Makes old new change = Changes old new (λ house. house) (λ room. apply_one room change)
+Makes old new change = Changes old new (λ config. config) (λ room. apply_one room change)
 
 -- The next area of the plan is there.
 pub record AppendsArea (old new : State) (at : ℕ) (area : Area) : Type 0 where
   pub inside : Inside old new
   pub schema : new.now.schema ≡ room_schema
-  pub stands : (house : House) (room : Room) → Stands old.now.trees house room
-      → at ≡ suc (length room.plan) → Stands new.now.trees house
+  pub stands : (config : Configuration) (room : Room) → Stands old.now.trees config room
+      → at ≡ suc (length room.plan) → Stands new.now.trees config
       (record room { plan = room.plan ++ area ∷ [] })
 
--- The tables told the first version, and tell this one. No other table changed.
+-- The tables gave the first version, and give this one. No other table changed.
 pub record Renews (old new : State) : Type 0 where
   pub inside : Inside old new
   pub schema : new.now.schema ≡ room_schema

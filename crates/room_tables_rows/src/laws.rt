@@ -3,25 +3,25 @@
 
 ghost use Rattle.std.specs.Prelude.{[], ◌∷◌, ◌≡◌};
 ghost use Rattle.std.specs.Ordering.{nat_cmp};
-ghost use Rattle.room_tables_sql.specs.Typed.{IsFaithful};
+ghost use Rattle.room_tables_laws.specs.TypedRows.{IsFaithful};
 ghost use Rattle.room_types.specs.Keys.{callsign_cmp, pair_cmp, numbered_cmp, division_key, incident_key, call_key, vehicle_key, turn_key, assignment_key, point_key, loan_key, offer_key, report_key};
 ghost use Rattle.room_model.specs.Enrol.{token_cmp, terminal_key};
-ghost use Rattle.room_tables_rows.specs.Meta.{meta_key, meta_row};
-ghost use Rattle.room_tables_rows.specs.Areas.{area_key, area_row};
-ghost use Rattle.room_tables_rows.specs.Terminals.{terminal_row};
-ghost use Rattle.room_tables_rows.specs.Divisions.{division_row};
-ghost use Rattle.room_tables_rows.specs.Incidents.{incident_row};
-ghost use Rattle.room_tables_rows.specs.Calls.{call_row};
-ghost use Rattle.room_tables_rows.specs.Vehicles.{vehicle_row};
-ghost use Rattle.room_tables_rows.specs.Turns.{turn_row};
-ghost use Rattle.room_tables_rows.specs.Assignments.{assignment_row};
-ghost use Rattle.room_tables_rows.specs.Points.{point_row};
-ghost use Rattle.room_tables_rows.specs.Loans.{loan_row};
-ghost use Rattle.room_tables_rows.specs.Reports.{report_row};
-ghost use Rattle.room_tables_rows.specs.Offers.{offer_row};
+ghost use Rattle.room_tables_rows.specs.MetaColumns.{meta_key, meta_row};
+ghost use Rattle.room_tables_rows.specs.AreaColumns.{area_key, area_row};
+ghost use Rattle.room_tables_rows.specs.TerminalColumns.{terminal_row};
+ghost use Rattle.room_tables_rows.specs.DivisionColumns.{division_row};
+ghost use Rattle.room_tables_rows.specs.IncidentColumns.{incident_row};
+ghost use Rattle.room_tables_rows.specs.CallColumns.{call_row};
+ghost use Rattle.room_tables_rows.specs.VehicleColumns.{vehicle_row};
+ghost use Rattle.room_tables_rows.specs.TurnColumns.{turn_row};
+ghost use Rattle.room_tables_rows.specs.AssignmentColumns.{assignment_row};
+ghost use Rattle.room_tables_rows.specs.PointColumns.{point_row};
+ghost use Rattle.room_tables_rows.specs.LoanColumns.{loan_row};
+ghost use Rattle.room_tables_rows.specs.ReportColumns.{report_row};
+ghost use Rattle.room_tables_rows.specs.OfferColumns.{offer_row};
 ghost use Rattle.sqlite_trees.specs.Tree.{Trees};
 ghost use Rattle.room_model.specs.Room.{Room};
-ghost use Rattle.room_tables_rows.specs.Stands.{House, Stands};
+ghost use Rattle.room_tables_rows.specs.Stands.{Configuration, Stands};
 
 /// The rows of every table are written faithfully.
 pub fn rows_are_faithful()
@@ -40,10 +40,10 @@ pub fn rows_are_faithful()
     ensures offers { IsFaithful callsign_cmp offer_key offer_row (1 ∷ []) }
 {}
 
-/// Tables stand for one house and one room alone.
+/// Tables stand for only one house and one room.
 pub fn tables_stand_for_one_room()
-    ensures house { (trees : Trees) (house other : House) (room another : Room)
-        → Stands trees house room → Stands trees other another → house ≡ other }
-    ensures room { (trees : Trees) (house other : House) (room another : Room)
-        → Stands trees house room → Stands trees other another → room ≡ another }
+    ensures config { (trees : Trees) (config other : Configuration) (room another : Room)
+        → Stands trees config room → Stands trees other another → config ≡ other }
+    ensures room { (trees : Trees) (config other : Configuration) (room another : Room)
+        → Stands trees config room → Stands trees other another → room ≡ another }
 {}

@@ -1,3 +1,4 @@
+//! Only the prover needs this to be a crate of its own.
 //! The rows of each table: their columns, how they are read, and the texts of the statements on
 //! them.
 //!
@@ -5,20 +6,20 @@
 //! schema that room_tables_schema writes out.
 #![tactic(auto)]
 
-pub mod areas;
-pub mod assignments;
-pub mod calls;
-pub mod columns;
-pub mod divisions;
-mod fields;
-pub mod incidents;
+pub mod area_columns;
+pub mod assignment_columns;
+pub mod call_columns;
+mod column_groups;
+pub mod column_values;
+pub mod division_columns;
+pub mod incident_columns;
 pub mod laws;
-pub mod loans;
-pub mod meta;
-pub mod offers;
-pub mod points;
-pub mod reports;
-pub mod rows;
-pub mod terminals;
-pub mod turns;
-pub mod vehicles;
+pub mod loan_columns;
+pub mod meta_columns;
+pub mod offer_columns;
+pub mod point_columns;
+pub mod report_columns;
+pub mod stored_rows;
+pub mod terminal_columns;
+pub mod turn_columns;
+pub mod vehicle_columns;

@@ -13,8 +13,8 @@ use Rattle.sqlite.specs.Effect.{Database, RefusesToAlter}
 use Rattle.sqlite.specs.State.{State, Executes, Writes, mode_of}
 use Rattle.sqlite.specs.Listing.{understood}
 use Rattle.sqlite.proofs.Callers.{runs_as, statement_of}
-use Rattle.room_tables_sql.proofs.Definitions.{create_makes, index_makes}
-use Rattle.room_tables_sql.proofs.Writes.{went_on, same_value}
+use Rattle.room_tables_laws.proofs.Definitions.{create_makes, index_makes}
+use Rattle.room_tables_laws.proofs.Writes.{went_on, same_value}
 use Rattle.room_tables_schema.specs.Schema.{first_tables, no_schema, offers_table, room_tables, room_schema}
 use Rattle.room_tables_schema.specs.Definitions.{AddsLast, Defines, Drops, Lead, Grows, IsBlank}
 

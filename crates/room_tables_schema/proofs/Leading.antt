@@ -7,10 +7,10 @@ use Rattle.sqlite_schema.specs.declared.schema.Index.{Index}
 use Rattle.sqlite_schema.specs.declared.schema.Schema.{Schema}
 use Rattle.sqlite_catalog.specs.Change.{created}
 use Rattle.sqlite.specs.Listing.{understood}
-use Rattle.room_tables_sql.specs.Statements.{Creates, Indexes}
+use Rattle.room_tables_laws.specs.Statements.{Creates, Indexes}
 use Rattle.room_tables_schema.specs.Definitions.{Drops, Lead}
 use Rattle.room_tables_schema.specs.Schema.{first_schema, first_tables, first_tables_schema, no_schema, room_tables, indexes_in, tables_schema, room_schema, meta_table, areas_table, terminals_table, divisions_table, incidents_table, calls_table, vehicles_table, turns_table, assignments_table, points_table, loans_table, reports_table, offers_table, incidents_by_state, incidents_by_opening, calls_by_incident, turns_by_incident, reports_by_outcome}
-use Rattle.room_tables_schema.specs.declared.tables.TheConstants.{FIRST_INDEXES, FIRST_KEY_INDEXES, INDEXES, KEY_INDEXES}
+use Rattle.room_tables_schema.specs.declared.schema_tables.TheConstants.{FIRST_INDEXES, FIRST_KEY_INDEXES, INDEXES, KEY_INDEXES}
 use Rattle.room_tables_schema.specs.declared.texts.TheConstants.{DEFINITIONS, TABLE_DEFINITIONS, MOVES, DROPS, META, AREAS, TERMINALS, DIVISIONS, INCIDENTS, CALLS, VEHICLES, TURNS, ASSIGNMENTS, POINTS, LOANS, REPORTS, OFFERS, INCIDENTS_BY_STATE, INCIDENTS_BY_OPENING, CALLS_BY_INCIDENT, TURNS_BY_INCIDENT, REPORTS_BY_OUTCOME, DROP_INCIDENTS_BY_STATE, DROP_INCIDENTS_BY_OPENING, DROP_CALLS_BY_INCIDENT, DROP_TURNS_BY_INCIDENT, DROP_REPORTS_BY_OUTCOME}
 
 -- a table or index as its text has it, before it has a tree

@@ -13,9 +13,9 @@ use Rattle.sqlite.specs.Listing.{understood}
 use Rattle.sqlite.proofs.Callers.{command_of}
 use Rattle.sqlite.specs.State.{State, ExecutesInside, Survives}
 use Rattle.sqlite.specs.declared.error.Error.{Error}
-use Rattle.room_tables_sql.specs.Statements.{Creates, Indexes}
-use Rattle.room_tables_schema.specs.Faults.{fault_of}
-use Rattle.room_tables_schema.specs.declared.faults.Fault.{Fault}
+use Rattle.room_tables_laws.specs.Statements.{Creates, Indexes}
+use Rattle.room_tables_schema.specs.DatabaseFaults.{fault_of}
+use Rattle.room_tables_schema.specs.declared.database_faults.Fault.{Fault}
 use Rattle.room_tables_schema.specs.Schema.{first_tables, meta_table, areas_table, terminals_table, divisions_table, incidents_table, calls_table, vehicles_table, turns_table, assignments_table, points_table, loans_table, reports_table, offers_table}
 
 -- the text drops the index at this place
@@ -50,7 +50,7 @@ pub record AddsLast (old new : Trees) : Type 0 where
   pub rows : KeepsRows first_tables old new
   pub blank : new offers_table.tree ≡ []
 
--- One of the texts failed at a state that the transaction came to, and this is the fault that tells
+-- One of the texts failed at a state that the transaction came to, and this is the fault that says
 -- of it.
 pub record FailsAt (texts : List (List ℕ)) (old mid new : State) (fault : Fault) : Type 0 where
   pub text : List ℕ

@@ -1,4 +1,4 @@
--- The tables and indexes that a room's file has, with the columns that `src/tables.rt` lists; the
+-- The tables and indexes that a room's file has, with the columns that `src/schema_tables.rt` lists; the
 -- texts that make them are proved to make just these.
 use Rattle.std.specs.Prelude.{ℕ, List, [], Bool, take, map}
 use Rattle.sqlite_schema.specs.declared.schema.Table.{Table}
@@ -6,7 +6,7 @@ use Rattle.sqlite_schema.specs.declared.schema.Index.{Index}
 use Rattle.sqlite_schema.specs.declared.schema.Schema.{Schema}
 use Rattle.room_tables_schema.specs.Forms.{column_of, table_keyed, index_of}
 use Rattle.room_tables_schema.specs.declared.forms.Rule.{Rule}
-use Rattle.room_tables_schema.specs.declared.tables.TheConstants.{META, AREAS, TERMINALS, DIVISIONS, INCIDENTS, CALLS, VEHICLES, TURNS, ASSIGNMENTS, POINTS, LOANS, REPORTS, OFFERS, INCIDENTS_BY_STATE, INCIDENTS_BY_OPENING, CALLS_BY_INCIDENT, TURNS_BY_INCIDENT, REPORTS_BY_OUTCOME, TABLES, INDEXES, KEY_INDEXES, FIRST_TABLES, FIRST_INDEXES, FIRST_KEY_INDEXES}
+use Rattle.room_tables_schema.specs.declared.schema_tables.TheConstants.{META, AREAS, TERMINALS, DIVISIONS, INCIDENTS, CALLS, VEHICLES, TURNS, ASSIGNMENTS, POINTS, LOANS, REPORTS, OFFERS, INCIDENTS_BY_STATE, INCIDENTS_BY_OPENING, CALLS_BY_INCIDENT, TURNS_BY_INCIDENT, REPORTS_BY_OUTCOME, TABLES, INDEXES, KEY_INDEXES, FIRST_TABLES, FIRST_INDEXES, FIRST_KEY_INDEXES}
 
 -- ---- what the constants of that file say, where a reference is known by what it points to
 
@@ -122,7 +122,7 @@ reports_by_outcome = index_in REPORTS_BY_OUTCOME
 abbrev pub no_schema : Schema
 no_schema = record { tables = []; indexes = []; views = [] }
 
--- of a room's tables alone
+-- of only a room's tables
 abbrev pub tables_schema : Schema
 tables_schema = record { tables = room_tables; indexes = key_indexes; views = [] }
 
@@ -130,7 +130,7 @@ tables_schema = record { tables = room_tables; indexes = key_indexes; views = []
 abbrev pub room_schema : Schema
 room_schema = record { tables = room_tables; indexes = room_indexes; views = [] }
 
--- of the first version's tables alone
+-- of only the first version's tables
 abbrev pub first_tables_schema : Schema
 first_tables_schema = record {
   tables = first_tables;

@@ -1,9 +1,9 @@
 //! Which tables a room's file has: how they are made, and how a file is tested for them.
 #![tactic(auto)]
 
-pub mod faults;
+pub mod database_faults;
 mod forms;
-pub mod making;
-mod tables;
-pub mod testing;
+mod schema_tables;
+pub mod schema_tests;
+pub mod table_creation;
 mod texts;

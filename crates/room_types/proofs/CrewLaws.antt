@@ -1,4 +1,4 @@
--- The test of a vehicle's rows tells what they agree in.
+-- The test of a vehicle's rows says what they agree in.
 use Rattle.std.proofs.Common.{ap, ◌≡◌, ℕ, Bool, true, subst, Option, Some, None, refl}
 use Rattle.std.specs.Prelude.{IfSome, is_none}
 use Rattle.std.specs.Bool.{Decides}

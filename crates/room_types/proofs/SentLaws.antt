@@ -1,4 +1,4 @@
--- The test of a vehicle's assignment and open turn tells what they agree in.
+-- The test of a vehicle's assignment and open turn says what they agree in.
 use Rattle.std.proofs.Common.{false, refl, ◌≡◌, Bool, true, Option, Some, None, ap}
 use Rattle.std.specs.Bool.{Decides}
 use Rattle.std.proofs.lemmas.Bool.{not-true}
@@ -7,7 +7,7 @@ use Rattle.std.specs.Prelude.{not}
 use Rattle.room_types.specs.declared.tables.Assignment.{Assignment}
 use Rattle.room_types.specs.declared.tables.Turn.{Turn}
 use Rattle.room_types.specs.declared.tables.Vehicle.{Vehicle}
-use Rattle.room_types.specs.Sent.{IsAssigned, IsOrdered, IsSent, OrderAgrees, PartsAgree, is_assigned, is_ordered, is_sent, order_agrees, parts_agree}
+use Rattle.room_types.specs.SentVehicles.{IsAssigned, IsOrdered, IsSent, OrderAgrees, PartsAgree, is_assigned, is_ordered, is_sent, order_agrees, parts_agree}
 use Rattle.room_types.specs.Codes.{is_busy}
 
 -- a test is its own answer
@@ -43,7 +43,7 @@ parts_decide v None (Some t) = is_ordered_decides v t
 parts_decide v (Some a) None = is_assigned_decides v a
 parts_decide v (Some a) (Some t) = is_sent_decides v a t
 
--- ---- what the agreement tells
+-- ---- what the agreement says
 pub idle_apart : (v : Vehicle) (a : Option Assignment) (t : Option Turn) → PartsAgree v a t
     → is_busy v.status ≡ false → a ≡ None
 idle_apart v None t h idle = refl

@@ -1,4 +1,4 @@
--- The test of a division's rows tells what they agree in.
+-- The test of a division's rows says what they agree in.
 use Rattle.std.proofs.Common.{true, ◌≡◌, ℕ, ◌≤◌, cond, Option, Some, None, refl, eq-eqb, arith}
 use Rattle.std.specs.Prelude.{IfSome, ◌==◌, is_some, nat_le}
 use Rattle.std.specs.List.{list_all}
@@ -58,7 +58,7 @@ parts : (d : ℕ) (s : DivisionRows)
 unfolding is_share
 parts d s = Decides-and _ _ (itself _) (Decides-and _ _ (itself _) (Decides-and _ _ (itself _) (itself _)))
 
--- what a slice's test tells
+-- what a slice's test says
 pub share_agrees : (d : ℕ) (s : DivisionRows) → is_share d s ≡ true → IsShare d s
 share_agrees d s h =
     let tests = (parts d s).0 h in

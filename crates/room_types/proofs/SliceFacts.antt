@@ -4,7 +4,7 @@ use Rattle.std.specs.Prelude.{IfSome}
 use Rattle.room_types.specs.Keys.{callsign_cmp, vehicle_key}
 use Rattle.room_types.specs.Orders.{callsigns_total, exact_callsigns}
 use Rattle.room_types.specs.Texts.{Callsign}
-use Rattle.room_types.specs.Sent.{PartsAgree}
+use Rattle.room_types.specs.SentVehicles.{PartsAgree}
 use Rattle.room_types.specs.Codes.{is_busy}
 use Rattle.room_types.specs.Slices.{IsShare, assignment_at, is_share, open_turn, vehicle_at}
 use Rattle.room_types.specs.declared.slices.DivisionRows.{DivisionRows}

@@ -1,7 +1,7 @@
 -- The rows of one vehicle, and what they agree in.
 use Rattle.std.specs.Prelude.{◌≡◌, Bool, true, ◌&&◌, Option, Some, None, IfSome, is_none}
 use Rattle.room_types.specs.Keys.{same_callsign}
-use Rattle.room_types.specs.Sent.{OrderAgrees, order_agrees}
+use Rattle.room_types.specs.SentVehicles.{OrderAgrees, order_agrees}
 use Rattle.room_types.specs.Texts.{Callsign}
 use Rattle.room_types.specs.declared.crews.CrewRows.{CrewRows}
 use Rattle.room_types.specs.declared.tables.Loan.{Loan}

@@ -4,6 +4,6 @@ pub mod Keys
 pub mod Needs
 pub mod Orders
 pub mod Refusals
-pub mod Sent
+pub mod SentVehicles
 pub mod Slices
 pub mod Texts

@@ -1,4 +1,4 @@
--- The orders of keys are total, and tell all keys apart.
+-- The orders of keys are total, and distinguish all keys.
 use Rattle.std.proofs.Common.{◌≡◌, ℕ, ap, refl, Option, Some, None}
 use Rattle.std.specs.declared.cmp.Ordering.TheVariants.{Less, Equal}
 use Rattle.std.specs.Cmp.{IsTotalOrder}

@@ -6,7 +6,7 @@ use Rattle.room_types.specs.Codes.{is_active}
 use Rattle.room_types_keyed.specs.Keyed.{row_at, keep}
 use Rattle.room_types.specs.Keys.{callsign_cmp, pair_cmp, numbered_cmp, division_key, incident_key, vehicle_key, turn_key, assignment_key, owns_division, owns_incident, owns_call, owns_vehicle, owns_turn, owns_assignment, owns_point, owns_loan, owns_offer, owns_report}
 use Rattle.room_types.specs.Texts.{Callsign}
-use Rattle.room_types.specs.Sent.{PartsAgree, parts_agree}
+use Rattle.room_types.specs.SentVehicles.{PartsAgree, parts_agree}
 use Rattle.room_types.specs.declared.slices.DivisionRows.{DivisionRows}
 use Rattle.room_types.specs.declared.tables.Assignment.{Assignment}
 use Rattle.room_types.specs.declared.tables.Division.{Division}
@@ -61,7 +61,7 @@ VehicleAgrees s c v = PartsAgree v (assignment_at c s) (open_turn v s)
 abbrev pub AssignmentAgrees : DivisionRows → Assignment → Type 0
 AssignmentAgrees s a = IfSome (incident_at a.division a.incident s) (λ i. is_active i.state ≡ true)
 
--- orders are numbered up to the vehicle's last, which alone may be open
+-- orders are numbered up to the vehicle's last, and only that one may be open
 abbrev pub IsInTurn : Turn → Option Vehicle → Type 0
 IsInTurn t None = Unit {0}
 IsInTurn t (Some v) = (t.order ≤ v.last_order) × (t.ended ≡ None → t.order ≡ v.last_order)

@@ -6,8 +6,8 @@ ghost use Rattle.std.specs.Slice.Iter.{iter_rest};
 use crate::callsign::Callsign;
 use crate::codes::{Kind, Outcome, Status};
 use crate::needs::{Counts, Needs};
-use crate::numbers::{Class, Cover, Moment, Number, PointNumber};
-use crate::tables::{Assignment, Loan, Offer};
+use crate::numbers::{Class, Cover, LastNumber, Moment, Number, PointNumber};
+use crate::tables::{Assignment, Call, Incident, Loan, Offer, Turn};
 use room_place::places::Place;
 use room_place::plans::DivisionNumber;
 use std::alloc::{AllocError, Global};
@@ -88,6 +88,26 @@ pub struct IncidentLine {
     pub calls: u64,
 }
 
+/// How many vehicles of each kind serve an incident.
+#[derive(Clone, Copy)]
+pub struct Served {
+    pub ambulances: u64,
+    pub cars: u64,
+    pub support: u64,
+}
+
+/// An incident, active or not, with all that came of it. Calls and turns stand in the order of
+/// their keys.
+#[derive(Drop)]
+pub struct History {
+    pub incident: Incident,
+    pub served: Served,
+    /// The calls that belong to it now.
+    pub calls: Listed<Call>,
+    /// The turns of the vehicles that were sent to it.
+    pub turns: Listed<Turn>,
+}
+
 /// A vehicle that may be sent to an incident.
 #[derive(Clone, Copy)]
 pub struct Proposal {
@@ -164,10 +184,11 @@ pub enum Answer {
     /// Division, incident, and whether the call was linked.
     Called(DivisionNumber, Number, bool),
     Incidents(Listed<IncidentLine>),
+    Incident(History),
     Proposals(Listed<Proposal>),
     /// The order's number and the vehicle.
     Mobilised(Number, Callsign),
-    /// The request was carried out, and there is nothing to tell.
+    /// The request was carried out, and there is nothing to show.
     Done,
     Vehicles(Listed<VehicleLine>),
     Queue(Listed<Entry>),
@@ -179,4 +200,8 @@ pub enum Answer {
     Order(Option<Assignment>, Option<PointNumber>, Status),
     /// The report's number, what became of it, and the status after it.
     Reported(Number, Outcome, Status),
+    /// The greatest number of the crew's reports, and of its orders; 0 where there is none.
+    LastReport(LastNumber, LastNumber),
+    /// The greatest serial of the position's calls; 0 where there is none.
+    LastSerial(LastNumber),
 }

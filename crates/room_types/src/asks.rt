@@ -57,6 +57,8 @@ pub struct Press {
 pub enum Ask {
     Call(CallForm),
     Incidents,
+    /// An incident's history.
+    Incident(Number),
     /// Proposals for an incident.
     Propose(Number),
     /// A vehicle for an incident.
@@ -92,6 +94,8 @@ pub enum Ask {
     Times(i64, i64),
     Order,
     Report(Press),
+    /// The last numbers of who asks: a crew or a position.
+    Last,
 }
 
 /// An ask, with its terminal and its moment.

@@ -2,10 +2,10 @@
 ghost use Rattle.std.specs.Prelude.{◌≡◌, true};
 ghost use Rattle.room_types.specs.Crews.{is_crew, is_own_loan, is_own_turn, passes};
 
-use crate::sent::order_agrees;
+use crate::sent_vehicles::order_agrees;
 use crate::tables::{Loan, Turn, Vehicle};
 
-/// A vehicle with its open turn and its loan. Whether it is offered its status tells.
+/// A vehicle with its open turn and its loan. Its status says whether it is offered.
 #[derive(Clone, Copy)]
 pub struct CrewRows {
     pub vehicle: Vehicle,

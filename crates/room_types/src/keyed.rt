@@ -199,7 +199,7 @@ impl Row for Report {
     }
 }
 
-/// An entry is its own key, so that rows of entries are a set in order. No division owns it alone.
+/// An entry is its own key, so that rows of entries are a set in order. It is not one division's.
 impl Row for Entry {
     type Key = Entry;
 

@@ -16,7 +16,7 @@ pub mod note;
 pub mod numbers;
 pub mod refusals;
 pub mod rows;
-pub mod sent;
+pub mod sent_vehicles;
 pub mod slices;
 pub mod tables;
 pub mod text;

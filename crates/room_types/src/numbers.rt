@@ -1,5 +1,5 @@
 //! The whole numbers of the room, each with its range in its type.
-use room_place::bounded::Bounded;
+use room_place::bounded_numbers::Bounded;
 
 /// A call taker's position: 1 to 99.
 pub type PositionNumber = Bounded<1, 99>;

@@ -93,25 +93,25 @@ impl Refusal {
     pub fn number(&self) -> u8
         ensures { result ≡ refusal_number self.now }
     {
-        self.told().0
+        self.number_status_name().0
     }
 
     /// The HTTP status of the answer (RFC 9110, section 15).
     pub fn status(&self) -> u16
         ensures { result ≡ refusal_status self.now }
     {
-        self.told().1
+        self.number_status_name().1
     }
 
     /// The name of the refusal, as its variant is named.
     pub fn name(&self) -> &'static str
         ensures { result.now ≡ refusal_name self.now }
     {
-        self.told().2
+        self.number_status_name().2
     }
 
     // Number, status and name.
-    fn told(&self) -> (u8, u16, &'static str)
+    fn number_status_name(&self) -> (u8, u16, &'static str)
         ensures { told self.now ≡ record {
           number = result.0;
           status = result.1;

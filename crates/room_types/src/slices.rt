@@ -7,7 +7,7 @@ ghost use Rattle.room_types.specs.Slices.{is_share, are_owned, vehicle_agrees, a
 
 use crate::numbers::Number;
 use crate::rows::{Row, Rows};
-use crate::sent::parts_agree;
+use crate::sent_vehicles::parts_agree;
 use crate::tables::{
     Assignment, Call, Division, Incident, Loan, Offer, Point, Report, Turn, Vehicle,
 };
@@ -75,7 +75,7 @@ impl DivisionRows {
         }
     }
 
-    // Each of the three is asked before the `&&`, since it also tells that its rows are in order.
+    // Each of the three is asked before the `&&`, since it also says that its rows are in order.
     #[tactic(auto, unfolding(crate::specs::Slices::is_share))]
     fn are_share_of(&self, division: DivisionNumber) -> bool
         ensures test { result ≡ is_share division self.now }

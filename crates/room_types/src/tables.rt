@@ -15,7 +15,7 @@ pub struct Division {
     pub last_incident: LastNumber,
 }
 
-/// An event that calls told of, and that vehicles are sent to.
+/// An event that calls report, and that vehicles are sent to.
 #[derive(Clone, Copy)]
 pub struct Incident {
     pub division: DivisionNumber,

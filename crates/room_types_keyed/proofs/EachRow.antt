@@ -1,4 +1,4 @@
--- A test of all rows tells what holds of the row at each key.
+-- A test of all rows says what holds of the row at each key.
 use Rattle.std.proofs.Common.{◌≡◌, Bool, true, false, cond, ◌&&◌, List, [], ◌∷◌, Some, refl, sym, ap, ◌∙◌, subst}
 use Rattle.std.specs.Prelude.{IfSome}
 use Rattle.std.specs.Bool.{Decides}
@@ -19,7 +19,7 @@ module _ {R K : Type 0} (cmp : K → K → Ordering) (key : R → K) (total : Is
 
   module _ (p : R → Bool) (P : K → R → Type 0)
       (decides : (x : R) → Decides (p x) (P (key x) x)) where
-    -- all rows pass, so what that tells holds of the row at each key
+    -- all rows pass, so what that says holds of the row at each key
     pub at_each_key : (xs : List R) → list_all p xs ≡ true → (k : K)
         → IfSome (row_at cmp key xs k) (P k)
     at_each_key [] h k = tt

@@ -46,7 +46,7 @@ module _ {R K : Type 0} (cmp : K → K → Ordering) (key : R → K) where
         let rest = sorted (y ∷ xs) s.1 i d (omega arith) (omega arith) in
         rw add-one (rw add-one at rest)
 
-    -- a place with the key comes after lower keys alone
+    -- a place with the key comes after only lower keys
     at_found : (xs : List R) (k : K) (i : ℕ) → IsKeyed cmp key xs → i < length xs
         → HoldsAt (λ y. cmp (key y) k ≡ Equal) xs i → IsAt cmp key xs k i
     at_found [] k i s l h = absurd (omega arith)

@@ -1,5 +1,5 @@
 use Rattle.std.specs.Prelude.{refl}
-use Rattle.room_model_examples.specs.Computing.{machine}
+use Rattle.room_model_examples.specs.ComputedDefinitions.{machine}
 use Rattle.room_model_examples.proofs.queue_examples.Goals as goal
 
 pub returns : goal.returns

@@ -6,7 +6,7 @@ pub returns : goal.returns
 returns c =
     on_ok_weaker c.put_table-6.result
     (λ loans heard colour empty. record {
-      empty = c.args.sheet.now;
+      empty = c.args.renderer.now;
       is_empty = empty;
       head = c.put_moment.new.self;
       is_head = c.in_ok-put_moment.ensures;
@@ -14,8 +14,8 @@ returns c =
       is_queue = c.in_ok-put_table.ensures;
       incidents = c.put_table-2.new.self;
       is_incidents = c.in_ok-put_table-2.ensures;
-      proposals = c.put_proposals.new.self;
-      is_proposals = c.in_ok-put_proposals.ensures;
+      incident = c.put_incident.new.self;
+      is_incident = c.in_ok-put_incident.ensures;
       vehicles = c.put_table-3.new.self;
       is_vehicles = c.in_ok-put_table-3.ensures;
       points = c.put_table-4.new.self;

@@ -3,6 +3,6 @@ use Rattle.std.proofs.lemmas.Result.{on_ok_weaker}
 use Rattle.dispatch_room_board.specs.Requests.{get}
 use Rattle.dispatch_room_board.proofs.requests.put_proposals.Goals as goal
 
-pub returns-in-Some : goal.returns-in-Some
+pub returns : goal.returns
 unfolding get
-returns-in-Some c = on_ok_weaker c.write.result (λ h. h ∙ rw (c.in-Some.is, c.get-number.ensures.value) (simp append_assoc)) c.write.ensures.bytes
+returns c = on_ok_weaker c.write.result (λ h. h ∙ rw c.get-number.ensures.value (simp append_assoc)) c.write.ensures.bytes

@@ -1,17 +1,14 @@
-use Rattle.std.proofs.Common.{◌≡◌, ◌∙◌, List, ℕ, ◌++◌, append_assoc}
 use Rattle.std.proofs.lemmas.Result.{on_ok_weaker}
 use Rattle.dispatch_room_board.specs.Requests.{last_get, requests_with}
+use Rattle.dispatch_room_board.proofs.Growing.{one_more}
 use Rattle.dispatch_room_board.proofs.requests.put_requests.Goals as goal
-
-one_more : {b c : List ℕ} (a xs ys : List ℕ) → b ≡ a ++ xs → c ≡ b ++ ys → c ≡ a ++ (xs ++ ys)
-one_more a xs ys first second = second ∙ rw first (append_assoc a xs ys)
 
 pub returns : goal.returns
 unfolding requests_with last_get
 returns c =
     let incidents = one_more _ _ _ c.in_ok-put_get.ensures c.in_ok-put_get-2.ensures in
-    let proposals = one_more _ _ _ incidents c.in_ok-put_proposals.ensures in
-    let vehicles = one_more _ _ _ proposals c.in_ok-put_get-3.ensures in
+    let incident = one_more _ _ _ incidents c.in_ok-put_incident.ensures in
+    let vehicles = one_more _ _ _ incident c.in_ok-put_get-3.ensures in
     let points = one_more _ _ _ vehicles c.in_ok-put_get-4.ensures in
     let offers = one_more _ _ _ points c.in_ok-put_get-5.ensures in
     on_ok_weaker c.write.result (λ h. one_more _ _ _ offers h) c.write.ensures.bytes

@@ -20,7 +20,7 @@ use Rattle.sqlite.proofs.OpenLemmas.{pool_files}
 use Rattle.dispatch_room_disk.specs.NewFiles.{IsSpared, small_page}
 use Rattle.dispatch_room_disk.proofs.new_files.begin.Goals as goal
 
--- what is refused as no new file alone was made where the file was a new one
+-- what is refused only as no new file was made where the file was a new one
 once_made : (made : Result Unit Error) (faults : ℕ) (end : End) (New P : Type 0) → IfErr made (λ error. error ≡ Corrupt)
     → IfErr made (FailsUnless faults end New) → New → OnOk made P → P
 once_made (Ok done) faults end New P no_other cause new is = is

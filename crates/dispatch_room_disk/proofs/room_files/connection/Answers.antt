@@ -5,6 +5,6 @@ returns-in-Ok-clause-found g c clean =
     let said = c.in-Ok.ensures in
     record { is_open = said.opened clean; finds = said.found clean; guarded = said.guarded clean }
 
-pub returns-clause-unharmed : goal.returns-clause-unharmed
-returns-clause-unharmed g c =
-    record { error = c.in-Err.error; told = c.fault_of.ensures; left = c.in-Err.field-0-1; kept = c.in-Err.ensures.unharmed }
+pub returns-in-Err-clause-unharmed : goal.returns-in-Err-clause-unharmed
+returns-in-Err-clause-unharmed g c =
+    record { error = c.in-Err.error; told = c.fault_of.ensures; left = c.in-Err.left; kept = c.in-Err.ensures.unharmed }

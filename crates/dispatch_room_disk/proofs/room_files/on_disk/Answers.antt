@@ -4,7 +4,7 @@ use Rattle.sqlite.specs.Held.{Held}
 use Rattle.sqlite_disk.specs.declared.Disk.{Ghosts}
 use Rattle.sqlite_store.specs.declared.store.FileStore.{FileStore}
 use Rattle.dispatch_room_disk.specs.RoomFiles.{IsCopiedOut, IsDone, IsUnclosed, IsUndone, Refusing, Saying}
-use Rattle.dispatch_room_endings.specs.declared.endings.Failure.{Failure}
+use Rattle.dispatch_room_exit.specs.declared.exit_status.Failure.{Failure}
 use Rattle.dispatch_room_disk.proofs.room_files.on_disk.Goals as goal
 
 module _ {D T : Type 0} {g : Ghosts D} (says : Saying T) (conn : Held (FileStore D g)) (before after : Option (List ℕ)) where
@@ -35,9 +35,9 @@ module _ {D T : Type 0} {g : Ghosts D} (says : Saying T) (conn : Held (FileStore
 pub returns-clause-done : goal.returns-clause-done
 returns-clause-done g c =
     let said = c.closed.ensures in
-    done_by (g.W.Work.says c.args.work) c.args.conn _ _ c.run.result c.closed.result c.run.ensures.done said.room said.done said.copied
+    done_by (g.W.RoomTask.says c.args.work) c.args.conn _ _ c.run.result c.closed.result c.run.ensures.done said.room said.done said.copied
 
 pub returns-clause-undone : goal.returns-clause-undone
 returns-clause-undone g c =
     let said = c.closed.ensures in
-    undone_by (g.W.Work.says c.args.work) c.args.conn _ _ (g.W.Work.refuses c.args.work) c.run.result c.closed.result c.run.ensures.done c.run.ensures.refused said.fault said.none
+    undone_by (g.W.RoomTask.says c.args.work) c.args.conn _ _ (g.W.RoomTask.refuses c.args.work) c.run.result c.closed.result c.run.ensures.done c.run.ensures.refused said.fault said.none

@@ -3,7 +3,7 @@ use Rattle.dispatch_room_serving.proofs.ConnectionLaws.{attended_more, ends_afte
 use Rattle.dispatch_room_serving.proofs.connections.serve_each.Goals as goal
 
 pub loop-connection-init : goal.loop-connection-init
-loop-connection-init g c = record { ready = c.requires.ready; served = served_none g.S.Store c.args.zone.now _ _ _ }
+loop-connection-init g c = record { ready = c.requires.ready; served = served_none g.S.Store c.args.setting.now _ _ _ }
 
 pub returns-in-Err-clause-served : goal.returns-in-Err-clause-served
 returns-in-Err-clause-served g c =
@@ -12,9 +12,9 @@ returns-in-Err-clause-served g c =
     let within : length before.calls < c.args.connections = omega (arith, before.counted, c.loop-connection-test.true) in
     record {
       calls = before.calls ++ next.call ∷ [];
-      attended = attended_more g.S.Store c.args.zone.now _ _ before.calls (next.call ∷ []) _ _ _ before.attended next.attended;
+      attended = attended_more g.S.Store c.args.setting.now _ _ before.calls (next.call ∷ []) _ _ _ before.attended next.attended;
       ends = ends_after before.calls next.call c.args.connections c.in-Err.fault before.go_on within (sym c.in-Err.is ∙ next.ends);
-      kept = kept_ending g.S.Store c.args.zone.now _ _ next.call _ _ _ _ before next.attended;
+      kept = kept_ending g.S.Store c.args.setting.now _ _ next.call _ _ _ _ before next.attended;
     }
 
 pub loop-connection-preserved : goal.loop-connection-preserved

@@ -1,18 +1,18 @@
-use Rattle.room_store.specs.Keeping.{IsReady}
+use Rattle.room_store.specs.StoredRoom.{IsReady}
 use Rattle.dispatch_room_serving.specs.Connections.{HasServed}
 use Rattle.dispatch_room_serving.proofs.connections.serve_each.Given as goal
 
 abbrev pub invariant-loop-connection : goal.invariant-loop-connection
 invariant-loop-connection g l = record {
   ready : IsReady g.S.Store l.room;
-  served : HasServed g.S.Store l.zone g.N.Witness.came g.N.Witness.told
+  served : HasServed g.S.Store l.setting g.N.Observer.came g.N.Observer.told
       (record {
         heard = g.P.Callers.heard l.initial.callers;
         told = g.P.Callers.told l.initial.callers;
         stage = record {
           given = g.C.Clock.given l.initial.clock;
-          kept = g.N.Witness.held l.initial.witness;
-          has_failed = g.N.Witness.has_failed l.initial.witness;
+          kept = g.N.Observer.held l.initial.observer;
+          has_failed = g.N.Observer.has_failed l.initial.observer;
           store = l.initial.room;
         };
       })
@@ -21,8 +21,8 @@ invariant-loop-connection g l = record {
         told = g.P.Callers.told l.callers;
         stage = record {
           given = g.C.Clock.given l.clock;
-          kept = g.N.Witness.held l.witness;
-          has_failed = g.N.Witness.has_failed l.witness;
+          kept = g.N.Observer.held l.observer;
+          has_failed = g.N.Observer.has_failed l.observer;
           store = l.room;
         };
       })

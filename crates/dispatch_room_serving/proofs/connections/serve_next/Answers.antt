@@ -5,7 +5,7 @@ use Rattle.dispatch_room_serving.proofs.connections.serve_next.Goals as goal
 
 pub returns-in_default-clause-attended : goal.returns-in_default-clause-attended
 returns-in_default-clause-attended g c =
-    attends_next g.S.Store c.args.zone.now _ _ None _ _ _ (attended_nothing g.S.Store c.args.zone.now _ _ _ _ c.in_default.ensures.heard c.in_default.ensures.told refl) refl
+    attends_next g.S.Store c.args.setting.now _ _ None _ _ _ (attended_nothing g.S.Store c.args.setting.now _ _ _ _ c.in_default.ensures.heard c.in_default.ensures.told refl) refl
 
 pub returns-clause-attended : goal.returns-clause-attended
 returns-clause-attended g c =
@@ -24,25 +24,25 @@ returns-clause-attended g c =
         read_ended = g.P.Reader.Source.has_ended c.serve-end.new.reader;
         write_failed = g.P.Writer.Sink.has_failed c.serve-end.new.writer;
         was_none = g.C.Clock.was_none c.serve-end.new.clock;
-        witness_failed = g.N.Witness.has_failed c.serve-end.new.witness;
+        observer_failed = g.N.Observer.has_failed c.serve-end.new.observer;
       };
       course = c.serve-end.ensures.run.course;
       unread = g.P.Reader.Source.left c.serve-end.new.reader;
       end = c.serve-end.result;
       from = c.args.room.now;
       store = c.serve-end.new.room;
-      kept = g.N.Witness.held c.args.witness.now;
-      keeps = g.N.Witness.held c.serve-end.new.witness;
-      had_failed = g.N.Witness.has_failed c.args.witness.now;
+      kept = g.N.Observer.held c.args.observer.now;
+      keeps = g.N.Observer.held c.serve-end.new.observer;
+      had_failed = g.N.Observer.has_failed c.args.observer.now;
     } in
-    attends_next g.S.Store c.args.zone.now _ _ (Some talk) _ _ _
-    (attended_one g.S.Store c.args.zone.now _ _ talk _ _ (rw c.done.ensures.heard c.in-Some.ensures.heard) (rw c.in-Some.ensures.told at c.done.ensures.told) (refl {a = stage_after talk})
+    attends_next g.S.Store c.args.setting.now _ _ (Some talk) _ _ _
+    (attended_one g.S.Store c.args.setting.now _ _ talk _ _ (rw c.done.ensures.heard c.in-Some.ensures.heard) (rw c.in-Some.ensures.told at c.done.ensures.told) (refl {a = stage_after talk})
     (record {
       begins = refl;
       reads = c.serve-end.ensures.reads;
       talk = c.serve-end.ensures.run.talk;
       none_missed = c.serve-end.ensures.none_missed;
-      witnessed = c.serve-end.ensures.run.witnessed;
+      observed = c.serve-end.ensures.run.observed;
       failed = c.serve-end.ensures.failed;
       same_zone = c.serve-end.ensures.zone;
       trusted = c.serve-end.ensures.trusted;

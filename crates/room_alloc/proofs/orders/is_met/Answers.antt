@@ -1,7 +1,7 @@
 use Rattle.std.proofs.Common.{ap, refl, ◌≡◌, ◌-◌, ◌∙◌}
 use Rattle.room_types.specs.Needs.{need_of}
 use Rattle.room_model.specs.Queries.{served}
-use Rattle.room_model.specs.Slices.{room_of}
+use Rattle.room_model.specs.RoomSlices.{room_of}
 use Rattle.room_alloc.proofs.OrderLaws.{met}
 use Rattle.room_alloc.proofs.orders.is_met.Goals as goal
 

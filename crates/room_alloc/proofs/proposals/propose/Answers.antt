@@ -1,5 +1,5 @@
 use Rattle.std.proofs.Common.{rules, ◌∙◌}
-use Rattle.room_model.specs.Slices.{room_of}
+use Rattle.room_model.specs.RoomSlices.{room_of}
 use Rattle.room_alloc.proofs.ProposedLaws.{for_incident, told}
 use Rattle.room_alloc.proofs.proposals.propose.Goals as goal
 
@@ -11,4 +11,4 @@ returns-clause-decides c plan =
 pub returns-clause-first : goal.returns-clause-first
 returns-clause-first c plan i there =
     let slice = c.args.slice.now in
-    for_incident slice.division c.args.number c.args.at (room_of plan slice.rows) (c.in_order.ensures plan) i c.show.result there (returns-clause-decides c plan)
+    for_incident slice.division c.args.number c.args.at (room_of plan slice.rows) (c.lemma_in_order.ensures plan) i c.show.result there (returns-clause-decides c plan)

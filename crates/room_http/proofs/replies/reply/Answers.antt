@@ -3,9 +3,9 @@ use Rattle.std.specs.Prelude.{IfOk, MatchResult, OnErr, OnOk}
 use Rattle.room_types.specs.declared.fleet.Terminal.{Terminal}
 use Rattle.room_types.specs.declared.refusals.Refusal.{Refusal}
 use Rattle.room_model.specs.Room.{Room}
-use Rattle.room_http_answers.specs.Replies.{IsReply}
-use Rattle.room_http_time.specs.declared.zones.Zone.{Zone}
-use Rattle.room_service.specs.Rooms.{Step}
+use Rattle.room_http_answers.specs.ReplyMessages.{IsReply}
+use Rattle.room_http.specs.declared.settings.Setting.{Setting}
+use Rattle.room_model.specs.Rooms.{Step}
 use Rattle.room_http.specs.declared.arrivals.Arrived.{Arrived}
 use Rattle.room_http.specs.declared.arrivals.Arrived.TheVariants.{Refused}
 use Rattle.room_http.specs.Arrivals.{Arrival, IsShown, is_closing, is_head_only, message, refused}
@@ -28,15 +28,15 @@ returns-in-Err-clause-keeps g c =
       left = λ trust. (either_way {P = Unit {0}} c.refused-in-Err.result tt (λ was terminals room stood o shown. inl (looks.left trust was terminals room stood))).1;
     }
 
--- what is refused in the place of a message is told, and the room stays
-told : (step : Step) (zone : Zone) (terminals : List Terminal) (room : Room) (arrived : Arrived)
+-- what is refused in the place of a message is reported, and the room stays
+told : (step : Step) (setting : Setting) (terminals : List Terminal) (room : Room) (arrived : Arrived)
     (r : Refusal) (without head_only closing : Bool) (at : ℕ) (bytes : List ℕ) (o : Arrival)
     → arrived ≡ Refused r without → IsShown arrived o
     → head_only ≡ is_head_only o → closing ≡ is_closing o
     → IsReply (Err r) at head_only closing bytes
-    → IsReplyTo step zone terminals room (o, at) room bytes
-told step zone terminals room arrived r without head_only closing at bytes (message m) is shown headless closes says = absurd (rw is at shown)
-told step zone terminals room arrived r without head_only closing at bytes (refused s other) is shown headless closes says =
+    → IsReplyTo step setting terminals room (o, at) room bytes
+told step setting terminals room arrived r without head_only closing at bytes (message m) is shown headless closes says = absurd (rw is at shown)
+told step setting terminals room arrived r without head_only closing at bytes (refused s other) is shown headless closes says =
     let same = rw is at shown in (Err r, ap Err same.0, refl, rw (headless, closes) at says)
 
 if_told : {T E Q : Type 0} {P R : T → Type 0} (r : Result T E) → IfOk r P
@@ -51,7 +51,7 @@ returns-in-Refused-clause-reply g c = record {
   says = λ trust terminals room stood. if_told c.refused.result c.refused.ensures.ok
       (λ bytes says o shown. (
         room,
-        told g.M.Room.step c.args.zone.now terminals room c.args.arrived.now c.in-Refused.refusal c.in-Refused.head_only _ _ c.args.at bytes.items o c.in-Refused.is shown
+        told g.M.Room.step c.args.setting.now terminals room c.args.arrived.now c.in-Refused.refusal c.in-Refused.head_only _ _ c.args.at bytes.items o c.in-Refused.is shown
             (c.head_only-head_only.ensures o shown) (c.is_closing-closing.ensures o shown) says,
         stood,
       )) stood;

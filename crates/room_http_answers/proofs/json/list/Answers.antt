@@ -11,7 +11,7 @@ use Rattle.room_http_answers.proofs.json.list.Goals as goal
 pub returns : goal.returns
 unfolding Sends
 returns g c =
-    let json = g.T.Tell.json in
+    let json = g.T.ToJson.json in
     let items = c.args.items.now in
     let first = g.S.Serializer.written c.begin_seq.new.self in
     let end = g.S.Serializer.written c.end_seq.new.self in

@@ -4,8 +4,8 @@ use Rattle.serde_json.specs.Events.{SendsItems}
 use Rattle.serde_json.specs.View.{items_of}
 use Rattle.room_http_answers.proofs.json.list.Given as goal
 
--- what ends the list well after the items that are told ends the whole list well
+-- what ends the list well after the items that are written ends the whole list well
 abbrev pub invariant-loop-item : goal.invariant-loop-item
 invariant-loop-item g l =
-    (end : Log) → SendsItems (items_of (map g.T.Tell.json (drop l.item-index l.items))) (g.S.Serializer.written l.out) end
-    → SendsItems (items_of (map g.T.Tell.json l.items)) (g.S.Serializer.written l.initial.out) end
+    (end : Log) → SendsItems (items_of (map g.T.ToJson.json (drop l.item-index l.items))) (g.S.Serializer.written l.out) end
+    → SendsItems (items_of (map g.T.ToJson.json l.items)) (g.S.Serializer.written l.initial.out) end

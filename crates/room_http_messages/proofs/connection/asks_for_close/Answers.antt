@@ -1,5 +1,5 @@
 use Rattle.std.proofs.Common.{◌∙◌, sym}
-use Rattle.room_http_messages.specs.Connection.{is_close_field}
+use Rattle.room_http_messages.specs.ConnectionOptions.{is_close_field}
 use Rattle.room_http_messages.proofs.FieldLemmas.{some_field}
 use Rattle.room_http_messages.proofs.connection.asks_for_close.Goals as goal
 

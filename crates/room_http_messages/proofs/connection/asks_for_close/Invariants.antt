@@ -1,6 +1,6 @@
 use Rattle.std.proofs.Common.{◌≡◌, map, take, false}
 use Rattle.httparse.specs.Spans.{header_bytes}
-use Rattle.room_http_messages.specs.Connection.{asks_for_close}
+use Rattle.room_http_messages.specs.ConnectionOptions.{asks_for_close}
 use Rattle.room_http_messages.proofs.connection.asks_for_close.Given as goal
 
 abbrev pub invariant-loop-header : goal.invariant-loop-header

@@ -1,7 +1,7 @@
 use Rattle.std.proofs.Common.{rules, tests}
 use Rattle.std.proofs.lemmas.Iterator.Search.{any_from_yields_List}
 use Rattle.std.proofs.lemmas.Iterator.Splits.{YieldsList-from_slice_split}
-use Rattle.room_http_messages.specs.Connection.{has_option, is_comma, is_option}
+use Rattle.room_http_messages.specs.ConnectionOptions.{has_option, is_comma, is_option}
 use Rattle.room_http_messages.proofs.connection.has_option.Goals as goal
 
 pub returns : goal.returns

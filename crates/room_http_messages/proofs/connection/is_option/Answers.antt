@@ -1,7 +1,7 @@
 use Rattle.std.proofs.lemmas.Slice.Eq.{bytes_eq-Decides}
 use Rattle.httparse.specs.Grammar.{trim_ows}
-use Rattle.room_http_messages.specs.Fields.{lower}
-use Rattle.room_http_messages.specs.Connection.{is_option}
+use Rattle.room_http_messages.specs.HeadFields.{lower}
+use Rattle.room_http_messages.specs.ConnectionOptions.{is_option}
 use Rattle.room_http_messages.proofs.FieldLemmas.{same_test}
 use Rattle.room_http_messages.proofs.connection.is_option.Goals as goal
 

@@ -4,6 +4,10 @@ use Rattle.room_http_requests.specs.Paths.{path_at, table, with_path}
 use Rattle.room_http_requests.specs.Targets.{target_of}
 use Rattle.room_http_requests.proofs.laws.paths_take_methods.Goals as goal
 
-pub returns : goal.returns
+pub returns-clause-plain : goal.returns-clause-plain
 unfolding target_of path_at table with_path matchit_on_literals
-returns c = refl
+returns-clause-plain c = refl
+
+pub returns-clause-history : goal.returns-clause-history
+unfolding target_of path_at table with_path matchit_on_literals
+returns-clause-history c = refl

@@ -3,7 +3,7 @@ use Rattle.room_types.specs.declared.tables.Incident.{Incident}
 use Rattle.room_model.specs.Calls.{call_in, call_taken}
 use Rattle.room_model.specs.Decisions.{Decides}
 use Rattle.room_model.specs.Queries.{last_number}
-use Rattle.room_model.specs.Slices.{room_of}
+use Rattle.room_model.specs.RoomSlices.{room_of}
 use Rattle.room_incident.proofs.calls.take_call.Goals as goal
 
 pub returns-in-Some-clause-decides : goal.returns-in-Some-clause-decides

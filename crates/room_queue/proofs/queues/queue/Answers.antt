@@ -2,7 +2,7 @@ use Rattle.std.proofs.Common.{ap, subst, sym, ◌∙◌}
 use Rattle.std.specs.Prelude.{Ok}
 use Rattle.room_types.specs.declared.decisions.Decision.{Decision}
 use Rattle.room_model.specs.Queue.{IsQueueOf, entries}
-use Rattle.room_model.specs.Slices.{room_of}
+use Rattle.room_model.specs.RoomSlices.{room_of}
 use Rattle.room_queue.proofs.QueueAnswers.{same_queue, shown}
 use Rattle.room_queue.proofs.queues.queue.Goals as goal
 

@@ -1,5 +1,5 @@
 use Rattle.std.proofs.Common.{ap, ◌∙◌}
-use Rattle.room_queue.specs.Seen.{with_held, with_sent}
+use Rattle.room_queue.specs.QueueEntries.{with_held, with_sent}
 use Rattle.room_queue.proofs.SeenLaws.{seen_all}
 use Rattle.room_queue.proofs.queues.seen.Goals as goal
 
@@ -9,5 +9,5 @@ returns c plan =
     let s = c.args.slice.now.rows in
     let at = c.args.at in
     let served = c.args.served.now in
-    c.in_ok-note_held.ensures ∙ (ap (with_held d at s) (c.in_ok-note_sent.ensures ∙ ap (with_sent d at served s) c.new-seen.ensures.items)
+    c.in_ok-push_held.ensures ∙ (ap (with_held d at s) (c.in_ok-push_sent.ensures ∙ ap (with_sent d at served s) c.new-seen.ensures.items)
     ∙ seen_all d at plan s c.args.slice.now.agrees c.as_slice-vehicles.ensures.keyed c.as_slice-points.ensures.keyed c.as_slice-turns.ensures.keyed served c.requires)

@@ -1,7 +1,7 @@
 use Rattle.std.proofs.Common.{refl, [], ◌∷◌, ◌++◌}
 use Rattle.room_http_messages.proofs.StreamLemmas.{Appends-none}
-use Rattle.dispatch_room_journal.specs.Records.{status_in}
-use Rattle.dispatch_room_serving.specs.Logged.{request_of}
+use Rattle.dispatch_room_journal.specs.JournalRecords.{status_in}
+use Rattle.dispatch_room_serving.specs.LoggedLines.{request_of}
 use Rattle.dispatch_room_serving.specs.Logs.{line_text}
 use Rattle.dispatch_room_serving.proofs.logs.Log.put.Goals as goal
 

@@ -4,7 +4,7 @@ use Rattle.sqlite.specs.Held.{state}
 use Rattle.sqlite.specs.State.{HasCleanDisk}
 use Rattle.room_model.proofs.OneStep.{decided_alike}
 use Rattle.room_model.specs.Decisions.{answer_of}
-use Rattle.room_store_writes.specs.Houses.{house_of}
+use Rattle.room_store_writes.specs.Houses.{config_of}
 use Rattle.room_store.proofs.StoreLaws.{event_survives, for_room, ready_schema, ready_sound, room_moved, settled_kept}
 use Rattle.room_store.proofs.LookLaws.{left_same, left_then, survives_read}
 use Rattle.room_store_writes.proofs.CommitLaws.{unchanged_survives}
@@ -13,7 +13,7 @@ use Rattle.room_store.proofs.store.Store.act.Goals as goal
 pub returns-in-Ok-clause-bytes : goal.returns-in-Ok-clause-bytes
 returns-in-Ok-clause-bytes g c clean terminals room is addressed =
     let old = c.args.self.now in
-    c.in-Ok.ensures.bytes clean (house_of old.plan terminals) room (for_room g.S.Store old old c.args.event.now terminals room is addressed (c.in-Ok.ensures.ok clean).was_open)
+    c.in-Ok.ensures.bytes clean (config_of old.plan terminals) room (for_room g.S.Store old old c.args.event.now terminals room is addressed (c.in-Ok.ensures.ok clean).was_open)
 
 pub returns-in-Ok-clause-apart : goal.returns-in-Ok-clause-apart
 returns-in-Ok-clause-apart g c clean terminals room other is addressed formed agree =
@@ -21,8 +21,8 @@ returns-in-Ok-clause-apart g c clean terminals room other is addressed formed ag
 
 pub returns-in-Ok-clause-ok : goal.returns-in-Ok-clause-ok
 returns-in-Ok-clause-ok g c clean terminals room is addressed =
-    room_moved g.S.Store c.args.self.now (record c.args.self.now { conn = c.act_on.new.conn; cache = c.act_on.new.cache }) c.args.event.now terminals room is addressed c.know_number.ensures refl refl
-    (c.in-Ok.ensures.cache clean (house_of c.args.self.now.plan terminals) room (for_room g.S.Store c.args.self.now c.args.self.now c.args.event.now terminals room is addressed (c.in-Ok.ensures.ok clean).was_open))
+    room_moved g.S.Store c.args.self.now (record c.args.self.now { conn = c.act_on.new.conn; cache = c.act_on.new.cache }) c.args.event.now terminals room is addressed c.lemma_numbered.ensures refl refl
+    (c.in-Ok.ensures.cache clean (config_of c.args.self.now.plan terminals) room (for_room g.S.Store c.args.self.now c.args.self.now c.args.event.now terminals room is addressed (c.in-Ok.ensures.ok clean).was_open))
     (c.in-Ok.ensures.ok clean)
 
 pub returns-in-Ok-clause-survives : goal.returns-in-Ok-clause-survives

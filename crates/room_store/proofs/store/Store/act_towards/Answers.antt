@@ -1,7 +1,7 @@
 use Rattle.std.proofs.Common.{arith, inr, refl}
 use Rattle.sqlite.specs.Held.{state}
 use Rattle.sqlite.specs.State.{HasCleanDisk}
-use Rattle.room_store_writes.specs.Houses.{house_of}
+use Rattle.room_store_writes.specs.Houses.{config_of}
 use Rattle.room_store.proofs.StoreLaws.{event_survives, for_room, ready_schema, ready_sound, room_moved}
 use Rattle.room_store.proofs.LookLaws.{left_same, left_then, survives_read}
 use Rattle.room_store_writes.proofs.CommitLaws.{unchanged_survives}
@@ -10,15 +10,15 @@ use Rattle.room_store.proofs.store.Store.act_towards.Goals as goal
 pub returns-in-Ok-clause-bytes : goal.returns-in-Ok-clause-bytes
 returns-in-Ok-clause-bytes g c clean terminals room is addressed =
     let old = c.args.self.now in
-    c.in-Ok.ensures.bytes clean (house_of old.plan terminals) room (for_room g.S.Store old old c.args.event.now terminals room is addressed (c.in-Ok.ensures.ok clean).was_open)
+    c.in-Ok.ensures.bytes clean (config_of old.plan terminals) room (for_room g.S.Store old old c.args.event.now terminals room is addressed (c.in-Ok.ensures.ok clean).was_open)
 
 pub returns-in-Ok-clause-ok : goal.returns-in-Ok-clause-ok
 returns-in-Ok-clause-ok g c clean terminals room is addressed =
     let old = c.args.self.now in
     let it = for_room g.S.Store old old c.args.event.now terminals room is addressed (c.in-Ok.ensures.ok clean).was_open in (
-      room_moved g.S.Store old (record old { conn = c.act_towards_on.new.conn; cache = c.act_towards_on.new.cache }) c.args.event.now terminals room is addressed c.know_number.ensures refl refl
-          (c.in-Ok.ensures.cache clean (house_of old.plan terminals) room it) (c.in-Ok.ensures.ok clean),
-      c.in-Ok.ensures.reaches clean (house_of old.plan terminals) room it,
+      room_moved g.S.Store old (record old { conn = c.act_towards_on.new.conn; cache = c.act_towards_on.new.cache }) c.args.event.now terminals room is addressed c.lemma_numbered.ensures refl refl
+          (c.in-Ok.ensures.cache clean (config_of old.plan terminals) room it) (c.in-Ok.ensures.ok clean),
+      c.in-Ok.ensures.reaches clean (config_of old.plan terminals) room it,
     )
 
 pub returns-in-Ok-clause-survives : goal.returns-in-Ok-clause-survives
@@ -62,7 +62,7 @@ returns-in-Err-clause-another g c clean is terminals room stands addressed =
     let old = c.args.self.now in
     let early : HasCleanDisk (state g.S.Store c.act_towards_on.new.conn) = omega (arith, c.test_file.ensures.survives.clean) in
     let open_ = (returns-in-Err-clause-err g c clean).was_open (returns-in-Err-clause-settled g c clean is).is_open in
-    c.in-Err.ensures.another early (c.after_test.ensures.same is) (house_of old.plan terminals) room (for_room g.S.Store old old c.args.event.now terminals room stands addressed open_)
+    c.in-Err.ensures.another early (c.after_test.ensures.same is) (config_of old.plan terminals) room (for_room g.S.Store old old c.args.event.now terminals room stands addressed open_)
 
 pub returns-in-Err-clause-wants : goal.returns-in-Err-clause-wants
 returns-in-Err-clause-wants g c = c.after_test.ensures.told c.in-Err.ensures.wants

@@ -1,7 +1,7 @@
 use Rattle.std.proofs.Common.{arith, refl}
 use Rattle.sqlite.specs.Held.{state}
 use Rattle.sqlite.specs.State.{HasCleanDisk}
-use Rattle.room_store_writes.specs.Houses.{house_of}
+use Rattle.room_store_writes.specs.Houses.{config_of}
 use Rattle.room_store.proofs.EnrolledLaws.{in_plan, room_after_row, store_survives}
 use Rattle.room_store.proofs.KnownLaws.{knows_nothing}
 use Rattle.room_store.proofs.LookLaws.{left_same, left_then, survives_read}
@@ -12,7 +12,7 @@ use Rattle.room_store.proofs.store.Store.enrol.Goals as goal
 pub returns-in-Ok-clause-fate : goal.returns-in-Ok-clause-fate
 returns-in-Ok-clause-fate g c clean terminals room is =
     let old = c.args.self.now in
-    c.in-Ok.ensures.fate clean (house_of old.plan terminals) room (in_plan g.S.Store old old c.args.row.now terminals room is (c.in-Ok.ensures.ok clean).was_open)
+    c.in-Ok.ensures.fate clean (config_of old.plan terminals) room (in_plan g.S.Store old old c.args.row.now terminals room is (c.in-Ok.ensures.ok clean).was_open)
 
 pub returns-in-Ok-clause-ok : goal.returns-in-Ok-clause-ok
 returns-in-Ok-clause-ok g c clean terminals room is =

@@ -6,8 +6,8 @@ use Rattle.room_types.specs.declared.fleet.Terminal.{Terminal}
 use Rattle.room_model.specs.Room.{Room}
 use Rattle.room_store.proofs.EnrolledLaws.{enrolled_more, rows_left, rows_survive, told_more}
 use Rattle.room_store.proofs.StoreLaws.{kept_stands, room_left}
-use Rattle.room_store.specs.Enrolling.{room_after_rows, terminals_after_rows}
-use Rattle.room_store.specs.Keeping.{IsRoom}
+use Rattle.room_store.specs.FleetEnrolment.{room_after_rows, terminals_after_rows}
+use Rattle.room_store.specs.StoredRoom.{IsRoom}
 use Rattle.room_store.proofs.store.Store.import.Goals as goal
 
 pub loop-row-preserved : goal.loop-row-preserved

@@ -4,8 +4,8 @@ use Rattle.sqlite.specs.State.{HasCleanDisk, Survives}
 use Rattle.room_types.specs.declared.fleet.Terminal.{Terminal}
 use Rattle.room_model.specs.Room.{Room}
 use Rattle.room_model.specs.Fleets.{fates_of}
-use Rattle.room_store.specs.Enrolling.{MayBeEnrolled, room_after_rows, terminals_after_rows}
-use Rattle.room_store.specs.Keeping.{IsKept, IsReady, IsRoom}
+use Rattle.room_store.specs.FleetEnrolment.{MayBeEnrolled, room_after_rows, terminals_after_rows}
+use Rattle.room_store.specs.StoredRoom.{IsKept, IsReady, IsRoom}
 use Rattle.room_store.proofs.store.Store.import.Given as goal
 
 abbrev pub invariant-loop-row : goal.invariant-loop-row

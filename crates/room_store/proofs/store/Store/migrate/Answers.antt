@@ -1,5 +1,5 @@
 use Rattle.std.proofs.Common.{refl, true}
-use Rattle.room_store_writes.specs.Houses.{house_of}
+use Rattle.room_store_writes.specs.Houses.{config_of}
 use Rattle.room_store.proofs.KnownLaws.{knows_none, knows_nothing}
 use Rattle.room_store.proofs.StoreLaws.{ready_sound, settled_kept}
 use Rattle.room_store.proofs.store.Store.migrate.Goals as goal
@@ -7,7 +7,7 @@ use Rattle.room_store.proofs.store.Store.migrate.Goals as goal
 pub returns-in-Ok-clause-room : goal.returns-in-Ok-clause-room
 returns-in-Ok-clause-room g c clean =
     let it = c.in-Ok.ensures.room clean in
-    let first = ((c.in-Ok.ensures.moves clean).moved.moved.stands (house_of c.in-Ok.plan it.0) it.1).1 it.5 in
+    let first = ((c.in-Ok.ensures.moves clean).moved.moved.stands (config_of c.in-Ok.plan it.0) it.1).1 it.5 in
     (it.0, it.1, record { formed = it.2; fits = it.3; plan = it.4; known = knows_none it.0 _ c.new.ensures; cache = knows_nothing c.new-in-Ok.result it.1 c.new-in-Ok.ensures; tables = λ _. it.5 }, first)
 
 pub returns-in-Ok-clause-schema : goal.returns-in-Ok-clause-schema

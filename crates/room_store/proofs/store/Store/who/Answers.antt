@@ -3,7 +3,7 @@ use Rattle.std.specs.Prelude.{option_map}
 use Rattle.sqlite.specs.Held.{state}
 use Rattle.sqlite.specs.State.{HasCleanDisk}
 use Rattle.room_types.specs.declared.fleet.Terminal.{Terminal}
-use Rattle.room_store_writes.specs.Houses.{house_of}
+use Rattle.room_store_writes.specs.Houses.{config_of}
 use Rattle.room_store.proofs.KnownLaws.{knows_nothing, looked_up}
 use Rattle.room_store.proofs.LookLaws.{left_failed, left_same, left_then, left_unchanged, outside, shows_read, survives_read}
 use Rattle.room_store.proofs.StoreLaws.{ready_schema, ready_sound, room_left}
@@ -28,11 +28,11 @@ returns-in-Some-clause-survives g c = unchanged_survives g.S.Store c.args.self.n
 
 pub returns-in-Ok-None-clause-known : goal.returns-in-Ok-None-clause-known
 returns-in-Ok-None-clause-known g c clean terminals room is =
-    ap (option_map (λ (t : Terminal). t.who)) (sym c.in-Ok-None.field-0-is ∙ c.in-Ok-None.ensures.row clean (house_of c.args.self.now.plan terminals) room (is.tables (c.in-Ok-None.ensures.reads.ok clean).0.was_open))
+    ap (option_map (λ (t : Terminal). t.who)) (sym c.in-Ok-None.field-0-is ∙ c.in-Ok-None.ensures.row clean (config_of c.args.self.now.plan terminals) room (is.tables (c.in-Ok-None.ensures.reads.ok clean).0.was_open))
 
 pub returns-in-Ok-Some-clause-known : goal.returns-in-Ok-Some-clause-known
 returns-in-Ok-Some-clause-known g c clean terminals room is =
-    ap (option_map (λ (t : Terminal). t.who)) (sym c.in-Ok-Some.field-0-is ∙ c.in-Ok-Some.ensures.row clean (house_of c.args.self.now.plan terminals) room (is.tables (c.in-Ok-Some.ensures.reads.ok clean).0.was_open))
+    ap (option_map (λ (t : Terminal). t.who)) (sym c.in-Ok-Some.field-0-is ∙ c.in-Ok-Some.ensures.row clean (config_of c.args.self.now.plan terminals) room (is.tables (c.in-Ok-Some.ensures.reads.ok clean).0.was_open))
 
 pub returns-in-Ok-None-clause-same : goal.returns-in-Ok-None-clause-same
 returns-in-Ok-None-clause-same g c clean terminals room is =
@@ -42,7 +42,7 @@ pub returns-in-Ok-Some-clause-same : goal.returns-in-Ok-Some-clause-same
 returns-in-Ok-Some-clause-same g c clean terminals room is =
     let old = c.args.self.now in
     let same = c.in-Ok-Some.ensures.reads.ok clean in
-    let found = c.in-Ok-Some.ensures.row clean (house_of old.plan terminals) room (is.tables same.0.was_open) in
+    let found = c.in-Ok-Some.ensures.row clean (config_of old.plan terminals) room (is.tables same.0.was_open) in
     room_left g.S.Store old (record old { conn = c.terminal_at.new.conn; terminals = c.fill.new.self }) terminals room (left_unchanged _ _ same) refl (c.fill.ensures terminals is.known (looked_up terminals c.args.token.now c.in-Ok-Some.terminal (sym c.in-Ok-Some.field-0-is ∙ found))) is.cache is
 
 pub terminal_at-requires : goal.terminal_at-requires

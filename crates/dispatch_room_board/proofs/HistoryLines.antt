@@ -1,0 +1,29 @@
+-- Lemmas on what is shown of an incident.
+use Rattle.std.proofs.Common.{ℕ, refl}
+use Rattle.dispatch_room_board.specs.declared.history_lines.History.{History}
+use Rattle.dispatch_room_board.specs.declared.pages.Page.{Page}
+use Rattle.dispatch_room_board.specs.declared.pages.Paint.TheVariants.{Plain, Title}
+use Rattle.dispatch_room_board.specs.declared.subject_lines.Subject.{Subject}
+use Rattle.dispatch_room_board.specs.BoardColumns.{row_of}
+use Rattle.dispatch_room_board.specs.Histories.{call_table, history_lines, subject_columns, subject_lines, subject_texts, subject_title, subject_titles, turn_table}
+use Rattle.dispatch_room_board.specs.Pages.{Adds, line_of, spaced_line, text_line}
+use Rattle.dispatch_room_board.specs.BoardTables.{table_lines}
+use Rattle.dispatch_room_board.proofs.Shown.{adds_more}
+
+pub subject_shown : (now : ℕ) (s : Subject) (a b c d : Page)
+    → Adds a b (spaced_line a.colour Title (subject_title s))
+    → Adds b c (text_line b.colour Plain subject_titles)
+    → Adds c d (line_of c.colour Plain (row_of subject_columns (subject_texts now s)))
+    → Adds a d (subject_lines a.colour now s)
+subject_shown now s a b c d p q r =
+    adds_more a c d _ _ _ (adds_more a b c _ _ _ p (rw p.1 at q.0, q.1) refl)
+    (rw (q.1, p.1) at r.0, r.1) refl
+
+pub history_shown : (now : ℕ) (h : History) (a b c d : Page)
+    → Adds a b (subject_lines a.colour now h.subject)
+    → Adds b c (table_lines call_table b.colour now h.calls)
+    → Adds c d (table_lines turn_table c.colour now h.turns)
+    → Adds a d (history_lines a.colour now h)
+history_shown now h a b c d p q r =
+    adds_more a c d _ _ _ (adds_more a b c _ _ _ p (rw p.1 at q.0, q.1) refl)
+    (rw (q.1, p.1) at r.0, r.1) refl

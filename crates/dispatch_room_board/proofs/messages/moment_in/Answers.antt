@@ -1,8 +1,0 @@
-use Rattle.dispatch_room_board.proofs.Announced.{dated, none_dated}
-use Rattle.dispatch_room_board.proofs.messages.moment_in.Goals as goal
-
-pub returns-in-Some : goal.returns-in-Some
-returns-in-Some c = dated _ _ _ _ c.in-Some.ensures.value c.of.ensures c.moment_of.ensures
-
-pub returns-in-None : goal.returns-in-None
-returns-in-None c = none_dated _ c.in-None.ensures.value

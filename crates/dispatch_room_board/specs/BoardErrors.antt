@@ -1,0 +1,31 @@
+-- Why a part of the board is not there.
+use Rattle.std.specs.Prelude.{◌≡◌, ◌≤◌, List, ℕ, ◌++◌, length, codes, decimal, true}
+use Rattle.std.specs.List.{list_all}
+use Rattle.serde_json.specs.Data.{Data}
+use Rattle.room_types.specs.Texts.{is_token_letter}
+use Rattle.dispatch_room_board.specs.declared.board_errors.Name.{Name}
+use Rattle.dispatch_room_board.specs.declared.board_errors.BoardError.{BoardError}
+use Rattle.dispatch_room_board.specs.declared.board_errors.BoardError.TheVariants.{Unheard, Foreign, Refused}
+use Rattle.dispatch_room_board.specs.Members.{HasMember, IsByte, IsText}
+
+-- the name is this text, of at most 32 letters and digits
+abbrev pub IsNameOf : List ℕ → Name → Type 0
+IsNameOf text name =
+    (name.text ≡ text) × (list_all is_token_letter text ≡ true) × (length text ≤ 32)
+
+-- it is a text, and it is the name
+abbrev pub IsName : Data → Name → Type 0
+IsName d name = (text : List ℕ) × IsText d text × IsNameOf text name
+
+-- it reports this refusal
+abbrev pub IsTold : Data → BoardError → Type 0
+IsTold d (Refused number name) =
+    HasMember IsByte (codes "number") d number × HasMember IsName (codes "error") d name
+IsTold d other = ⊥
+
+-- what is said in place of the table of a title
+unfoldable pub told : List ℕ → BoardError → List ℕ
+told title Unheard = title ++ codes ": not reached: no whole answer came"
+told title Foreign = title ++ codes ": not reached: what came is no answer of a room"
+told title (Refused number name) =
+    title ++ codes ": refused: " ++ decimal number ++ codes " " ++ name.text

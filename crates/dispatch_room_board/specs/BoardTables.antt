@@ -1,0 +1,223 @@
+-- The tables of a board, and what stands in their rows.
+use Rattle.std.specs.Prelude.{◌≡◌, ◌≤◌, ℕ, ◌+◌, ◌-◌, List, [], ◌∷◌, ◌++◌, length, codes, decimal, nat_le, nat_lt, ◌==◌, if◌then◌else◌, Bool, true, false, Option, None, Some}
+use Rattle.room_types.specs.declared.answers.Entry.{Entry}
+use Rattle.room_types.specs.declared.answers.IncidentLine.{IncidentLine}
+use Rattle.room_types.specs.declared.answers.PointLine.{PointLine}
+use Rattle.room_types.specs.declared.answers.Proposal.{Proposal}
+use Rattle.room_types.specs.declared.answers.VehicleLine.{VehicleLine}
+use Rattle.room_types.specs.declared.codes.Status.{Status}
+use Rattle.room_types.specs.declared.codes.Status.TheVariants.{OffDuty}
+use Rattle.room_types.specs.declared.needs.Counts.{Counts}
+use Rattle.room_types.specs.declared.tables.Loan.{Loan}
+use Rattle.room_types.specs.declared.tables.Offer.{Offer}
+use Rattle.dispatch_room_board.specs.declared.board_columns.Column.{Column}
+use Rattle.dispatch_room_board.specs.declared.board_columns.Column.TheVariants.{Left, Right}
+use Rattle.dispatch_room_board.specs.declared.pages.Paint.{Paint}
+use Rattle.dispatch_room_board.specs.declared.pages.Paint.TheVariants.{Plain, Title, Alarm}
+use Rattle.dispatch_room_board.specs.declared.pages.TheConstants.{WIDEST}
+use Rattle.dispatch_room_board.specs.declared.board_tables.TableLayout.{TableLayout}
+use Rattle.dispatch_room_board.specs.BoardCells.{counts_text, kind_text, left_text, named_text, place_text, since_text, status_text}
+use Rattle.dispatch_room_board.specs.BoardColumns.{row_of, width_of}
+use Rattle.dispatch_room_board.specs.Pages.{line_of, note_lines, text_line}
+
+-- what an answer calls the rows, what the table is called, what stands above its rows, its columns,
+-- the texts of a row at a moment, whether something is wrong with it then, and the note below it
+pub record Table (T : Type 0) : Type 0 where
+  pub name : List ℕ
+  pub title : List ℕ
+  pub titles : List ℕ
+  pub columns : List Column
+  pub texts : ℕ → T → List (List ℕ)
+  pub is_wrong : ℕ → T → Bool
+  pub note : T → List ℕ
+
+-- it is the table's, and no row is wider than a line
+pub record IsLayout {T : Type 0} (table : Table T) (layout : TableLayout) : Type 0 where
+  pub name : layout.name.now ≡ table.name
+  pub title : layout.title.now ≡ table.title
+  pub titles : layout.titles.now ≡ table.titles
+  pub columns : layout.columns.now ≡ table.columns
+  pub fits : width_of table.columns ≤ WIDEST
+
+-- red where something is wrong
+abbrev pub alarm_of : Bool → Paint
+alarm_of true = Alarm
+alarm_of false = Plain
+
+-- a line, and a note below it, where there is one
+abbrev pub with_note : Bool → List ℕ → List ℕ → List ℕ
+with_note colour line [] = line
+with_note colour line (b ∷ bs) = line ++ note_lines colour (b ∷ bs)
+
+-- the line of a row, with its note
+abbrev pub row_line : {T : Type 0} → Table T → Bool → ℕ → T → List ℕ
+row_line table colour now row =
+    with_note colour
+    (line_of colour (alarm_of (table.is_wrong now row))
+    (row_of table.columns (table.texts now row)))
+    (table.note row)
+
+abbrev pub row_lines : {T : Type 0} → Table T → Bool → ℕ → List T → List ℕ
+row_lines table colour now [] = []
+row_lines table colour now (row ∷ rows) =
+    row_line table colour now row ++ row_lines table colour now rows
+
+-- what stands above the rows, where there are rows
+abbrev pub titles_line : {T : Type 0} → Table T → Bool → List T → List ℕ
+titles_line table colour [] = []
+titles_line table colour (row ∷ rows) = text_line colour Plain table.titles
+
+-- a table below an empty line: how many rows it has, and its rows
+unfoldable pub table_lines : {T : Type 0} → Table T → Bool → ℕ → List T → List ℕ
+table_lines table colour now rows =
+    text_line colour Plain []
+    ++ text_line colour Title (table.title ++ codes ": " ++ decimal (length rows))
+    ++ titles_line table colour rows
+    ++ row_lines table colour now rows
+
+-- what is the matter with an entry of a rank
+abbrev pub matter_of : ℕ → List ℕ
+matter_of rank =
+    if rank == 1 then codes "nobody sent"
+    else if rank == 2 then codes "order not acknowledged"
+    else if rank == 3 then codes "late for the scene"
+    else if rank == 4 then codes "report out of turn"
+    else if rank == 5 then codes "loan is over"
+    else if rank == 6 then codes "shift is over"
+    else if rank == 7 then codes "point short of cover"
+    else if rank == 8 then codes "offer not answered"
+    else codes "of another kind"
+
+-- what its number is of: of nothing where a shift is over
+abbrev pub subject_of : ℕ → ℕ → List ℕ
+subject_of rank number =
+    if rank == 0 then named_text (codes "number") number
+    else if nat_le rank 3 then named_text (codes "incident") number
+    else if rank == 4 then named_text (codes "report") number
+    else if rank == 5 then named_text (codes "division") number
+    else if rank == 6 then []
+    else if rank == 7 then named_text (codes "point") number
+    else if rank == 8 then named_text (codes "division") number
+    else named_text (codes "number") number
+
+-- how long it has waited: since when a point is short is not known
+abbrev pub waited_of : ℕ → ℕ → ℕ → List ℕ
+waited_of rank now moment = if rank == 7 then codes "-" else since_text now moment
+
+-- a vehicle's callsign, where there is one
+abbrev pub callsign_of : Option (List ℕ) → List ℕ
+callsign_of None = []
+callsign_of (Some callsign) = callsign
+
+abbrev pub entry_table : Table Entry
+entry_table = record {
+  name = codes "queue";
+  title = codes "Queue";
+  titles = codes " what                     of                  vehicle      waited";
+  columns = Left 24 ∷ Left 19 ∷ Left 8 ∷ Right 10 ∷ [];
+  texts = λ now e. matter_of e.rank ∷ subject_of e.rank e.number ∷ callsign_of e.callsign
+      ∷ waited_of e.rank now e.since ∷ [];
+  is_wrong = λ now e. false;
+  note = λ row. [];
+}
+
+-- vehicles are lacking
+abbrev pub lacks : Counts → Bool
+lacks lack = nat_lt 0 (lack.ambulances + lack.cars + lack.support)
+
+-- how many of the vehicles that are needed serve
+abbrev pub served : Counts → Counts → Counts
+served needs lack =
+    record {
+      ambulances = needs.ambulances - lack.ambulances;
+      cars = needs.cars - lack.cars;
+      support = needs.support - lack.support;
+    }
+
+abbrev pub incident_table : Table IncidentLine
+incident_table = record {
+  name = codes "incidents";
+  title = codes "Incidents";
+  titles = codes "   incident class place          needed served        age";
+  columns = Right 10 ∷ Right 5 ∷ Left 14 ∷ Left 6 ∷ Left 6 ∷ Right 10 ∷ [];
+  texts = λ now l. decimal l.number ∷ decimal l.class ∷ place_text l.place ∷ counts_text l.needs
+      ∷ counts_text (served l.needs l.lack) ∷ since_text now l.opened ∷ [];
+  is_wrong = λ now l. lacks l.lack;
+  note = λ row. [];
+}
+
+abbrev pub proposal_table : Table Proposal
+proposal_table = record {
+  name = codes "proposals";
+  title = codes "Proposals";
+  titles = codes " vehicle  kind      standby                   metres";
+  columns = Left 8 ∷ Left 9 ∷ Left 21 ∷ Right 10 ∷ [];
+  texts = λ now p. p.callsign ∷ kind_text p.kind
+      ∷ (if p.breaks then codes "leaves a point short" else []) ∷ decimal p.distance ∷ [];
+  is_wrong = λ now p. p.breaks;
+  note = λ row. [];
+}
+
+-- the incident that a vehicle is sent to, or else the standby point
+abbrev pub sent_text : Option ℕ → Option ℕ → List ℕ
+sent_text (Some incident) post = named_text (codes "incident") incident
+sent_text None (Some point) = named_text (codes "point") point
+sent_text None None = codes "-"
+
+-- how many minutes of its shift are left to a vehicle that is on duty
+abbrev pub shift_text : ℕ → Status → ℕ → List ℕ
+shift_text now OffDuty end = codes "-"
+shift_text now other end = left_text now end
+
+-- a vehicle is on duty after its shift
+abbrev pub is_overdue : ℕ → Status → ℕ → Bool
+is_overdue now OffDuty end = false
+is_overdue now other end = nat_le end now
+
+abbrev pub vehicle_table : Table VehicleLine
+vehicle_table = record {
+  name = codes "vehicles";
+  title = codes "Vehicles";
+  titles = codes " vehicle  kind      status      place          home sent to             min left";
+  columns = Left 8 ∷ Left 9 ∷ Left 11 ∷ Left 14 ∷ Right 4 ∷ Left 19 ∷ Right 8 ∷ [];
+  texts = λ now v. v.callsign ∷ kind_text v.kind ∷ status_text v.status ∷ place_text v.place
+      ∷ decimal v.home ∷ sent_text v.incident v.post ∷ shift_text now v.status v.shift_end ∷ [];
+  is_wrong = λ now v. is_overdue now v.status v.shift_end;
+  note = λ row. [];
+}
+
+abbrev pub point_table : Table PointLine
+point_table = record {
+  name = codes "points";
+  title = codes "Points";
+  titles = codes " point place          cover                 held";
+  columns = Right 5 ∷ Left 14 ∷ Right 5 ∷ Right 20 ∷ [];
+  texts = λ now p. decimal p.number ∷ place_text p.place ∷ decimal p.cover ∷ decimal p.held ∷ [];
+  is_wrong = λ now p. nat_lt p.held p.cover;
+  note = λ row. [];
+}
+
+abbrev pub offer_table : Table Offer
+offer_table = record {
+  name = codes "offers";
+  title = codes "Offers";
+  titles = codes " vehicle  from   to recalled        age min left";
+  columns = Left 8 ∷ Right 4 ∷ Right 4 ∷ Left 8 ∷ Right 10 ∷ Right 8 ∷ [];
+  texts = λ now o. o.callsign ∷ decimal o.lender ∷ decimal o.borrower ∷ codes "-"
+      ∷ since_text now o.since ∷ left_text now o.until ∷ [];
+  is_wrong = λ now o. false;
+  note = λ row. [];
+}
+
+abbrev pub loan_table : Table Loan
+loan_table = record {
+  name = codes "loans";
+  title = codes "Loans";
+  titles = codes " vehicle  from   to recalled        age min left";
+  columns = Left 8 ∷ Right 4 ∷ Right 4 ∷ Left 8 ∷ Right 10 ∷ Right 8 ∷ [];
+  texts = λ now l. l.callsign ∷ decimal l.lender ∷ decimal l.borrower
+      ∷ (if l.recalled then codes "recalled" else codes "-") ∷ since_text now l.since
+      ∷ left_text now l.until ∷ [];
+  is_wrong = λ now l. nat_le l.until now;
+  note = λ row. [];
+}

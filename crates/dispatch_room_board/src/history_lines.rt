@@ -1,0 +1,59 @@
+//! What came of an incident, read and shown.
+ghost use Rattle.std.specs.Prelude.{OnOk};
+ghost use Rattle.dispatch_room_board.specs.Histories.{IsHistory, history_lines};
+ghost use Rattle.dispatch_room_board.specs.Pages.{Adds};
+
+use crate::answer_contents::Given;
+use crate::answer_rows::rows_in;
+use crate::board_tables::put_rows;
+use crate::call_lines::CallLine;
+use crate::members::FromJson;
+use crate::pages::Page;
+use crate::subject_lines::{Subject, put_subject};
+use crate::turn_lines::TurnLine;
+use room_types::answers::Listed;
+use room_types::numbers::Moment;
+use serde_json::Value;
+use std::alloc::{AllocError, Global};
+
+/// An incident with its calls, and with the turns of the vehicles that were sent to it.
+#[derive(Drop)]
+pub struct History {
+    pub subject: Subject,
+    pub calls: Listed<CallLine>,
+    pub turns: Listed<TurnLine>,
+}
+
+impl Given for History {
+    ghost gives = { IsHistory };
+
+    fn given(alloc: Global, value: &Value) -> Result<Option<History>, AllocError> {
+        let subject = Subject::from_json(value);
+        let calls = rows_in(alloc, value, "calls")?;
+        let turns = rows_in(alloc, value, "turns")?;
+        let told = subject.zip(calls).zip(turns);
+        match told {
+            Some(((subject, calls), turns)) => Ok(Some(History {
+                subject,
+                calls,
+                turns,
+            })),
+            None => Ok(None),
+        }
+    }
+}
+
+/// Adds what came of an incident, as it is at a moment.
+pub fn put_history(
+    alloc: Global,
+    page: &mut Page,
+    history: &History,
+    now: Moment,
+) -> Result<(), AllocError>
+    ensures { OnOk result (Adds page.old page.new
+        (history_lines page.old.colour now history.now)) }
+{
+    put_subject(alloc, page, &history.subject, now)?;
+    put_rows(alloc, page, &history.calls, now)?;
+    put_rows(alloc, page, &history.turns, now)
+}

@@ -1,0 +1,148 @@
+//! A board that is being made.
+ghost use Rattle.std.specs.Prelude.{◌≡◌};
+ghost use Rattle.httpdate.specs.Date.{unix_secs};
+ghost use Rattle.dispatch_room_board.specs.Boards.{IsHeardAt};
+ghost use Rattle.dispatch_room_board.specs.Members.{IsRead};
+
+use crate::answer_contents::{Found, Given, found_in};
+use crate::board_errors::{BoardError, told};
+use crate::board_tables::{Tabled, put_rows};
+use crate::boards::{Board, Reached};
+use crate::heard_answers::first_message;
+use crate::history_lines::{History, put_history};
+use crate::pages::{Page, Paint};
+use httpdate::HttpDate;
+use room_types::answers::{Listed, Proposal};
+use room_types::numbers::Moment;
+use std::alloc::{AllocError, Global};
+
+/// A board that is being made: what is still to be read of what was heard, and the lines so far.
+#[derive(Drop)]
+pub struct Renderer<'a> {
+    alloc: Global,
+    rest: &'a [u8],
+    page: Page,
+    reached: Reached,
+}
+
+impl<'a> Renderer<'a> {
+    ghost use Rattle.std.specs.Prelude.{◌≡◌, [], IfOk, MatchResult, OnOk};
+    ghost use Rattle.dispatch_room_board.specs.Boards.{Befalls, IsHead, IsNext, IsPart, IsShown, ShowsNamed, reached_with, board_error_lines};
+    ghost use Rattle.dispatch_room_board.specs.Histories.{IsHistory, history_lines, history_title};
+    ghost use Rattle.dispatch_room_board.specs.Pages.{Adds};
+    ghost use Rattle.dispatch_room_board.specs.declared.boards.Reached.TheVariants.{All};
+
+    /// A sheet without lines.
+    pub fn new(alloc: Global, heard: &'a [u8], colour: bool) -> Renderer<'a>
+        ensures rest { result.rest.now ≡ heard.now }
+        ensures page { (result.page.text.items ≡ []) × (result.page.colour ≡ colour) }
+        ensures reached { result.reached ≡ All }
+    {
+        Renderer {
+            alloc,
+            rest: heard,
+            page: Page::new(alloc, colour),
+            reached: Reached::All,
+        }
+    }
+
+    /// The board.
+    pub fn board(self) -> Board
+        ensures { result ≡ record { page = self.entry.page; reached = self.entry.reached } }
+    {
+        Board {
+            page: self.page,
+            reached: self.reached,
+        }
+    }
+
+    /// Adds when the board was asked for, by the room's own clock.
+    pub fn put_moment(&mut self) -> Result<(), AllocError>
+        ensures { OnOk result (IsHead self.old self.new) }
+    {
+        let Some(moment) = moment_of(self.rest) else {
+            return self
+                .page
+                .put_line(Paint::Alarm, "Room at no moment: nothing was heard");
+        };
+        let date = date_of(moment);
+        let line = format!(in self.alloc; "Room at {date}")?;
+        self.page.put_line(Paint::Plain, line.as_str())
+    }
+
+    /// Adds what came of an incident and whom to send to it, where one was named.
+    pub fn put_incident(&mut self, named: bool) -> Result<(), AllocError>
+        ensures { OnOk result (ShowsNamed named self.old self.new) }
+    {
+        if named {
+            self.put_history()?;
+            return self.put_table::<Proposal>();
+        }
+        Ok(())
+    }
+
+    // Adds what came of an incident by the next answer, or why it is not there.
+    fn put_history(&mut self) -> Result<(), AllocError>
+        ensures { OnOk result (IsPart IsHistory history_title history_lines self.old self.new) }
+    {
+        match self.next::<History>()? {
+            Ok((history, now)) => put_history(self.alloc, &mut self.page, &history, now),
+            Err(board_error) => self.put_board_error("Incident", board_error),
+        }
+    }
+
+    /// Adds a table: the rows of the next answer, or why they are not there.
+    pub fn put_table<T: Tabled>(&mut self) -> Result<(), AllocError>
+        ensures { OnOk result (IsShown T.says T.table self.old self.new) }
+    {
+        match self.next::<Listed<T>>()? {
+            Ok((rows, now)) => put_rows(self.alloc, &mut self.page, &rows, now),
+            Err(board_error) => self.put_board_error(T::layout().title, board_error),
+        }
+    }
+
+    fn put_board_error(&mut self, title: &str, board_error: BoardError) -> Result<(), AllocError>
+        ensures page { OnOk result (Adds self.old.page self.new.page
+            (board_error_lines self.old.page.colour title.now board_error)) }
+        ensures reached { self.new.reached ≡ reached_with self.old.reached board_error }
+        ensures rest { self.new.rest ≡ self.old.rest }
+    {
+        self.reached = self.reached.with(&board_error);
+        let line = told(self.alloc, title, &board_error)?;
+        self.page.put_spaced(Paint::Alarm, line.as_str())
+    }
+
+    // What the next answer gives. Where no answer can be read, nothing is taken, so none can be
+    // read after it.
+    fn next<G: Given>(&mut self) -> Result<Found<G>, AllocError>
+        ensures found { IfOk result (λ found. MatchResult found
+            (IsNext G.gives self.old.rest.now self.new.rest.now)
+            (Befalls G.gives self.old.rest.now self.new.rest.now)) }
+        ensures page { (self.new.page ≡ self.old.page) × (self.new.reached ≡ self.old.reached) }
+    {
+        match first_message(self.rest) {
+            Ok((message, rest)) => {
+                self.rest = rest;
+                found_in(self.alloc, &message)
+            }
+            Err(board_error) => Ok(Err(board_error)),
+        }
+    }
+}
+
+// The moment of the first answer; none where there is none, or it gives no moment.
+fn moment_of(heard: &[u8]) -> Option<Moment>
+    ensures { IsRead (IsHeardAt heard.now) result }
+{
+    match first_message(heard) {
+        Ok((message, _)) => message.moment,
+        Err(_) => None,
+    }
+}
+
+// The date of a moment.
+fn date_of(moment: Moment) -> HttpDate
+    ensures { unix_secs result ≡ moment }
+{
+    HttpDate::from_unix_secs(u64::from(moment.get())).unwrap()
+}

@@ -1,0 +1,4 @@
+-- addresses of this machine only
+pub mod Addresses
+-- what a command line asks for
+pub mod Tasks

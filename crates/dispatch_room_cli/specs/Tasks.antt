@@ -1,0 +1,26 @@
+-- What a command line asks for.
+use Rattle.std.specs.Prelude.{⊤, ℕ, List, Option, None, Some}
+use Rattle.dispatch_room_cli.specs.Addresses.{IsLoopback}
+use Rattle.dispatch_room_cli.specs.declared.tasks.Service.{Service}
+use Rattle.dispatch_room_cli.specs.declared.tasks.Task.{Task}
+use Rattle.dispatch_room_cli.specs.declared.tasks.Task.TheVariants.{Board, Check, Import, Init, Migrate, Replay, Serve, Times}
+
+-- the path of the room's file, where the task has one
+abbrev pub file_of : Task → Option (List ℕ)
+file_of (Init file plan) = Some file.now
+file_of (Import file fleet) = Some file.now
+file_of (Migrate file) = Some file.now
+file_of (Check file) = Some file.now
+file_of (Serve file service) = Some file.now
+file_of (Replay file replay) = Some file.now
+file_of (Times file division day) = Some file.now
+file_of (Board look) = None
+
+-- a room is served at an address of this machine only
+abbrev pub IsHere : Service → Type 0
+IsHere service = IsLoopback service.address
+
+-- whatever is served, is served so
+abbrev pub IsServedHere : Task → Type 0
+IsServedHere (Serve file service) = IsHere service
+IsServedHere other = ⊤

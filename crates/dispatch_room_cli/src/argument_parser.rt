@@ -1,0 +1,211 @@
+//! What reads the words of a command line.
+
+ghost use Rattle.std.specs.Prelude.{IfOk};
+ghost use Rattle.dispatch_room_cli.specs.Tasks.{IsServedHere};
+
+use crate::addresses::{AddressFault, fault_in, loopback};
+use crate::builder::program;
+use crate::tasks::{Color, Journal, Look, Replay, Service, Task};
+use clap::error::ErrorKind;
+use clap::{ArgMatches, Command, Error};
+use room_place::plans::DivisionNumber;
+use room_types::numbers::{Moment, Number};
+use std::alloc::Global;
+use std::fmt;
+
+/// The version of the program, whose first number is that of the rooms that it keeps.
+pub const VERSION: &str = "2.0";
+
+// The option by which a failure is explained, also where standard error is no terminal.
+const EXPLAIN: &str = "--explain";
+
+// What is said of an address that is not one of this machine only.
+const NOT_LOOPBACK: &str = "a room is served at an address of this machine alone, as \
+     127.0.0.1:8080 or [::1]:8080: it speaks plain HTTP, and a token is all that a terminal shows; \
+     terminals on other machines come by a proxy with TLS";
+
+/// Why words that clap takes are no task.
+#[derive(Clone, Copy)]
+enum Mistake<'a> {
+    /// They name no command, or a word of it is missing: clap lets through neither.
+    NoCommand,
+    /// The address is not one of this machine only.
+    NotLoopback {
+        address: &'a str,
+        fault: AddressFault,
+    },
+}
+
+impl<'a> Mistake<'a> {
+    fn kind(self) -> ErrorKind {
+        match self {
+            Mistake::NoCommand => ErrorKind::MissingSubcommand,
+            Mistake::NotLoopback { .. } => ErrorKind::ValueValidation,
+        }
+    }
+}
+
+impl<'a> fmt::Display for Mistake<'a> {
+    fn fmt<W: fmt::Write>(&self, f: &mut fmt::Formatter<W>) -> fmt::Result {
+        match *self {
+            Mistake::NoCommand => f.write_str("a command is missing"),
+            Mistake::NotLoopback { address, fault } => {
+                write!(
+                    f,
+                    "invalid value '{address}' for '<ADDRESS>': {fault}; {NOT_LOOPBACK}"
+                )
+            }
+        }
+    }
+}
+
+/// Reads the words of a command line, the program's name first. An error is help that was asked
+/// for, a mistake in the words, or lack of memory. A room is served at no address that other
+/// machines reach.
+pub fn read<'a>(alloc: Global, words: &'a [String]) -> Result<Task<'a>, Error>
+    ensures served_here { IfOk result IsServedHere }
+{
+    let mut program = program(alloc, VERSION)?;
+    task(alloc, &mut program, words)
+}
+
+/// Whether the words ask that a failure be explained. Behind `--` they name files.
+pub fn explains(words: &[String]) -> bool {
+    for word in words {
+        match word.as_str() {
+            EXPLAIN => return true,
+            "--" => return false,
+            _ => {}
+        }
+    }
+    false
+}
+
+fn task<'a>(
+    alloc: Global,
+    program: &mut Command<'a>,
+    words: &'a [String],
+) -> Result<Task<'a>, Error>
+    ensures { IfOk result IsServedHere }
+{
+    let read = task_of(&program.try_get_matches_from_mut(words)?);
+    match read {
+        Ok(task) => Ok(task),
+        Err(mistake) => {
+            let told = format!(in alloc; "{mistake}")?;
+            Err(program.error(mistake.kind(), told.as_str())?)
+        }
+    }
+}
+
+fn task_of<'a>(matches: &ArgMatches<'a>) -> Result<Task<'a>, Mistake<'a>>
+    ensures { IfOk result IsServedHere }
+{
+    let Some((name, given)) = matches.subcommand() else {
+        return Err(Mistake::NoCommand);
+    };
+    if name == "board" {
+        return board_of(given);
+    }
+    task_over(text(given, "FILE")?, name, given)
+}
+
+// What a command over a room's file asks for.
+fn task_over<'a>(file: &'a str, name: &str, given: &ArgMatches<'a>) -> Result<Task<'a>, Mistake<'a>>
+    ensures { IfOk result IsServedHere }
+{
+    match name {
+        "init" => Ok(Task::Init {
+            file,
+            plan: text(given, "PLAN")?,
+        }),
+        "import" => Ok(Task::Import {
+            file,
+            fleet: text(given, "FLEET")?,
+        }),
+        "migrate" => Ok(Task::Migrate { file }),
+        "check" => Ok(Task::Check { file }),
+        "serve" => serve_of(file, given),
+        "replay" => Ok(Task::Replay {
+            file,
+            replay: replay_of(given),
+        }),
+        "times" => Ok(Task::Times {
+            file,
+            division: division_of(given)?,
+            day: text(given, "DAY")?,
+        }),
+        _ => Err(Mistake::NoCommand),
+    }
+}
+
+fn serve_of<'a>(file: &'a str, given: &ArgMatches<'a>) -> Result<Task<'a>, Mistake<'a>>
+    ensures { IfOk result IsServedHere }
+{
+    let address = text(given, "ADDRESS")?;
+    let Some(address) = loopback(address) else {
+        return Err(Mistake::NotLoopback {
+            address,
+            fault: fault_in(address),
+        });
+    };
+    let service = Service {
+        address,
+        connections: given.get_one::<u64>("connections").unwrap_or(u64::MAX),
+        idle: number(given, "idle")?,
+        patience: number(given, "patience")?,
+        history: given.get_flag("history"),
+        log: given.get_flag("log"),
+        journal: journal_of(given),
+    };
+    Ok(Task::Serve { file, service })
+}
+
+fn journal_of<'a>(given: &ArgMatches<'a>) -> Option<Journal<'a>> {
+    Some(Journal {
+        list: given.get_str("journal")?,
+        is_synced: given.get_str("journal-sync")? == "always",
+    })
+}
+
+fn replay_of(given: &ArgMatches<'_>) -> Replay {
+    Replay {
+        until: given.get_one::<u32>("until").and_then(Moment::new),
+        answers: given.get_flag("answers"),
+        history: given.get_flag("history"),
+    }
+}
+
+fn board_of<'a>(given: &ArgMatches<'a>) -> Result<Task<'a>, Mistake<'a>>
+    ensures { IfOk result IsServedHere }
+{
+    let look = Look {
+        address: text(given, "ADDRESS")?,
+        token: text(given, "TOKEN")?,
+        incident: given.get_one::<u32>("incident").and_then(Number::new),
+        patience: number(given, "patience")?,
+        color: color_of(text(given, "color")?),
+    };
+    Ok(Task::Board { look })
+}
+
+fn color_of(name: &str) -> Color {
+    match name {
+        "always" => Color::Always,
+        "never" => Color::Never,
+        _ => Color::Auto,
+    }
+}
+
+fn division_of<'a>(given: &ArgMatches<'a>) -> Result<DivisionNumber, Mistake<'a>> {
+    let digit = number(given, "DIVISION")?;
+    DivisionNumber::new(u32::from(digit)).ok_or(Mistake::NoCommand)
+}
+
+fn text<'a>(given: &ArgMatches<'a>, name: &str) -> Result<&'a str, Mistake<'a>> {
+    given.get_str(name).ok_or(Mistake::NoCommand)
+}
+
+fn number<'a>(given: &ArgMatches<'a>, name: &str) -> Result<u16, Mistake<'a>> {
+    given.get_one::<u16>(name).ok_or(Mistake::NoCommand)
+}

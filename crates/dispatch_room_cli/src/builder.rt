@@ -1,0 +1,90 @@
+//! The program as a command of clap, put together from the forms of its commands.
+
+use crate::command_forms::{CommandForm, FORMS, Word, WordKind};
+use clap::builder::ValueParser;
+use clap::{Arg, ArgAction, Command};
+use std::alloc::{AllocError, Global};
+
+/// The program of this version. Its words have to name a command.
+pub fn program<'a>(alloc: Global, version: &'a str) -> Result<Command<'a>, AllocError> {
+    let commands = commands(alloc)?;
+    Command::new(alloc, "dispatch_room")
+        .about(
+            "Keeps the control room of an ambulance service in one SQLite file, \
+             and serves it over HTTP",
+        )
+        .after_help(
+            "Without a command it is the dry run: an example room in memory, requests from \
+             standard input, answers to standard output.\n\n\
+             Exit status: 0 done, 1 refused input, 2 usage, 3 storage, 4 network, 5 memory, \
+             6 journal",
+        )
+        .version(version)
+        .subcommand_required(true)
+        .subcommands(commands)
+}
+
+fn commands<'a>(alloc: Global) -> Result<Vec<Command<'a>>, AllocError> {
+    let mut commands = Vec::new(alloc);
+    for form in &FORMS {
+        commands.push(command_of(alloc, form)?)?;
+    }
+    Ok(commands)
+}
+
+fn command_of<'a>(alloc: Global, form: &CommandForm) -> Result<Command<'a>, AllocError> {
+    let args = args_of(alloc, form.words)?;
+    Command::new(alloc, form.name)
+        .about(form.about)
+        .after_help(form.end)
+        .args(args)
+}
+
+fn args_of<'a>(alloc: Global, words: &[Word]) -> Result<Vec<Arg<'a>>, AllocError> {
+    let mut args = Vec::new(alloc);
+    for word in words {
+        args.push(arg_of(alloc, word))?;
+    }
+    Ok(args)
+}
+
+fn arg_of<'a>(alloc: Global, word: &Word) -> Arg<'a> {
+    match word.kind {
+        WordKind::Placed(parser) => placed(alloc, word, parser),
+        WordKind::Flag => flag(alloc, word),
+        WordKind::Named {
+            value,
+            parser,
+            default,
+        } => named(alloc, word, value, parser, default),
+    }
+}
+
+fn placed<'a>(alloc: Global, word: &Word, parser: ValueParser<'a>) -> Arg<'a> {
+    Arg::new(alloc, word.name)
+        .required(true)
+        .value_parser(parser)
+        .help(word.help)
+}
+
+fn flag<'a>(alloc: Global, word: &Word) -> Arg<'a> {
+    Arg::new(alloc, word.name)
+        .long(word.name)
+        .action(ArgAction::SetTrue)
+        .help(word.help)
+}
+
+fn named<'a>(
+    alloc: Global,
+    word: &Word,
+    value: &'a str,
+    parser: ValueParser<'a>,
+    default: &'a [&'a str],
+) -> Arg<'a> {
+    Arg::new(alloc, word.name)
+        .long(word.name)
+        .value_name(value)
+        .default_values(default)
+        .value_parser(parser)
+        .help(word.help)
+}

@@ -1,0 +1,8 @@
+//! The command line of dispatch_room: what its words ask for, and the help that it gives.
+#![tactic(auto)]
+
+mod addresses;
+pub mod argument_parser;
+mod builder;
+mod command_forms;
+pub mod tasks;

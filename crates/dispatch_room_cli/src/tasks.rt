@@ -1,0 +1,131 @@
+//! What a command line asks for. Files are named by their paths.
+
+use room_place::plans::DivisionNumber;
+use room_types::numbers::{Moment, Number};
+use std::net::SocketAddr;
+
+/// A command with all that it needs.
+#[derive(Clone, Copy)]
+pub enum Task<'a> {
+    /// A room is created in a file.
+    Init {
+        file: &'a str,
+        plan: &'a str,
+    },
+    /// The rows of a fleet are enrolled in a room.
+    Import {
+        file: &'a str,
+        fleet: &'a str,
+    },
+    /// A room of the first version is moved to this one.
+    Migrate {
+        file: &'a str,
+    },
+    /// A room is served at an address.
+    Serve {
+        file: &'a str,
+        service: Service<'a>,
+    },
+    /// What a journal says is done to a room.
+    Replay {
+        file: &'a str,
+        replay: Replay,
+    },
+    /// What is wrong with a room's file is reported.
+    Check {
+        file: &'a str,
+    },
+    /// The board of a desk is shown.
+    Board {
+        look: Look<'a>,
+    },
+    /// The report of a division's day is written.
+    Times {
+        file: &'a str,
+        division: DivisionNumber,
+        day: &'a str,
+    },
+}
+
+impl<'a> Task<'a> {
+    ghost use Rattle.std.specs.Prelude.{◌≡◌};
+    ghost use Rattle.std.specs.Option.{option_map};
+    ghost use Rattle.dispatch_room_cli.specs.Tasks.{file_of};
+
+    /// The room's file: none of a board, which knows only where a room is served.
+    pub fn file(&self) -> Option<&'a str>
+        ensures { option_map (λ file. file.now) result ≡ file_of self.now }
+    {
+        match *self {
+            Task::Init { file, .. }
+            | Task::Import { file, .. }
+            | Task::Migrate { file }
+            | Task::Check { file }
+            | Task::Serve { file, .. }
+            | Task::Replay { file, .. }
+            | Task::Times { file, .. } => Some(file),
+            Task::Board { .. } => None,
+        }
+    }
+}
+
+/// Where a room is served, how much, and how long it waits.
+#[derive(Clone, Copy)]
+pub struct Service<'a> {
+    /// Where it listens: an address of this machine only.
+    pub address: SocketAddr,
+    /// How many connections it serves.
+    pub connections: u64,
+    /// How many milliseconds it waits for the first byte of a message.
+    pub idle: u16,
+    /// How many seconds a message has from its first byte, and an answer.
+    pub patience: u16,
+    /// Whether the paths of history are served.
+    pub history: bool,
+    /// Whether a line is written to standard error for each message.
+    pub log: bool,
+    /// Where each message is kept, if it is.
+    pub journal: Option<Journal<'a>>,
+}
+
+/// The file of a journal, and how it is kept.
+#[derive(Clone, Copy)]
+pub struct Journal<'a> {
+    pub list: &'a str,
+    /// Whether each record is on the disk before the room acts on it, or when the system writes it.
+    pub is_synced: bool,
+}
+
+/// How much of a journal is replayed, and what is reported of it.
+#[derive(Clone, Copy)]
+pub struct Replay {
+    /// The last moment that is replayed: all are by default.
+    pub until: Option<Moment>,
+    /// Whether each message is played as it comes, and its answer written.
+    pub answers: bool,
+    /// Whether the paths of history were served.
+    pub history: bool,
+}
+
+/// Which served room is looked at, by which desk, and how.
+#[derive(Clone, Copy)]
+pub struct Look<'a> {
+    /// Where the room is served.
+    pub address: &'a str,
+    /// The token of the desk.
+    pub token: &'a str,
+    /// The incident that is shown too, with what came of it and whom to send.
+    pub incident: Option<Number>,
+    /// How many seconds it may take in all.
+    pub patience: u16,
+    pub color: Color,
+}
+
+/// Whether a board has colours.
+#[derive(Clone, Copy, PartialEq, Eq)]
+pub enum Color {
+    /// It has on a terminal.
+    Auto,
+    Always,
+    Never,
+}

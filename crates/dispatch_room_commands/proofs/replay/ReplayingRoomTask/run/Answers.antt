@@ -1,0 +1,18 @@
+use Rattle.std.proofs.Common.{None, refl}
+use Rattle.dispatch_room_commands.proofs.replay.ReplayingRoomTask.run.Goals as goal
+
+pub returns-clause-done : goal.returns-clause-done
+returns-clause-done g c =
+    let said = c.replay_in-done.ensures in
+    record {
+      first = c.in_ok-room.room;
+      last = c.replay_in-done.new.room;
+      setting = record { zone = c.in_ok-room.zone; history = c.args.self.replay.now.history };
+      opens = c.in_ok-room.ensures.room;
+      is_set = record { zone = c.in_ok-room.ensures.zone; history = refl };
+      list = None;
+      read_failed = c.replay_in-done.new.list.failed;
+      replayed = said.replayed;
+      answered = said.answered;
+      closed = c.close.ensures;
+    }

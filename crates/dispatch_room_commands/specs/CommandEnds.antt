@@ -1,0 +1,62 @@
+-- How a command ends: what its words are to the program, and what it has shown.
+use Rattle.std.specs.Prelude.{Bool, Err, List, Ok, Option, Result, false, true, ℕ, ◌⊎◌, ◌≡◌}
+use Rattle.std.specs.Io.KnownBytes.{Appends}
+use Rattle.clap.specs.declared.error.ErrorKind.{ErrorKind}
+use Rattle.clap.specs.declared.error.ErrorKind.TheVariants as kind
+use Rattle.dispatch_room_board.specs.Boards.{IsBoard}
+use Rattle.dispatch_room_board.specs.declared.boards.Board.{Board}
+use Rattle.dispatch_room_board.specs.declared.boards.Reached.{Reached}
+use Rattle.dispatch_room_board.specs.declared.boards.Reached.TheVariants as reached
+use Rattle.dispatch_room_exit.specs.ExitStatus.{refused}
+use Rattle.dispatch_room_exit.specs.declared.exit_status.Done.{Done}
+use Rattle.dispatch_room_exit.specs.declared.exit_status.Done.TheVariants.{InPart, Whole}
+use Rattle.dispatch_room_exit.specs.declared.exit_status.Failure.{Failure}
+use Rattle.dispatch_room_exit.specs.declared.exit_status.Failure.TheVariants.{Differs, Memory, Network, OtherRoom, Record}
+use Rattle.dispatch_room_journal.specs.declared.replay_faults.ReplayFault.{ReplayFault}
+use Rattle.dispatch_room_journal.specs.declared.replay_faults.ReplayFault.TheVariants as replay
+use Rattle.dispatch_room_journal.specs.declared.replay_faults.Stopped.{Stopped}
+
+-- the words have a mistake: they neither ask for help nor want memory
+abbrev pub is_mistake : ErrorKind → Bool
+is_mistake kind.DisplayHelp = false
+is_mistake kind.DisplayVersion = false
+is_mistake kind.OutOfMemory = false
+is_mistake other = true
+
+-- what comes of help that is asked for: it is written, unless the output fails or memory is wanting
+abbrev pub IsHelpDone : ErrorKind → Result Done Failure → Type 0
+IsHelpDone kind.OutOfMemory done = done ≡ Err Memory
+IsHelpDone other done = (done ≡ Ok Whole) ⊎ (done ≡ Err Network)
+
+-- the exit status of words that are no command: 2 exactly where they have a mistake, else that of
+-- help
+abbrev pub IsWordsStatus : ErrorKind → ℕ → Type 0
+IsWordsStatus kind.OutOfMemory status = status ≡ 5
+IsWordsStatus kind.DisplayHelp status = (status ≡ 0) ⊎ (status ≡ 4)
+IsWordsStatus kind.DisplayVersion status = (status ≡ 0) ⊎ (status ≡ 4)
+IsWordsStatus other status = status ≡ 2
+
+-- how a board ends: refused parts are as rows that are refused, and what is not reached is the
+-- network's
+abbrev pub end_of_board : Reached → Result Done Failure
+end_of_board reached.All = Ok Whole
+end_of_board reached.AllButRefused = Ok InPart
+end_of_board reached.Less = Err Network
+
+-- the board of what was heard is written, and the command ends so
+abbrev pub IsPrinted : List ℕ → Bool → Bool → Option (List ℕ) → Option (List ℕ) → Done → Type 0
+IsPrinted heard proposes colour old new done =
+    (board : Board) × IsBoard heard proposes colour board × Appends old new board.page.text.items
+    × (end_of_board board.reached ≡ Ok done)
+
+-- why a replay stopped at a record, as the program reports it
+abbrev pub failure_at : ReplayFault → ℕ → Failure
+failure_at replay.Bad number = Record number
+failure_at replay.Differs number = Differs number
+failure_at replay.Another number = OtherRoom number
+failure_at replay.ReadFailed number = Network
+failure_at replay.WriteFailed number = Network
+failure_at (replay.Want refusal) number = refused refusal
+
+abbrev pub failure_of : Stopped → Failure
+failure_of stopped = failure_at stopped.fault stopped.number

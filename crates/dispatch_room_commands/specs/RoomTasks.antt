@@ -1,0 +1,198 @@
+-- What each command does in the database of a room's file, over any storage.
+use Rattle.std.specs.Global.{Global}
+use Rattle.std.specs.Io.KnownBytes.{Appends}
+use Rattle.std.specs.Prelude.{Bool, Err, IfOk, List, None, Ok, OnOk, Option, Result, Some, Vec, codes, decimal, false, true, ℕ, ◌++◌, ◌≡◌, ◌⊎◌}
+use Rattle.sqlite.specs.Held.{Held, state}
+use Rattle.sqlite.specs.State.{HasCleanDisk}
+use Rattle.sqlite_trees.specs.declared.store.Store.{Ghosts}
+use Rattle.room_types.specs.declared.fleet.Terminal.{Terminal}
+use Rattle.room_model.specs.Room.{Room}
+use Rattle.room_http.specs.Settings.{IsSetting}
+use Rattle.room_http.specs.declared.settings.Setting.{Setting}
+use Rattle.room_model.specs.Rooms.{Step, machine}
+use Rattle.room_store.specs.StoredRoom.{IsRoom}
+use Rattle.room_store.specs.declared.store.Store.{Store}
+use Rattle.room_store_file.specs.DigestTexts.{digest_of}
+use Rattle.room_store_check_tables.specs.HeldRooms.{WritesNothing}
+use Rattle.dispatch_room_disk.specs.RoomFiles.{Refusing, Saying}
+use Rattle.dispatch_room_exit.specs.declared.exit_status.Done.{Done}
+use Rattle.dispatch_room_exit.specs.declared.exit_status.Done.TheVariants.{Whole}
+use Rattle.dispatch_room_exit.specs.declared.exit_status.Failure.{Failure}
+use Rattle.dispatch_room_exit.specs.declared.exit_status.Failure.TheVariants.{Memory, Network}
+use Rattle.dispatch_room_csv.specs.declared.fleet_file.FleetLine.{FleetLine}
+use Rattle.dispatch_room_csv.specs.declared.plan_file.PlanFile.{PlanFile}
+use Rattle.dispatch_room_journal.specs.JournalRecords.{answer_text, message_text, room_text}
+use Rattle.dispatch_room_tasks.specs.OpenedRoom.{IsUnopened, OpensRoom}
+use Rattle.dispatch_room_journal.specs.AnswerFrames.{AnswersEach}
+use Rattle.dispatch_room_journal.specs.Replays.{DigitsOf, digits_of}
+use Rattle.dispatch_room_journal.specs.Replays as replay
+use Rattle.dispatch_room_journal.specs.declared.replay_faults.Stopped.{Stopped}
+use Rattle.dispatch_room_journal.specs.declared.replayed_journal.Replayed.{Replayed}
+use Rattle.dispatch_room_cli.specs.declared.tasks.Journal.{Journal}
+use Rattle.dispatch_room_cli.specs.declared.tasks.Replay.{Replay as How}
+use Rattle.dispatch_room_cli.specs.declared.tasks.Service.{Service}
+use Rattle.dispatch_room_commands.specs.CommandEnds.{failure_of}
+use Rattle.dispatch_room_commands.specs.declared.listeners.TcpAddress.{TcpAddress}
+use Rattle.dispatch_room_commands.specs.declared.serve.Served.{Served}
+use Rattle.dispatch_room_serving.specs.Callers.{Opening}
+use Rattle.dispatch_room_serving.specs.ServedRoom.{ServesRoom}
+use Rattle.dispatch_room_serving.specs.declared.served_room.Terms.{Terms}
+use Rattle.dispatch_room_tasks.specs.Examination as checked
+use Rattle.dispatch_room_tasks.specs.Creation as created
+use Rattle.dispatch_room_tasks.specs.TimesReport.{HasReported}
+use Rattle.dispatch_room_tasks.specs.Enrolment as imported
+use Rattle.dispatch_room_tasks.specs.Migration.{IsMigrated, IsUnmoved}
+
+-- the room of a plan is created, and reported
+abbrev pub Creates : PlanFile → Saying Done
+Creates plan = λ S g old new before after done.
+    created.IsCreated g old new plan × created.IsTold plan before after done
+
+-- or none is, for this
+abbrev pub CreatesNone : PlanFile → Refusing
+CreatesNone plan = λ S g conn. created.ExplainsNone (state g conn).now.schema plan
+
+-- no room is opened, for this
+abbrev pub OpensNone : Refusing
+OpensNone = λ S g conn. IsUnopened g conn
+
+-- the good rows of a fleet are enrolled, and what became of each line is reported
+abbrev pub Enrols : List FleetLine → Saying Done
+Enrols lines = λ S g old new before after done.
+    (HasCleanDisk (state g new) → imported.HasImportedIn g old new lines before after done)
+    × IfOk done (imported.IsTold lines before after)
+
+-- or memory is wanting, or no room is opened
+abbrev pub EnrolsNone : Refusing
+EnrolsNone = λ S g conn fault. (fault ≡ Memory) ⊎ IsUnopened g conn fault
+
+-- the room is moved from the first version to this one, and nothing is written yet
+abbrev pub Moves : Saying (Unit {0})
+Moves = λ S g old new before after done. IsMigrated g old new done × (after ≡ before)
+
+-- or none is, for this
+abbrev pub MovesNone : Refusing
+MovesNone = λ S g conn. IsUnmoved g conn
+
+-- how much the room has is reported, or what is wrong with its file; the file stays as it is
+abbrev pub Examines : Saying Done
+Examines = λ S g old new before after done.
+    checked.HasChecked g old new before after done
+    × OnOk done (checked.IsTold before after) × WritesNothing (state g old) (state g new)
+
+-- there is always something to report
+abbrev pub ExaminesNone : Refusing
+ExaminesNone = λ S g conn fault. ⊥
+
+-- a division's day is reported, and nothing is written yet; the room stays as it is
+abbrev pub Reports : ℕ → List ℕ → Saying (Vec ℕ Global)
+Reports division day = λ S g old new before after done.
+    (HasCleanDisk (state g new) → HasReported g old new division day done) × (after ≡ before)
+
+-- what is served of a room, by its service
+abbrev pub terms_of : Service → Terms
+terms_of service = record { connections = service.connections; history = service.history }
+
+-- how serving ended
+abbrev pub ended : {L : Type 0} → Result (Served L) Failure → Result Done Failure
+ended (Ok served) = Ok served.done
+ended (Err fault) = Err fault
+
+-- The room was served to so many calls, and a journal kept of it or none. What is known of the
+-- calls is what they are to what listened for them, before and after (`heard`, `told`), where that
+-- is given back. What is known of the moments and of the journal's file is said by who gives them.
+pub record IsServed {S L : Type 0} (heard : L → Option (List (Option Opening)))
+    (told : L → Option (List (Option (List ℕ)))) (g : Ghosts S) (old new : Held S)
+    (has_journal : Bool) (terms : Terms) (listener : L) (served : Result (Served L) Failure) : Type 0
+  where
+    pub hears : Option (List (Option Opening))
+    pub tells : Option (List (Option (List ℕ)))
+    pub known : IfOk served (λ served. (hears ≡ heard served.listener)
+        × (tells ≡ told served.listener))
+    pub given : Option (List ℕ)
+    pub gives : Option (List ℕ)
+    pub kept : Option (List ℕ)
+    pub keeps : Option (List ℕ)
+    pub fails : Bool
+    pub is : ServesRoom g has_journal room_text message_text answer_text terms.history old
+        (λ store. record {
+          heard = heard listener;
+          told = told listener;
+          stage = record { given = given; kept = kept; has_failed = false; store = store };
+        })
+        (λ store. record {
+          heard = hears;
+          told = tells;
+          stage = record { given = gives; kept = keeps; has_failed = fails; store = store };
+        })
+        terms.connections (ended served, new)
+
+abbrev pub Serves : {L : Type 0} → (L → Option (List (Option Opening)))
+    → (L → Option (List (Option (List ℕ)))) → Bool → Terms → L → Saying (Served L)
+Serves heard told has_journal terms listener = λ S g old new before after served.
+    IsServed heard told g old new has_journal terms listener served
+
+-- the same, where it is listened at an address of TCP: of that nothing is known
+abbrev pub ServesAddress : Bool → Terms → TcpAddress → Saying (Served TcpAddress)
+ServesAddress = Serves (λ _. None) (λ _. None)
+
+-- whether each message lasts before the room acts on it: where a journal is asked for that is so
+abbrev pub is_synced_by : Option Journal → Bool
+is_synced_by None = false
+is_synced_by (Some journal) = journal.is_synced
+
+-- what is reported of a replay: how many records it took, or why it stopped
+abbrev pub IsTold : Result Replayed Stopped → Option (List ℕ) → Option (List ℕ)
+    → Result Done Failure → Type 0
+IsTold (Ok replayed) before after (Ok done) =
+    Appends before after (codes "replayed " ++ (decimal replayed.records ++ codes "\n"))
+    × (done ≡ Whole)
+IsTold (Ok replayed) before after (Err fault) = fault ≡ Network
+IsTold (Err stopped) before after (Ok done) = ⊥
+IsTold (Err stopped) before after (Err fault) = fault ≡ failure_of stopped
+
+-- how the program ends by how answering each message did
+abbrev pub EndsAs : Result ℕ Stopped → Result Done Failure → Type 0
+EndsAs (Ok records) done = done ≡ Ok Whole
+EndsAs (Err stopped) done = done ≡ Err (failure_of stopped)
+
+-- Where a room is served by these steps in this setting, and stood for the first and stands for the
+-- last: what is done with a list.
+module _ (step : Step) (setting : Setting) (digits : DigitsOf) (trusted : Type 0)
+    (stood stands : List Terminal → Room → Type 0) (list before after : Option (List ℕ))
+    (read_failed : Bool) (done : Result Done Failure) where
+  -- it is replayed up to a moment, and how much it was is reported
+  pub record IsReplayed (until : Option ℕ) : Type 0 where
+    pub result : Result Replayed Stopped
+    pub is : replay.Replays step setting digits trusted stood stands list until read_failed result
+    pub told : IsTold result before after done
+
+  -- each of its messages is answered, and the answers are written
+  pub record AreAnswered : Type 0 where
+    pub result : Result ℕ Stopped
+    pub write_failed : Bool
+    pub is : AnswersEach step setting digits trusted stood stands list before after read_failed
+        write_failed result
+    pub ends : EndsAs result done
+
+-- A list was replayed to the room, or its messages answered, as it was asked. What is written of
+-- the answers is said by who writes them.
+pub record HasReplayed {S : Type 0} (g : Ghosts S) (old new : Held S) (how : How)
+    (before after : Option (List ℕ)) (done : Result Done Failure) : Type 0 where
+  pub first : Store S
+  pub last : Store S
+  pub setting : Setting
+  pub opens : HasCleanDisk (state g first.conn) → OpensRoom g old first
+  pub is_set : IsSetting first.plan.zone how.history setting
+  pub list : Option (List ℕ)
+  pub read_failed : Bool
+  pub replayed : how.answers ≡ false → IsReplayed machine setting
+      (digits_of digest_of first.plan.zone) (HasCleanDisk (state g last.conn)) (IsRoom g first)
+      (IsRoom g last) list before after read_failed done how.until
+  pub answered : how.answers ≡ true → (holds : Option (List ℕ)) × AreAnswered machine setting
+      (digits_of digest_of first.plan.zone) (HasCleanDisk (state g last.conn)) (IsRoom g first)
+      (IsRoom g last) list before holds read_failed done
+  pub closed : new ≡ last.conn
+
+abbrev pub Replays : How → Saying Done
+Replays how = λ S g old new before after done. HasReplayed g old new how before after done

@@ -1,0 +1,75 @@
+//! `import`: the rows of a fleet are enrolled in a room.
+ghost use Rattle.std.specs.Prelude.{IfErr, IfOk};
+ghost use Rattle.dispatch_room_commands.specs.DoneTasks.{FailsImport, IsImport};
+ghost use Rattle.dispatch_room_commands.specs.RoomTasks.{Enrols, EnrolsNone};
+
+use crate::files::read_text;
+use dispatch_room_csv::fleet_file::{FleetLine, read_fleet};
+use dispatch_room_csv::fleet_file_faults::explain_fleet;
+use dispatch_room_csv::sheets::Sheet;
+use dispatch_room_disk::room_files::{RoomFile, RoomTask, in_file};
+use dispatch_room_exit::exit_status::{Done, Failure};
+use dispatch_room_exit::explainer::Explainer;
+use dispatch_room_tasks::enrolment::enrol_in;
+use dispatch_room_tasks::opened_room::TaskResult;
+use sqlite::{Alter, Connection};
+use std::alloc::Global;
+use std::io::Write;
+
+/// Enrols the good rows of a fleet in order, and reports what became of each row. Where a row is
+/// bad or refused, the other rows are enrolled all the same.
+pub fn import<O: Write>(
+    rt: &HostRuntime,
+    explainer: Explainer<'_>,
+    alloc: Global,
+    file: &str,
+    fleet: &str,
+    out: &mut O,
+) -> Result<Done, Failure>
+    ensures done { IfOk result (IsImport (O.contents out.old) (O.contents out.new)) }
+    ensures undone { IfErr result (FailsImport (O.contents out.old) (O.contents out.new)) }
+{
+    let text = read_text(rt, explainer, fleet)?;
+    let sheet = Sheet::new(alloc, explainer, fleet, text.as_slice());
+    let lines = lines_in(sheet)?;
+    let enrolment = Enrolment {
+        sheet,
+        lines: lines.as_slice(),
+    };
+    in_file(rt, explainer, alloc, RoomFile::Kept(file), enrolment, out)
+}
+
+// The rows that a file of a fleet has, or it is explained why it has none.
+fn lines_in(sheet: Sheet<'_>) -> Result<Vec<FleetLine>, Failure> {
+    match read_fleet(sheet.alloc, sheet.text) {
+        Ok(lines) => Ok(lines),
+        Err(fault) => {
+            explain_fleet(sheet, fault);
+            Err(Failure::from(fault))
+        }
+    }
+}
+
+// The rows of a fleet are enrolled.
+#[derive(Clone, Copy)]
+struct Enrolment<'a> {
+    sheet: Sheet<'a>,
+    lines: &'a [FleetLine],
+}
+
+impl<'a> RoomTask for Enrolment<'a> {
+    type Done = Done;
+
+    ghost says = { λ work. Enrols work.lines.now };
+
+    ghost refuses = { λ _. EnrolsNone };
+
+    fn run<S: Alter + Drop, O: Write>(
+        self,
+        alloc: Global,
+        conn: Connection<S>,
+        out: &mut O,
+    ) -> TaskResult<Done, S> {
+        enrol_in(alloc, conn, self.sheet, self.lines, out)
+    }
+}

@@ -1,0 +1,52 @@
+//! `migrate`: a room of the first version is moved to this one.
+ghost use Rattle.std.specs.Prelude.{IfErr, IfOk};
+ghost use Rattle.dispatch_room_commands.specs.DoneTasks.{FailsMigrate, IsMigrate};
+ghost use Rattle.dispatch_room_commands.specs.RoomTasks.{Moves, MovesNone};
+
+use dispatch_room_disk::room_files::{RoomFile, RoomTask, in_file};
+use dispatch_room_exit::exit_status::{Done, Failure};
+use dispatch_room_exit::explainer::Explainer;
+use dispatch_room_tasks::migration::migrate_in;
+use dispatch_room_tasks::opened_room::TaskResult;
+use sqlite::{Alter, Connection};
+use std::alloc::Global;
+use std::io::Write;
+
+/// Moves the room of a file from the first version to this one, and reports that it did.
+pub fn migrate<O: Write>(
+    rt: &HostRuntime,
+    explainer: Explainer<'_>,
+    alloc: Global,
+    file: &str,
+    out: &mut O,
+) -> Result<Done, Failure>
+    ensures done { IfOk result (IsMigrate (O.contents out.old) (O.contents out.new)) }
+    ensures undone { IfErr result (FailsMigrate (O.contents out.old) (O.contents out.new)) }
+{
+    in_file(rt, explainer, alloc, RoomFile::Old(file), Move, out)?;
+    match writeln!(out, "migrated") {
+        Ok(()) => Ok(Done::Whole),
+        Err(_) => Err(Failure::Network),
+    }
+}
+
+// The room is moved, and nothing reported yet.
+#[derive(Clone, Copy)]
+struct Move;
+
+impl RoomTask for Move {
+    type Done = ();
+
+    ghost says = { λ _. Moves };
+
+    ghost refuses = { λ _. MovesNone };
+
+    fn run<S: Alter + Drop, O: Write>(
+        self,
+        alloc: Global,
+        conn: Connection<S>,
+        _out: &mut O,
+    ) -> TaskResult<(), S> {
+        migrate_in(alloc, conn)
+    }
+}

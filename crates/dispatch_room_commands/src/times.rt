@@ -1,0 +1,67 @@
+//! `times`: the report of a division's day.
+ghost use Rattle.std.specs.Prelude.{IfErr, IfOk};
+ghost use Rattle.dispatch_room_commands.specs.DoneTasks.{FailsTimes, IsTimes};
+ghost use Rattle.dispatch_room_commands.specs.RoomTasks.{OpensNone, Reports};
+
+use dispatch_room_disk::room_files::{RoomFile, RoomTask, in_file};
+use dispatch_room_exit::exit_status::{Done, Failure};
+use dispatch_room_exit::explainer::Explainer;
+use dispatch_room_tasks::opened_room::TaskResult;
+use dispatch_room_tasks::times_report::report_in;
+use room_place::plans::DivisionNumber;
+use sqlite::{Alter, Connection};
+use std::alloc::Global;
+use std::io::Write;
+
+/// Writes the activation times of a division's day as CSV.
+pub fn times<O: Write>(
+    rt: &HostRuntime,
+    explainer: Explainer<'_>,
+    alloc: Global,
+    file: &str,
+    division: DivisionNumber,
+    day: &str,
+    out: &mut O,
+) -> Result<Done, Failure>
+    ensures done { IfOk result (λ done.
+        IsTimes (O.contents out.old) (O.contents out.new) done division day.now) }
+    ensures undone { IfErr result (λ fault.
+        FailsTimes (O.contents out.old) (O.contents out.new) fault division day.now) }
+{
+    let report = in_file(
+        rt,
+        explainer,
+        alloc,
+        RoomFile::Kept(file),
+        Report { division, day },
+        out,
+    )?;
+    match out.write_all(report.as_slice()) {
+        Ok(()) => Ok(Done::Whole),
+        Err(_) => Err(Failure::Network),
+    }
+}
+
+// The day of a division is reported.
+#[derive(Clone, Copy)]
+struct Report<'a> {
+    division: DivisionNumber,
+    day: &'a str,
+}
+
+impl<'a> RoomTask for Report<'a> {
+    type Done = Vec<u8>;
+
+    ghost says = { λ work. Reports work.division work.day.now };
+
+    ghost refuses = { λ _. OpensNone };
+
+    fn run<S: Alter + Drop, O: Write>(
+        self,
+        alloc: Global,
+        conn: Connection<S>,
+        _out: &mut O,
+    ) -> TaskResult<Vec<u8>, S> {
+        report_in(alloc, conn, self.division, self.day)
+    }
+}

@@ -1,0 +1,28 @@
+//! The log that is made beside a room's file as the file is opened: it goes again where nothing
+//! comes of that.
+
+use std::fs;
+use std::io::ErrorKind;
+
+/// The path of the log that a file lacks. It lies where the file does, to which a link may lead.
+pub(crate) fn lacked_log(rt: &HostRuntime, path: &str) -> Option<String> {
+    let file = fs::canonicalize(rt, path).ok()?;
+    let log = format!(in rt.alloc(); "{}-wal", file.as_str()).ok()?;
+    match fs::symlink_metadata(rt, log.as_str()) {
+        Err(error) if error.kind() == ErrorKind::NotFound => Some(log),
+        _ => None,
+    }
+}
+
+/// Removes a log that was lacked, where nothing stands in it. Who calls this has it locked, so
+/// nobody else writes it. One that can't be removed is left: why the file was opened in vain is
+/// reported all the same.
+pub(crate) fn remove_unused(rt: &HostRuntime, lacked: Option<String>) {
+    if let Some(log) = lacked
+        && let Ok(found) = fs::symlink_metadata(rt, log.as_str())
+        && found.is_file()
+        && found.len() == 0
+    {
+        let _ = fs::remove_file(rt, log.as_str());
+    }
+}

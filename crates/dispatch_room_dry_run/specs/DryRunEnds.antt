@@ -1,0 +1,30 @@
+-- How the dry run ends as a program.
+use Rattle.std.specs.Prelude.{◌≡◌, ℕ, Result, Ok, Err}
+use Rattle.room_http.specs.declared.session.ServeEnd.{ServeEnd}
+use Rattle.room_http.specs.declared.session.ServeEnd.TheVariants as end
+use Rattle.room_types.specs.declared.refusals.Refusal.{Refusal}
+use Rattle.dispatch_room_exit.specs.ExitStatus.{refused, status_after}
+use Rattle.dispatch_room_exit.specs.declared.exit_status.Done.{Done}
+use Rattle.dispatch_room_exit.specs.declared.exit_status.Done.TheVariants.{Whole}
+use Rattle.dispatch_room_exit.specs.declared.exit_status.Failure.{Failure}
+use Rattle.dispatch_room_exit.specs.declared.exit_status.Failure.TheVariants.{Connection, Journal, Memory, Network}
+
+-- a program that serves one connection is done where it closed, and else fails
+abbrev pub ended : ServeEnd → Result Done Failure
+ended end.Closed = Ok Whole
+ended end.Cut = Err Connection
+ended end.ReadFault = Err Network
+ended end.WriteFault = Err Network
+ended end.ClockFault = Err Connection
+ended end.ReadsSpent = Err Connection
+ended end.Memory = Err Memory
+ended end.Unkept = Err Journal
+
+-- the same where no room could be made to serve
+abbrev pub end_of : Result ServeEnd Refusal → Result Done Failure
+end_of (Ok end) = ended end
+end_of (Err want) = Err (refused want)
+
+-- a number is the exit status of a dry run
+abbrev pub IsStatus : ℕ → Type 0
+IsStatus status = (done : Result Done Failure) × (status ≡ status_after done)

@@ -1,0 +1,59 @@
+//! The dry run: the example room in memory, served over one connection, always at the same moment.
+ghost use Rattle.std.specs.Prelude.{◌≡◌, ℕ, Bool, false, [], Some, replicate, IfOk, IfErr, OnOk, OnErr};
+ghost use Rattle.room_http.specs.Session.{ReadsAtMost};
+ghost use Rattle.room_model.specs.Rooms.{IsWant};
+ghost use Rattle.dispatch_room_dry_run.specs.Example.{IsExampleTalk};
+ghost use Rattle.dispatch_room_dry_run.specs.DryRun.{example_moment, most_reads};
+
+use crate::example_session::serve_example;
+use room_http::session::ServeEnd;
+use room_http_messages::sinks::Sink;
+use room_http_messages::sources::Source;
+use room_http_time::clocks::FixedClock;
+use room_types::refusals::Refusal;
+use std::alloc::Global;
+
+/// The moment of all that happens in it.
+const MOMENT: u64 = 1000;
+
+/// How many reads it makes at most.
+const MOST_READS: u32 = 10_000;
+
+/// Serves the example room, made anew in memory, to a reader and a writer. A refusal is lack of
+/// memory or of storage, and then nothing was read or written.
+pub fn dry_run<R: Source, W: Sink>(
+    alloc: Global,
+    reader: &mut R,
+    writer: &mut W,
+) -> Result<ServeEnd, Refusal>
+    requires reader { R.has_failed reader.old ≡ false }
+    requires writer { W.has_failed writer.old ≡ false }
+    ensures reads { OnOk result (ReadsAtMost most_reads (R.reads reader.old) (R.reads reader.new)) }
+    // What is written is the talk of the example room with the messages that are read, all at one
+    // moment.
+    ensures talk { IfOk result (λ end. (count : ℕ) × (was_none : Bool) × IsExampleTalk
+        (record {
+          left = R.left reader.old;
+          reads = R.reads reader.old;
+          held = W.held writer.old;
+          given = Some [];
+        })
+        (record {
+          reads = R.reads reader.new;
+          held = W.held writer.new;
+          given = Some
+              (replicate count example_moment);
+          read_failed = R.has_failed reader.new;
+          read_ended = R.has_ended reader.new;
+          write_failed = W.has_failed writer.new;
+          was_none = was_none;
+          observer_failed = false;
+        })
+        most_reads end) }
+    ensures wants { IfErr result IsWant }
+    ensures unused { OnErr result ((reader.new ≡ reader.old) × (writer.new ≡ writer.old)) }
+{
+    let mut clock = FixedClock::<MOMENT>::new();
+    let end = serve_example(alloc, reader, writer, &mut clock, MOST_READS)?;
+    Ok(end)
+}

@@ -1,0 +1,70 @@
+//! The dry run over the standard input and output of a program.
+ghost use Rattle.std.specs.Prelude.{◌≡◌, [], false, replicate, IfOk, Result, Some};
+ghost use Rattle.room_http.specs.declared.session.ServeEnd.{ServeEnd as End};
+ghost use Rattle.room_types.specs.declared.refusals.Refusal.{Refusal as Want};
+ghost use Rattle.dispatch_room_dry_run.specs.DryRun.{example_moment};
+ghost use Rattle.dispatch_room_dry_run.specs.DryRunEnds.{IsStatus, end_of, ended};
+ghost use Rattle.dispatch_room_dry_run.specs.Example.{IsDryRun};
+
+use crate::dry_run::dry_run;
+use dispatch_room_exit::exit_status::{Done, Failure, end, refused};
+use room_http::session::ServeEnd;
+use room_http_messages::sinks::Sink;
+use room_http_messages::sources::Source;
+use room_http_messages::standard_wires::Wire;
+use std::alloc::Global;
+
+/// Runs it, reports on standard error why it fails, and returns its exit status.
+pub fn run(rt: &HostRuntime) -> u8
+    ensures { IsStatus result }
+{
+    let mut reader = Wire::new(rt.stdin());
+    let mut writer = Wire::new(rt.stdout());
+    let done = over_streams(rt.alloc(), &mut reader, &mut writer);
+    end(done, &mut rt.stderr())
+}
+
+// The dry run over any streams, and why it fails.
+fn over_streams<R: Source, W: Sink>(
+    alloc: Global,
+    reader: &mut R,
+    writer: &mut W,
+) -> Result<Done, Failure>
+    requires reader { R.has_failed reader.old ≡ false }
+    requires writer { W.has_failed writer.old ≡ false }
+    ensures { (served : Result End Want) × (result ≡ end_of served) × IfOk served (IsDryRun
+        (record {
+          left = R.left reader.old;
+          reads = R.reads reader.old;
+          held = W.held writer.old;
+          given = Some [];
+        })
+        (λ count was_none. record {
+          reads = R.reads reader.new;
+          held = W.held writer.new;
+          given = Some (replicate count example_moment);
+          read_failed = R.has_failed reader.new;
+          read_ended = R.has_ended reader.new;
+          write_failed = W.has_failed writer.new;
+          was_none = was_none;
+          observer_failed = false;
+        })) }
+{
+    match dry_run(alloc, reader, writer) {
+        Ok(end) => ended(end),
+        Err(want) => Err(refused(want)),
+    }
+}
+
+// What the end of serving one connection is to a program that served no more.
+fn ended(end: ServeEnd) -> Result<Done, Failure>
+    ensures { result ≡ ended end }
+{
+    match end {
+        ServeEnd::Closed => Ok(Done::Whole),
+        ServeEnd::Cut | ServeEnd::ClockFault | ServeEnd::ReadsSpent => Err(Failure::Connection),
+        ServeEnd::ReadFault | ServeEnd::WriteFault => Err(Failure::Network),
+        ServeEnd::Memory => Err(Failure::Memory),
+        ServeEnd::Unkept => Err(Failure::Journal),
+    }
+}

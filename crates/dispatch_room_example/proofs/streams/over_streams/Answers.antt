@@ -1,8 +1,0 @@
-use Rattle.std.proofs.Common.{Err, Ok, ap}
-use Rattle.dispatch_room_example.proofs.streams.over_streams.Goals as goal
-
-pub returns-in-Ok : goal.returns-in-Ok
-returns-in-Ok g c = (Ok c.in-Ok.end, c.ended.ensures, c.in-Ok.ensures.talk)
-
-pub returns-in-Err : goal.returns-in-Err
-returns-in-Err g c = (Err c.in-Err.want, ap Err c.refused.ensures, tt)

@@ -1,0 +1,83 @@
+//! A message of a journal, and what becomes of it.
+ghost use Rattle.std.specs.Prelude.{◌≡◌, ℕ, List, false};
+ghost use Rattle.std.specs.Io.KnownBytes.{prepend_known};
+ghost use Rattle.dispatch_room_journal.specs.Entries.{message};
+ghost use Rattle.dispatch_room_journal.specs.EntryPrefixes.{IsLayout};
+ghost use Rattle.dispatch_room_journal.specs.Replays.{UnlessOutOfMemory, digits_of};
+ghost use Rattle.dispatch_room_journal.specs.ReplaySteps.{MessageIs};
+
+use crate::entry_prefixes::EntryLayout;
+use crate::entry_reader::read_entry;
+use crate::journal_inbox::JournalInbox;
+use crate::next_entry::read_fault;
+use crate::outcomes::settle;
+use crate::replay_faults::ReplayFault;
+use room_http::settings::Setting;
+use room_http_messages::sources::Source;
+use room_http_requests::routes::Routes;
+use room_model::digests::Digested;
+use room_types::numbers::Moment;
+use room_types::refusals::Refusal;
+use std::alloc::Global;
+
+/// What became of a message.
+#[derive(Clone, Copy)]
+pub enum Turned {
+    /// It was played, with what followed it.
+    Played,
+    /// It has no status, and was left out.
+    LeftOut,
+    /// So was it, and nothing follows it.
+    Last,
+}
+
+/// Plays the message at the front of the journal, or leaves it out, by what follows it. It is
+/// copied, since what follows it takes its place.
+pub fn replay_message<R: Source, M: Digested>(
+    alloc: Global,
+    routes: &Routes,
+    setting: &Setting,
+    inbox: &mut JournalInbox,
+    reader: &mut R,
+    room: &mut M,
+    at: Moment,
+    layout: &EntryLayout,
+) -> Result<Turned, ReplayFault>
+    requires ready { M.is_ready room.old }
+    requires sound { R.has_failed reader.old ≡ false }
+    requires front { (sent : List ℕ) × IsLayout inbox.old.kept layout.now (message at sent) }
+    ensures ready { M.is_ready room.new }
+    ensures zone { M.zone room.new ≡ M.zone room.old }
+    ensures trusted { M.is_trusted room.new → M.is_trusted room.old }
+    ensures turn { MessageIs M.step setting.now (digits_of M.digest_of (M.zone room.old))
+        (M.is_trusted room.new) (M.stands room.old) (M.stands room.new)
+        (prepend_known inbox.old.kept (R.left reader.old))
+        (prepend_known inbox.new.kept (R.left reader.new)) (R.has_failed reader.new) at result }
+    ensures kept { M.is_trusted room.new → UnlessOutOfMemory result (M.is_kept room.old
+        → M.is_kept room.new) }
+{
+    let Ok(sent) = inbox.message(layout).to_vec(alloc) else {
+        return Err(ReplayFault::Want(Refusal::Memory));
+    };
+    inbox.remove(layout);
+    match read_entry(inbox, reader) {
+        Err(fault) => Err(read_fault(fault)),
+        Ok(None) => Ok(Turned::Last),
+        Ok(Some(next)) => match settle(
+            alloc,
+            routes,
+            setting,
+            room,
+            sent.as_slice(),
+            at,
+            &next.line,
+        ) {
+            Ok(true) => {
+                inbox.remove(&next);
+                Ok(Turned::Played)
+            }
+            Ok(false) => Ok(Turned::LeftOut),
+            Err(fault) => Err(fault),
+        },
+    }
+}

@@ -1,0 +1,111 @@
+//! What becomes of a message, by what follows it in the journal.
+ghost use Rattle.std.specs.Prelude.{◌≡◌};
+ghost use Rattle.std.specs.Prelude.{◌≤◌, length};
+ghost use Rattle.room_http_messages.specs.declared.limits.TheConstants.{INBOX_ROOM};
+ghost use Rattle.dispatch_room_journal.specs.declared.entry_lines.EntryLine.TheVariants.{Answer, Room};
+ghost use Rattle.dispatch_room_journal.specs.Replays.{UnlessOutOfMemory, digits_of};
+ghost use Rattle.dispatch_room_journal.specs.ReplaySteps.{Settles};
+
+use crate::entry_lines::EntryLine;
+use crate::played_message::{has_status, is_at, play, play_towards};
+use crate::replay_faults::ReplayFault;
+use room_http::settings::Setting;
+use room_http_requests::routes::Routes;
+use room_model::digests::{Digested, Head};
+use room_types::numbers::Moment;
+use std::alloc::Global;
+
+/// Plays a message that has this status, whose entry is taken with it.
+fn play_answered<M: Digested>(
+    alloc: Global,
+    routes: &Routes,
+    setting: &Setting,
+    room: &mut M,
+    sent: &[u8],
+    at: Moment,
+    status: u16,
+) -> Result<bool, ReplayFault>
+    requires ready { M.is_ready room.old }
+    requires fits { length sent.now ≤ INBOX_ROOM }
+    ensures ready { M.is_ready room.new }
+    ensures zone { M.zone room.new ≡ M.zone room.old }
+    ensures trusted { M.is_trusted room.new → M.is_trusted room.old }
+    ensures turn { Settles M.step setting.now (digits_of M.digest_of (M.zone room.old))
+        (M.is_trusted room.new)
+        (M.stands room.old) (M.stands room.new) at sent.now (Answer status) result }
+    ensures kept { M.is_trusted room.new → UnlessOutOfMemory result (M.is_kept room.old
+        → M.is_kept room.new) }
+{
+    match play(alloc, routes, setting, room, sent, at) {
+        Ok(told) => {
+            if has_status(told.as_slice(), status) {
+                Ok(true)
+            } else {
+                Err(ReplayFault::Differs)
+            }
+        }
+        Err(fault) => Err(fault),
+    }
+}
+
+/// Plays a message that has no status before the head of a part, where the room has not come to
+/// the head's digest yet and comes to it by the message. Whether it was played. Where the room
+/// would come to another digest, nothing is done.
+fn replay_unanswered<M: Digested>(
+    alloc: Global,
+    routes: &Routes,
+    setting: &Setting,
+    room: &mut M,
+    sent: &[u8],
+    at: Moment,
+    head: &Head,
+) -> Result<bool, ReplayFault>
+    requires ready { M.is_ready room.old }
+    requires fits { length sent.now ≤ INBOX_ROOM }
+    ensures ready { M.is_ready room.new }
+    ensures zone { M.zone room.new ≡ M.zone room.old }
+    ensures trusted { M.is_trusted room.new → M.is_trusted room.old }
+    ensures turn { Settles M.step setting.now (digits_of M.digest_of (M.zone room.old))
+        (M.is_trusted room.new)
+        (M.stands room.old) (M.stands room.new) at sent.now (Room head.now) result }
+    ensures kept { M.is_trusted room.new → UnlessOutOfMemory result (M.is_kept room.old
+        → M.is_kept room.new) }
+{
+    match is_at(room, head) {
+        Ok(true) => Ok(false),
+        Ok(false) => match play_towards(alloc, routes, setting, room, sent, at, head) {
+            Ok(()) => Ok(true),
+            Err(fault) => Err(fault),
+        },
+        Err(fault) => Err(fault),
+    }
+}
+
+/// Plays a message or leaves it out, by the line that follows it. Whether that line's entry is
+/// taken with it.
+pub fn settle<M: Digested>(
+    alloc: Global,
+    routes: &Routes,
+    setting: &Setting,
+    room: &mut M,
+    sent: &[u8],
+    at: Moment,
+    line: &EntryLine,
+) -> Result<bool, ReplayFault>
+    requires ready { M.is_ready room.old }
+    requires fits { length sent.now ≤ INBOX_ROOM }
+    ensures ready { M.is_ready room.new }
+    ensures zone { M.zone room.new ≡ M.zone room.old }
+    ensures trusted { M.is_trusted room.new → M.is_trusted room.old }
+    ensures turn { Settles M.step setting.now (digits_of M.digest_of (M.zone room.old))
+        (M.is_trusted room.new)
+        (M.stands room.old) (M.stands room.new) at sent.now line.now result }
+    ensures kept { M.is_trusted room.new → UnlessOutOfMemory result (M.is_kept room.old
+        → M.is_kept room.new) }
+{
+    match line {
+        EntryLine::Answer(status) => play_answered(alloc, routes, setting, room, sent, at, *status),
+        EntryLine::Room(head) => replay_unanswered(alloc, routes, setting, room, sent, at, head),
+        EntryLine::Message { .. } => Ok(false),
+    }
+}

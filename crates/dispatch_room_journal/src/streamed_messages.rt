@@ -1,0 +1,220 @@
+//! The messages of a journal, each played as soon as it is whole.
+ghost use Rattle.std.specs.Prelude.{◌≡◌, [], ℕ, List, false, None};
+ghost use Rattle.std.specs.Io.KnownBytes.{prepend_known};
+ghost use Rattle.dispatch_room_journal.specs.Entries.{message};
+ghost use Rattle.dispatch_room_journal.specs.EntryPrefixes.{IsLayout};
+ghost use Rattle.dispatch_room_journal.specs.AnswerFrames.{AnswersEach, AnswersTurn, EachIs, FollowIs};
+ghost use Rattle.dispatch_room_journal.specs.Replays.{UnlessStopped, UnlessOutOfMemory, digits_of};
+
+use crate::answer_frames::put_frame;
+use crate::entry_lines::EntryLine;
+use crate::entry_prefixes::EntryLayout;
+use crate::entry_reader::read_entry;
+use crate::journal_inbox::JournalInbox;
+use crate::next_entry::{Next, next_entry, read_fault};
+use crate::played_message::{has_status, play};
+use crate::replay_faults::{ReplayFault, Stopped};
+use crate::replay_progress::Progress;
+use crate::replayed_journal::{memory, stopped};
+use room_http::settings::Setting;
+use room_http_messages::sinks::Sink;
+use room_http_messages::sources::Source;
+use room_http_requests::routes::Routes;
+use room_model::digests::Digested;
+use room_types::numbers::Moment;
+use std::alloc::Global;
+
+/// Compares the status that follows an answer, if one does. Whether it was taken.
+fn follow<R: Source>(
+    inbox: &mut JournalInbox,
+    reader: &mut R,
+    told: &[u8],
+) -> Result<bool, ReplayFault>
+    requires { R.has_failed reader.old ≡ false }
+    ensures { FollowIs (prepend_known inbox.old.kept (R.left reader.old))
+        (prepend_known inbox.new.kept (R.left reader.new)) (R.has_failed reader.new) told.now
+        result }
+{
+    match read_entry(inbox, reader) {
+        Err(fault) => Err(read_fault(fault)),
+        Ok(None) => Ok(false),
+        Ok(Some(next)) => match &next.line {
+            EntryLine::Answer(status) => {
+                if has_status(told, *status) {
+                    inbox.remove(&next);
+                    Ok(true)
+                } else {
+                    Err(ReplayFault::Differs)
+                }
+            }
+            _ => Ok(false),
+        },
+    }
+}
+
+/// Plays the message at the front of the journal, writes its answer in its frame, and compares the
+/// status that follows, if one does.
+fn answer_message<R: Source, W: Sink, M: Digested>(
+    alloc: Global,
+    routes: &Routes,
+    setting: &Setting,
+    inbox: &mut JournalInbox,
+    reader: &mut R,
+    writer: &mut W,
+    room: &mut M,
+    at: Moment,
+    layout: &EntryLayout,
+) -> Result<(), ReplayFault>
+    requires ready { M.is_ready room.old }
+    requires reader { R.has_failed reader.old ≡ false }
+    requires writer { W.has_failed writer.old ≡ false }
+    requires front { (sent : List ℕ) × IsLayout inbox.old.kept layout.now (message at sent) }
+    ensures ready { M.is_ready room.new }
+    ensures zone { M.zone room.new ≡ M.zone room.old }
+    ensures trusted { M.is_trusted room.new → M.is_trusted room.old }
+    ensures turn { EachIs M.step setting.now (digits_of M.digest_of (M.zone room.old))
+        (M.is_trusted room.new) (M.stands room.old) (M.stands room.new)
+        (prepend_known inbox.old.kept (R.left reader.old))
+        (prepend_known inbox.new.kept (R.left reader.new)) (W.held writer.old) (W.held writer.new)
+        at (R.has_failed reader.new) (W.has_failed writer.new) result }
+    ensures kept { M.is_trusted room.new → UnlessOutOfMemory result (M.is_kept room.old
+        → M.is_kept room.new) }
+{
+    match play(alloc, routes, setting, room, inbox.message(layout), at) {
+        Err(fault) => Err(fault),
+        Ok(told) => {
+            inbox.remove(layout);
+            match put_frame(writer, told.as_slice()) {
+                Err(_) => Err(ReplayFault::WriteFailed),
+                Ok(()) => match follow(inbox, reader, told.as_slice()) {
+                    Ok(_) => Ok(()),
+                    Err(fault) => Err(fault),
+                },
+            }
+        }
+    }
+}
+
+/// Takes the next turn of a journal. Whether it goes on.
+fn answer_turn<R: Source, W: Sink, M: Digested>(
+    alloc: Global,
+    routes: &Routes,
+    setting: &Setting,
+    inbox: &mut JournalInbox,
+    reader: &mut R,
+    writer: &mut W,
+    room: &mut M,
+    progress: &mut Progress,
+) -> Result<bool, ReplayFault>
+    requires ready { M.is_ready room.old }
+    requires reader { R.has_failed reader.old ≡ false }
+    requires writer { W.has_failed writer.old ≡ false }
+    ensures ready { M.is_ready room.new }
+    ensures zone { M.zone room.new ≡ M.zone room.old }
+    ensures trusted { M.is_trusted room.new → M.is_trusted room.old }
+    ensures turn { AnswersTurn M.step setting.now (digits_of M.digest_of (M.zone room.old))
+        (M.is_trusted room.new) (M.stands room.old) (M.stands room.new)
+        (prepend_known inbox.old.kept (R.left reader.old))
+        (prepend_known inbox.new.kept (R.left reader.new)) (W.held writer.old) (W.held writer.new)
+        progress.old progress.new (R.has_failed reader.new) (W.has_failed writer.new) result }
+    ensures kept { M.is_trusted room.new → UnlessOutOfMemory result (M.is_kept room.old
+        → M.is_kept room.new) }
+{
+    match next_entry(inbox, reader, room, &None, progress.is_begun) {
+        Err(fault) => Err(fault),
+        Ok(next) => match &next {
+            Next::End => Ok(false),
+            Next::Head => {
+                progress.note_head();
+                Ok(true)
+            }
+            Next::Message { at, layout } => {
+                match answer_message(
+                    alloc, routes, setting, inbox, reader, writer, room, *at, layout,
+                ) {
+                    Err(fault) => Err(fault),
+                    Ok(()) => {
+                        progress.note_message(false);
+                        Ok(true)
+                    }
+                }
+            }
+        },
+    }
+}
+
+/// Plays the messages of a journal of which nothing was read yet.
+fn answer_turns<R: Source, W: Sink, M: Digested>(
+    alloc: Global,
+    routes: &Routes,
+    setting: &Setting,
+    inbox: &mut JournalInbox,
+    reader: &mut R,
+    writer: &mut W,
+    room: &mut M,
+) -> Result<u64, Stopped>
+    requires reader { R.has_failed reader.old ≡ false }
+    requires writer { W.has_failed writer.old ≡ false }
+    requires ready { M.is_ready room.old }
+    requires empty { inbox.old.kept ≡ [] }
+    ensures ready { M.is_ready room.new }
+    ensures zone { M.zone room.new ≡ M.zone room.old }
+    ensures trusted { M.is_trusted room.new → M.is_trusted room.old }
+    ensures answers { AnswersEach M.step setting.now (digits_of M.digest_of (M.zone room.old))
+        (M.is_trusted room.new)
+        (M.stands room.old) (M.stands room.new) (R.left reader.old) (W.held writer.old)
+        (W.held writer.new) (R.has_failed reader.new) (W.has_failed writer.new) result }
+    ensures kept { M.is_trusted room.new → UnlessStopped result (M.is_kept room.old
+        → M.is_kept room.new) }
+{
+    let mut progress = Progress::new();
+    'turns: for _turn in 0..u64::MAX {
+        match answer_turn(
+            alloc,
+            routes,
+            setting,
+            inbox,
+            reader,
+            writer,
+            room,
+            &mut progress,
+        ) {
+            Ok(true) => {}
+            Ok(false) => return Ok(progress.records),
+            Err(fault) => return Err(stopped(fault, &progress)),
+        }
+    }
+    Err(stopped(ReplayFault::Bad, &progress))
+}
+
+/// Plays each message of a journal as soon as it is whole, to a room that stands where the journal
+/// begins, and writes each answer in its frame. A status that follows a message is compared with
+/// that of its answer, and a head with the room. How many messages there were.
+pub fn answer_each<R: Source, W: Sink, M: Digested>(
+    alloc: Global,
+    reader: &mut R,
+    writer: &mut W,
+    room: &mut M,
+    setting: &Setting,
+) -> Result<u64, Stopped>
+    requires reader { R.has_failed reader.old ≡ false }
+    requires writer { W.has_failed writer.old ≡ false }
+    requires ready { M.is_ready room.old }
+    ensures ready { M.is_ready room.new }
+    ensures zone { M.zone room.new ≡ M.zone room.old }
+    ensures trusted { M.is_trusted room.new → M.is_trusted room.old }
+    ensures answers { AnswersEach M.step setting.now (digits_of M.digest_of (M.zone room.old))
+        (M.is_trusted room.new)
+        (M.stands room.old) (M.stands room.new) (R.left reader.old) (W.held writer.old)
+        (W.held writer.new) (R.has_failed reader.new) (W.has_failed writer.new) result }
+    ensures kept { M.is_trusted room.new → UnlessStopped result (M.is_kept room.old
+        → M.is_kept room.new) }
+{
+    let Ok(mut inbox) = JournalInbox::new(alloc) else {
+        return Err(memory());
+    };
+    match Routes::new(alloc) {
+        Ok(routes) => answer_turns(alloc, &routes, setting, &mut inbox, reader, writer, room),
+        Err(_) => Err(memory()),
+    }
+}

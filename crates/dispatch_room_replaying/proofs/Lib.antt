@@ -1,9 +1,0 @@
-pub mod FaultLemmas
-pub mod EntryLemmas
-pub mod TurnLemmas
-pub mod StepLemmas
-pub mod LawLemmas
-pub mod FrameLemmas
-pub mod RoomLaws
-pub mod WholeLaws
-pub mod KeptTurns

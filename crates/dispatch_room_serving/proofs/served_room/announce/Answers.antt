@@ -1,0 +1,95 @@
+use Rattle.std.proofs.Common.{◌≡◌, ◌∙◌, ap, inl, inr, refl, sym, if◌then◌else◌, ℕ, List, [], Bool, true, false}
+use Rattle.hex.specs.Hex.{encode_lower}
+use Rattle.room_http_messages.proofs.StreamLemmas.{Appends-none}
+use Rattle.room_model.specs.declared.digests.Head.{Head}
+use Rattle.room_model.specs.declared.digests.Version.TheVariants.{Second}
+use Rattle.sqlite_trees.specs.declared.store.Store.{Ghosts}
+use Rattle.room_store.specs.declared.store.Store.{Store}
+use Rattle.dispatch_room_serving.specs.ServedRoom.{Looks}
+use Rattle.dispatch_room_serving.proofs.ConnectionLaws.{leaves_kept}
+use Rattle.dispatch_room_serving.proofs.served_room.announce.Goals as goal
+
+-- the head that is announced
+abbrev second : List ℕ → Head
+second digits = record { version = Second; digits = digits }
+
+-- what is kept where the digest is wanted, and where it is not
+where_wanted : (wants asked : Bool) (text : List ℕ) → asked ≡ wants → asked ≡ true → text ≡ if wants then text else []
+where_wanted true asked text same is = refl
+where_wanted false asked text same is = cc
+
+where_unwanted : (wants asked : Bool) (text : List ℕ) → asked ≡ wants → asked ≡ false → [] ≡ if wants then text else []
+where_unwanted true asked text same is = absurd (cc)
+where_unwanted false asked text same is = refl
+
+never_wanted : {P : Type 0} (wants asked : Bool) → asked ≡ wants → asked ≡ false → wants ≡ true → P
+never_wanted wants asked same is wanted = absurd (cc)
+
+-- nothing was done
+looks_same : {S : Type 0} (g : Ghosts S) (store : Store S) → Looks g store store
+looks_same g store = record {
+  zone = refl;
+  trusted = λ clean. clean;
+  same = λ clean terminals room is. is;
+  left = λ clean kept terminals room is. leaves_kept g store terminals room is kept;
+}
+
+pub returns-then-not-wants_digest-clause-announces :
+    goal.returns-then-not-wants_digest-clause-announces
+returns-then-not-wants_digest-clause-announces g c = (
+  record { looks = looks_same g.S.Store c.args.room.now; kept = λ clean kept. kept },
+  (
+    [],
+    record {
+      head = second [];
+      known = never_wanted (g.N.JournalObserver.wants c.args.journal_observer.now) c.wants_digest.result c.wants_digest.ensures c.if-not-wants_digest.true;
+      told = where_unwanted (g.N.JournalObserver.wants c.args.journal_observer.now) c.wants_digest.result (g.N.JournalObserver.begun (second [])) c.wants_digest.ensures c.if-not-wants_digest.true;
+    },
+    Appends-none (g.N.Observer.held c.args.journal_observer.now),
+  ),
+)
+
+pub returns-in-Ok-begins-clause-announces : goal.returns-in-Ok-begins-clause-announces
+returns-in-Ok-begins-clause-announces g c = (
+  record {
+    looks = record {
+      zone = ap (λ plan. plan.zone) c.digest_of_room.ensures.plan;
+      trusted = c.digest_of_room.ensures.trusted;
+      same = c.digest_of_room.ensures.same;
+      left = c.digest_of_room.ensures.left;
+    };
+    kept = c.in-Ok.ensures.kept;
+  },
+  (
+    g.N.JournalObserver.begun (second c.digest_of.result),
+    record {
+      head = second c.digest_of.result;
+      known = λ wanted. (refl, λ clean terminals room is. sym (c.digest_of.ensures.written ∙ ap encode_lower (c.in-Ok.ensures.known clean terminals room is)));
+      told = where_wanted (g.N.JournalObserver.wants c.args.journal_observer.now) c.wants_digest.result (g.N.JournalObserver.begun (second c.digest_of.result)) c.wants_digest.ensures c.if-not-wants_digest.false;
+    },
+    c.in-Ok-begins.ensures.kept,
+  ),
+)
+
+pub returns-in-Err-begins-clause-announces : goal.returns-in-Err-begins-clause-announces
+returns-in-Err-begins-clause-announces g c =
+    let kept = c.in-Err-begins.ensures.kept in (
+      inr (inl refl),
+      record {
+        zone = ap (λ plan. plan.zone) c.digest_of_room.ensures.plan;
+        trusted = c.digest_of_room.ensures.trusted;
+        same = c.digest_of_room.ensures.same;
+        left = c.digest_of_room.ensures.left;
+      },
+      inr (
+        g.N.JournalObserver.begun (second c.digest_of.result),
+        kept.0,
+        record {
+          head = second c.digest_of.result;
+          known = λ wanted. (refl, λ clean terminals room is. sym (c.digest_of.ensures.written ∙ ap encode_lower (c.in-Ok.ensures.known clean terminals room is)));
+          told = where_wanted (g.N.JournalObserver.wants c.args.journal_observer.now) c.wants_digest.result (g.N.JournalObserver.begun (second c.digest_of.result)) c.wants_digest.ensures c.if-not-wants_digest.false;
+        },
+        kept.1,
+        kept.2,
+      ),
+    )

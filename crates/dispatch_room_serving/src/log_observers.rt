@@ -1,0 +1,84 @@
+//! Who watches over what is served: a log, and perhaps a journal.
+ghost use Rattle.std.specs.Prelude.{◌≡◌, is_some};
+ghost use Rattle.dispatch_room_journal.specs.JournalRecords.{answer_text, message_text, room_text};
+ghost use Rattle.dispatch_room_serving.specs.Journals.{failed_by, held_by};
+ghost use Rattle.dispatch_room_serving.specs.LoggedLines.{Logs};
+
+use crate::journal_observers::JournalObserver;
+use crate::journals::{Journal, Synced};
+use crate::logs::Log;
+use room_http::arrivals::Arrived;
+use room_http::observers::{Asked, Observer, Unkept};
+use room_model::digests::Head;
+use room_types::numbers::Moment;
+use std::io::Write;
+use std::time::Clock;
+
+/// A log and perhaps a journal, as one observer. It keeps what the journal does.
+#[derive(Drop)]
+pub struct LogAndJournal<'a, E, T, W> {
+    log: Log<'a, E, T>,
+    journal: Option<Journal<W>>,
+}
+
+impl<'a, E: Write, T: Clock, W: Synced> LogAndJournal<'a, E, T, W> {
+    /// A log, and a journal or none.
+    pub fn new(log: Log<'a, E, T>, journal: Option<Journal<W>>) -> LogAndJournal<'a, E, T, W>
+        ensures { result.journal ≡ journal }
+    {
+        LogAndJournal { log, journal }
+    }
+}
+
+impl<'a, E: Write, T: Clock, W: Synced> Observer for LogAndJournal<'a, E, T, W> {
+    ghost held = { λ log_and_journal. held_by W.held log_and_journal.journal };
+
+    ghost has_failed = { λ log_and_journal. failed_by log_and_journal.journal };
+
+    ghost came = { message_text };
+
+    ghost told = { answer_text };
+
+    fn arrived(&mut self, arrived: &Arrived<'_>, at: Moment) -> Result<(), Unkept> {
+        self.log.begin();
+        match &mut self.journal {
+            Some(journal) => journal.arrived(arrived, at),
+            None => Ok(()),
+        }
+    }
+
+    fn answering(&mut self, arrived: &Arrived<'_>, answer: &[u8]) -> Result<(), Unkept> {
+        match &mut self.journal {
+            Some(journal) => journal.answering(arrived, answer),
+            None => Ok(()),
+        }
+    }
+
+    // Beside what each observer ensures: the line is written, unless the log is none or given up.
+    fn answered(&mut self, asked: &Asked<'_>, answer: &[u8])
+        ensures kept { self.new.journal ≡ self.old.journal }
+        ensures logged { Logs self.old.log.goes_on self.new.log.goes_on
+            (E.contents self.old.log.out.now) (E.contents self.new.log.out.now) asked.now
+            answer.now }
+    {
+        self.log.answered(asked, answer);
+    }
+}
+
+impl<'a, E: Write, T: Clock, W: Synced> JournalObserver for LogAndJournal<'a, E, T, W> {
+    ghost wants = { λ log_and_journal. is_some log_and_journal.journal };
+
+    ghost begun = { room_text };
+
+    // A log has no use for it.
+    fn wants_digest(&self) -> bool {
+        self.journal.is_some()
+    }
+
+    fn begins(&mut self, head: &Head) -> Result<(), Unkept> {
+        match &mut self.journal {
+            Some(journal) => journal.begin(head),
+            None => Ok(()),
+        }
+    }
+}

@@ -1,0 +1,170 @@
+//! The room of a database, opened and served to those who call.
+ghost use Rattle.std.specs.Prelude.{◌≡◌, false, true, IfErr, IfOk, MatchResult, OnErr};
+ghost use Rattle.dispatch_room_exit.specs.declared.exit_status.Failure.TheVariants.{Journal};
+ghost use Rattle.room_store.specs.StoredRoom.{IsReady};
+ghost use Rattle.dispatch_room_tasks.specs.OpenedRoom.{IsUnopened};
+ghost use Rattle.dispatch_room_serving.specs.ServedRoom.{Announces, Attends, ServesRoom};
+
+use crate::callers::Callers;
+use crate::connections::serve_each;
+use crate::journal_observers::JournalObserver;
+use dispatch_room_exit::exit_status::{Done, Failure, refused};
+use dispatch_room_journal::journal_digests::digest_of;
+use dispatch_room_tasks::opened_room::{TaskResult, open_room};
+use room_http::settings::Setting;
+use room_http_time::clocks::Clock;
+use room_model::digests::{Head, Version};
+use room_store::store::Store;
+use room_store::store_digest::digest_of_room;
+use sqlite::{Alter, Connection};
+use std::alloc::Global;
+
+/// What is served of a room.
+#[derive(Clone, Copy)]
+pub struct Terms {
+    /// How many calls are served.
+    pub connections: u64,
+    /// Whether the paths of history are.
+    pub history: bool,
+}
+
+/// Serves the room of a database to so many calls: it is opened, the watcher is told where it
+/// begins, the callers begin, and each is served from the room that the one before left, in the
+/// zone of the room's plan, with the paths of history or without. Where no room is opened, none of
+/// them is heard. It is the same whoever watches.
+pub fn serve_in<S: Alter + Drop, P: Callers, C: Clock, N: JournalObserver>(
+    alloc: Global,
+    conn: Connection<S>,
+    callers: &mut P,
+    clock: &mut C,
+    journal_observer: &mut N,
+    terms: Terms,
+) -> TaskResult<Done, S>
+    requires outside { conn.in_transaction ≡ false }
+    ensures outside { IfOk result (λ worked. worked.1.in_transaction ≡ false) }
+    ensures served { IfOk result (ServesRoom S.Store (N.wants journal_observer.old) N.begun N.came
+        N.told terms.history conn
+        (λ store. record {
+          heard = P.heard callers.old;
+          told = P.told callers.old;
+          stage = record {
+            given = C.given clock.old;
+            kept = N.held journal_observer.old;
+            has_failed = N.has_failed journal_observer.old;
+            store = store;
+          };
+        })
+        (λ store. record {
+          heard = P.heard callers.new;
+          told = P.told callers.new;
+          stage = record {
+            given = C.given clock.new;
+            kept = N.held journal_observer.new;
+            has_failed = N.has_failed journal_observer.new;
+            store = store;
+          };
+        })
+        terms.connections) }
+    ensures unheard { OnErr result ((callers.new ≡ callers.old) × (clock.new ≡ clock.old)) }
+    ensures fault { IfErr result (IsUnopened S.Store conn) }
+{
+    let (mut room, zone) = open_room(alloc, conn)?;
+    let setting = Setting {
+        zone,
+        history: terms.history,
+    };
+    let served = begin_and_serve(
+        alloc,
+        callers,
+        &mut room,
+        &setting,
+        clock,
+        journal_observer,
+        terms.connections,
+    );
+    Ok((served, room.close()))
+}
+
+// Tells the watcher where the room begins, lets the callers begin, and serves so many calls.
+fn begin_and_serve<S: Alter, P: Callers, C: Clock, N: JournalObserver>(
+    alloc: Global,
+    callers: &mut P,
+    room: &mut Store<S>,
+    setting: &Setting,
+    clock: &mut C,
+    journal_observer: &mut N,
+    connections: u64,
+) -> Result<Done, Failure>
+    requires ready { IsReady S.Store room.old }
+    ensures ready { IsReady S.Store room.new }
+    ensures attends { Attends S.Store
+        (N.wants journal_observer.old) N.begun N.came N.told setting.now
+        (record {
+          heard = P.heard callers.old;
+          told = P.told callers.old;
+          stage = record {
+            given = C.given clock.old;
+            kept = N.held journal_observer.old;
+            has_failed = N.has_failed journal_observer.old;
+            store = room.old;
+          };
+        })
+        (record {
+          heard = P.heard callers.new;
+          told = P.told callers.new;
+          stage = record {
+            given = C.given clock.new;
+            kept = N.held journal_observer.new;
+            has_failed = N.has_failed journal_observer.new;
+            store = room.new;
+          };
+        })
+        connections result }
+{
+    if let Err(fault) = announce(room, journal_observer) {
+        return Err(fault);
+    }
+    match callers.begin() {
+        Ok(()) => serve_each(
+            alloc,
+            callers,
+            room,
+            setting,
+            clock,
+            journal_observer,
+            connections,
+        ),
+        Err(fault) => Err(fault),
+    }
+}
+
+// Tells the watcher at which room it begins, if it wants to know.
+fn announce<S: Alter, N: JournalObserver>(
+    room: &mut Store<S>,
+    journal_observer: &mut N,
+) -> Result<(), Failure>
+    requires ready { IsReady S.Store room.old }
+    ensures ready { IsReady S.Store room.new }
+    ensures announces { Announces S.Store (N.wants journal_observer.old) N.begun room.old room.new
+        (N.held journal_observer.old) (N.held journal_observer.new) result }
+    ensures failed { MatchResult result
+        (λ _. N.has_failed journal_observer.new ≡ N.has_failed journal_observer.old)
+        (λ fault. fault ≡ Journal → N.has_failed journal_observer.new ≡ true) }
+{
+    if !journal_observer.wants_digest() {
+        return Ok(());
+    }
+    match digest_of_room(room, Version::Second) {
+        Ok(digest) => {
+            let head = Head {
+                version: Version::Second,
+                digits: digest_of(&digest),
+            };
+            match journal_observer.begins(&head) {
+                Ok(()) => Ok(()),
+                Err(_) => Err(Failure::Journal),
+            }
+        }
+        Err(refusal) => Err(refused(refusal)),
+    }
+}

@@ -1,5 +1,0 @@
-use Rattle.std.specs.Io.KnownBytes.{Keeps}
-use Rattle.dispatch_room_sockets.proofs.tries.write_until.Given as goal
-
-abbrev pub invariant-loop-try : goal.invariant-loop-try
-invariant-loop-try g l = Keeps (g.T.Write.contents l.initial.stream) (g.T.Write.contents l.stream)

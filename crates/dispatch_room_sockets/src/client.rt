@@ -1,0 +1,56 @@
+//! A room is called at its address.
+ghost use Rattle.std.specs.Prelude.{◌≡◌, IfSome, false};
+
+use crate::socket_readers::SocketReader;
+use crate::socket_writers::SocketWriter;
+use crate::timeouts::Waits;
+use dispatch_room_exit::explainer::Explainer;
+use std::io::{self, Error, ErrorKind};
+use std::net::{OpenStream, TcpStream, ToSocketAddrs};
+use std::time::{Clock, Duration};
+
+type Reader<'a> = SocketReader<'a, TcpStream, HostRuntime>;
+
+type Writer<'a> = SocketWriter<'a, TcpStream, HostRuntime>;
+
+/// The two sides of a connection to an address, where it is there in time, and else it is explained
+/// why not. All reads and writes end so long from now: what a reader and a writer grant to one of
+/// them is here granted to all.
+pub fn call<'a>(
+    rt: &'a HostRuntime,
+    explainer: Explainer<'_>,
+    address: &str,
+    patience: Duration,
+) -> Option<(Reader<'a>, Writer<'a>)>
+    ensures { IfSome result (λ sides. sides.1.failed ≡ false) }
+{
+    let ends = rt.monotonic().ok()?.saturating_add(patience);
+    let stream = match connected(rt, address, ends) {
+        Ok(stream) => stream,
+        Err(error) => {
+            explainer.explain(format_args!("{address}: {error}"));
+            return None;
+        }
+    };
+    let waits = Waits {
+        idle: patience,
+        patience,
+    };
+    let reader = SocketReader::new(stream.try_clone().ok()?, rt, waits, ends);
+    let writer = SocketWriter::new(stream, rt, patience, ends);
+    Some((reader, writer))
+}
+
+// A connection to an address, where it is there before a moment. Of several addresses of a name the
+// last one's error is returned.
+fn connected(rt: &HostRuntime, address: &str, ends: Duration) -> io::Result<TcpStream> {
+    let mut last = Error::new(ErrorKind::NotFound, "no address of this name");
+    for at in address.to_socket_addrs(rt)? {
+        let left = ends.saturating_sub(rt.monotonic()?);
+        match TcpStream::connect_timeout(rt, &at, left) {
+            Ok(stream) => return Ok(stream),
+            Err(error) => last = error,
+        }
+    }
+    Err(last)
+}

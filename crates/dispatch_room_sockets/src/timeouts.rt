@@ -1,0 +1,81 @@
+//! How long a connection is waited for.
+ghost use Rattle.std.specs.Prelude.{◌≡◌, ◌+◌, ◌-◌, ◌*◌, ◌/◌, ◌<◌, ◌≤◌, None, IfSome, IsSome, min};
+ghost use Rattle.std.specs.Duration.{as_nanos, max_nanos};
+
+use std::time::{Clock, Duration};
+
+const TURN: u32 = 5;
+
+// Of a millisecond.
+const NANOS: u32 = 1_000_000;
+
+/// How long a connection is waited for.
+#[derive(Clone, Copy)]
+pub struct Waits {
+    /// For the first byte of a message.
+    pub idle: Duration,
+    /// From the first byte of a message until it is whole, and from the first of an answer until
+    /// the connection is parted from or says more.
+    pub patience: Duration,
+}
+
+impl Waits {
+    /// How long a connection has its turn: so many times as long as a pause and a message may take.
+    pub(crate) fn turn(self) -> Duration
+        ensures { as_nanos result ≡
+            min (min (as_nanos self.idle + as_nanos self.patience) max_nanos * 5) max_nanos }
+    {
+        self.idle.saturating_add(self.patience).saturating_mul(TURN)
+    }
+}
+
+/// The earlier of two moments.
+pub(crate) fn earlier(one: Duration, other: Duration) -> Duration
+    ensures { as_nanos result ≡ min (as_nanos one) (as_nanos other) }
+{
+    if one.saturating_sub(other).is_zero() {
+        one
+    } else {
+        other
+    }
+}
+
+/// How long it is until a moment of a clock: none where it has come, or where the clock can't be
+/// read.
+pub(crate) fn time_until<C: Clock>(clock: &C, moment: Duration) -> Option<Duration>
+    ensures { IfSome result (λ left. (0 < as_nanos left) × (as_nanos left ≤ as_nanos moment)) }
+{
+    left_until(clock.monotonic().ok()?, moment)
+}
+
+// How long it is from now until a moment, in whole milliseconds where it is one at least: none
+// where the moment has come.
+fn left_until(now: Duration, moment: Duration) -> Option<Duration>
+    ensures come { as_nanos moment ≤ as_nanos now → result ≡ None }
+    ensures waits { as_nanos now < as_nanos moment → IsSome result }
+    ensures left { IfSome result (λ left. (0 < as_nanos left)
+        × (as_nanos left ≤ as_nanos moment - as_nanos now)) }
+    ensures whole { 1_000_000 ≤ as_nanos moment - as_nanos now → IfSome result (λ left.
+        as_nanos left ≡ (as_nanos moment - as_nanos now) / 1_000_000 * 1_000_000) }
+    ensures short { as_nanos moment - as_nanos now < 1_000_000 → IfSome result (λ left.
+        as_nanos left ≡ as_nanos moment - as_nanos now) }
+{
+    let left = moment.saturating_sub(now);
+    if left.is_zero() {
+        None
+    } else {
+        Some(in_millis(left))
+    }
+}
+
+// The whole milliseconds of a wait, where it has some: so waits that get one after the other
+// are mostly equal, and the system is told only the first.
+fn in_millis(wait: Duration) -> Duration
+    ensures whole { 1_000_000 ≤ as_nanos wait
+        → as_nanos result ≡ as_nanos wait / 1_000_000 * 1_000_000 }
+    ensures short { as_nanos wait < 1_000_000 → result ≡ wait }
+{
+    let rest = Duration::from_nanos(u64::from(wait.subsec_nanos() % NANOS));
+    let whole = wait.saturating_sub(rest);
+    if whole.is_zero() { wait } else { whole }
+}

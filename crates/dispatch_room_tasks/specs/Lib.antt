@@ -1,0 +1,16 @@
+-- what a fault of the store is to the program
+pub mod OpeningFaults
+-- the room that is opened in a database
+pub mod OpenedRoom
+-- a room that was created, and what is reported of it
+pub mod Creation
+-- a room that was moved from the first version
+pub mod Migration
+-- what is reported of the rows of a fleet
+pub mod RowOutcomes
+-- what came of the lines of a fleet in a room
+pub mod Enrolment
+-- the report of a division's day
+pub mod TimesReport
+-- what is reported of a file that is checked
+pub mod Examination

@@ -1,4 +1,0 @@
--- addresses of this machine alone
-pub mod Addresses
--- what a command line asks for
-pub mod Tasks

@@ -1,9 +1,0 @@
-use Rattle.std.proofs.Common.{refl, subst}
-use Rattle.std.specs.Io.KnownBytes.{Appends}
-use Rattle.dispatch_room_work.proofs.CreatedLemmas.{amounts_told}
-use Rattle.dispatch_room_work.proofs.creating.tell.Goals as goal
-
-pub returns-in-Ok : goal.returns-in-Ok
-returns-in-Ok g c =
-    let told = amounts_told c.args.created.now _ _ _ c.count_divisions-divisions.ensures c.areas.ensures c.len-terminals.ensures in
-    (subst (Appends (g.O.Write.contents c.args.out.now) (g.O.Write.contents c.writeln.new.self)) told c.in-Ok.ensures.bytes, refl)

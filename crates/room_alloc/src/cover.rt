@@ -1,0 +1,69 @@
+//! Which vehicles may be sent, and which of them hold a standby point.
+ghost use Rattle.std.specs.Prelude.{◌≡◌, List, length, filter, option_map};
+ghost use Rattle.room_place.specs.declared.plans.Area.{Area};
+ghost use Rattle.room_model.specs.Queries.{has_post, holders, is_eligible, point_of};
+ghost use Rattle.room_model.specs.RoomSlices.{room_of};
+ghost use Rattle.room_alloc.specs.Cover.{is_holder};
+
+use room_place::plans::DivisionNumber;
+use room_types::numbers::{Moment, PointNumber};
+use room_types::rows::Rows;
+use room_types::slices::Slice;
+use room_types::tables::Vehicle;
+
+/// How many vehicles hold the point now; none where the division has no such point.
+#[tactic(auto, unfolding(room_model::specs::Queries::point_of))]
+pub fn cover(slice: &Slice, point: PointNumber, at: Moment) -> Option<usize>
+    ensures { (plan : List Area) → result ≡ option_map (λ p.
+        length (holders slice.now.division point at (room_of plan slice.now.rows)))
+        (point_of slice.now.division point (room_of plan slice.now.rows)) }
+{
+    match slice.rows.points.get(&(slice.division, point)) {
+        Some(_) => Some(holders(slice, point, at)),
+        None => None,
+    }
+}
+
+pub(crate) fn is_eligible(vehicle: &Vehicle, division: DivisionNumber, at: Moment) -> bool
+    ensures { result ≡ is_eligible division at vehicle.now }
+{
+    vehicle.holder == division && vehicle.status.is_free() && at < vehicle.shift_end
+}
+
+// How many vehicles hold the point.
+#[tactic(auto, unfolding(room_model::specs::Queries::holders))]
+pub(crate) fn holders(slice: &Slice, point: PointNumber, at: Moment) -> usize
+    ensures { (plan : List Area) → result ≡ length
+        (holders slice.now.division point at (room_of plan slice.now.rows)) }
+{
+    holders_among(&slice.rows.vehicles, slice.division, point, at)
+}
+
+fn holders_among(
+    vehicles: &Rows<Vehicle>,
+    division: DivisionNumber,
+    point: PointNumber,
+    at: Moment,
+) -> usize
+    ensures { result ≡ length (filter (is_holder division point at) vehicles.now) }
+{
+    vehicles
+        .iter()
+        .filter(|vehicle| is_holder(vehicle, division, point, at))
+        .count()
+}
+
+fn is_holder(vehicle: &Vehicle, division: DivisionNumber, point: PointNumber, at: Moment) -> bool
+    ensures { result ≡ is_holder division point at vehicle.now }
+{
+    is_eligible(vehicle, division, at) && has_post(vehicle, point)
+}
+
+fn has_post(vehicle: &Vehicle, point: PointNumber) -> bool
+    ensures { result ≡ has_post point vehicle.now.post }
+{
+    match vehicle.post {
+        Some(post) => post == point,
+        None => false,
+    }
+}

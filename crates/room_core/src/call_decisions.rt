@@ -1,0 +1,74 @@
+//! A call, decided on the rows of the division that it is placed in.
+ghost use Rattle.std.specs.Prelude.{◌≡◌, None, Ok, Some, not};
+ghost use Rattle.room_place.specs.Plans.{division_of};
+ghost use Rattle.room_types.specs.declared.asks.Ask.TheVariants.{Call as CallAsk};
+ghost use Rattle.room_types.specs.declared.asks.CallForm.{CallForm};
+ghost use Rattle.room_types.specs.declared.answers.Answer.TheVariants.{Called, LastSerial};
+ghost use Rattle.room_types.specs.declared.refusals.Refusal.TheVariants.{SerialReused};
+ghost use Rattle.room_model.specs.Calls.{new_call, same_call, take_call};
+ghost use Rattle.room_model.specs.Decisions.{Decides, refuse_if, show};
+ghost use Rattle.room_model.specs.Queries.{kept_call};
+ghost use Rattle.room_model.specs.Room.{Room};
+ghost use Rattle.room_model.specs.Shares.{own};
+ghost use Rattle.room_model.specs.RoomSlices.{room_of};
+ghost use Rattle.room_model.specs.WellFormed.{IsWellFormed};
+ghost use Rattle.room_core.specs.DecisionRows.{AreRead};
+
+use room_incident::calls::take_call;
+use room_types::answers::Answer;
+use room_types::asks::NewCall;
+use room_types::decisions::Decision;
+use room_types::numbers::LastNumber;
+use room_types::refusals::Refusal;
+use room_types::slices::Slice;
+use room_types::tables::Call;
+use std::alloc::Global;
+
+/// A call that the room has not kept, placed in the slice's division (the caller sees to both).
+/// Where the slice's rows are those that the call reads, or the division's whole share, the
+/// decision is the room's, in every well-formed room.
+pub fn decide_call(alloc: Global, slice: &Slice, new: &NewCall) -> Result<Decision, Refusal>
+    ensures decides { (r : Room) (f : CallForm) → IsWellFormed r
+        → new.now ≡ new_call new.now.position f new.now.at
+        → kept_call new.now.position f.serial r ≡ None
+        → division_of r.plan f.place ≡ Some slice.now.division
+        → AreRead slice.now.division (CallAsk f) new.now.at (room_of r.plan slice.now.rows) r
+        → Decides (take_call new.now r) result }
+    // In every other room that has not kept it either, and where the division has the same rows, it
+    // is that room's too.
+    ensures apart { (r other : Room) (f : CallForm) → IsWellFormed r
+        → new.now ≡ new_call new.now.position f new.now.at
+        → kept_call new.now.position f.serial r ≡ None
+        → division_of r.plan f.place ≡ Some slice.now.division
+        → AreRead slice.now.division (CallAsk f) new.now.at (room_of r.plan slice.now.rows) r
+        → IsWellFormed other → kept_call new.now.position f.serial other ≡ None
+        → own slice.now.division r ≡ own slice.now.division other
+        → Decides (take_call new.now other) result }
+{
+    take_call(alloc, slice, new)
+}
+
+/// The greatest serial of a position's calls, which the caller knows.
+pub fn decide_last_serial(alloc: Global, serial: LastNumber) -> Decision
+    ensures { Ok result ≡ show (LastSerial serial) }
+{
+    Decision::show(alloc, Answer::LastSerial(serial))
+}
+
+/// A call whose serial the room has kept. Of the same content it gets its kept answer, and changes
+/// nothing; of another it is refused as `SerialReused`.
+#[tactic(auto, unfolding(room_model::specs::Decisions::refuse_if))]
+pub fn decide_again(alloc: Global, kept: &Call, new: &NewCall) -> Result<Decision, Refusal>
+    ensures { result ≡ refuse_if (not (same_call kept.now new.now)) SerialReused
+        (show (Called kept.now.division kept.now.given kept.now.linked)) }
+{
+    let is_same = kept.place == new.place
+        && kept.class == new.class
+        && kept.needs == new.needs
+        && kept.note == new.note;
+    if !is_same {
+        return Err(Refusal::SerialReused);
+    }
+    let answer = Answer::Called(kept.division, kept.given, kept.linked);
+    Ok(Decision::show(alloc, answer))
+}

@@ -1,0 +1,33 @@
+use Rattle.std.proofs.Common.{◌≡◌, ◌≤◌, false, ◌+◌, ◌-◌, ◌*◌, length, List, ℕ}
+use Rattle.std.specs.Io.KnownBytes.{prepend_known}
+use Rattle.room_http_messages.specs.declared.limits.TheConstants.{INBOX_ROOM}
+use Rattle.room_http_messages.specs.Streams.{CountsBy}
+use Rattle.room_http.specs.Talk.{Stays, Timed}
+use Rattle.room_http.proofs.KeptLemmas.{Noted}
+use Rattle.room_http.proofs.ServeLemmas.{Going}
+use Rattle.room_http.proofs.session.serve.Given as goal
+
+abbrev pub invariant-messages : goal.invariant-messages
+invariant-messages g l = record {
+  run : (outs : List Timed) × (answers : List (List ℕ)) × Going g.M.Room.step l.setting
+      (record { left = g.R.Source.left l.initial.reader; reads = g.R.Source.reads l.initial.reader; held = g.W.Sink.held l.initial.writer; given = g.C.Clock.given l.initial.clock })
+      (prepend_known l.inbox (g.R.Source.left l.reader)) (g.W.Sink.held l.writer) (g.C.Clock.given l.clock)
+      (g.M.Room.is_trusted l.room) (g.M.Room.stands l.initial.room) (Stays (g.M.Room.is_kept l.initial.room) (g.M.Room.stands l.room) (g.M.Room.leaves_one_of l.room)) outs
+      × Noted g.N.Observer.came g.N.Observer.told g.M.Room.step l.setting (g.R.Source.left l.initial.reader)
+      (record { given = g.C.Clock.given l.initial.clock; kept = g.N.Observer.held l.initial.observer; held = g.W.Sink.held l.initial.writer })
+      (prepend_known l.inbox (g.R.Source.left l.reader))
+      (record { given = g.C.Clock.given l.clock; kept = g.N.Observer.held l.observer; held = g.W.Sink.held l.writer })
+      (g.M.Room.is_trusted l.room) (g.M.Room.stands l.initial.room) (g.M.Room.stands l.room) outs answers;
+  trusted : g.M.Room.is_trusted l.room → g.M.Room.is_trusted l.initial.room;
+  kept : g.M.Room.is_trusted l.room → g.M.Room.is_kept l.initial.room → g.M.Room.is_kept l.room;
+  spent : l.left ≤ l.budget;
+  reads : CountsBy (l.budget - l.left) (g.R.Source.reads l.initial.reader) (g.R.Source.reads l.reader);
+  reader : g.R.Source.has_failed l.reader ≡ false;
+  writer : g.W.Sink.has_failed l.writer ≡ false;
+  ready : g.M.Room.is_ready l.room;
+  zone : g.M.Room.zone l.room ≡ g.M.Room.zone l.initial.room;
+  unfailed : g.N.Observer.has_failed l.observer ≡ g.N.Observer.has_failed l.initial.observer;
+}
+
+abbrev pub decreases-messages : goal.decreases-messages
+decreases-messages g l = length l.inbox + INBOX_ROOM * l.left

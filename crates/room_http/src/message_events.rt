@@ -1,0 +1,120 @@
+//! The event that a message asks for, or the first refusal on the way to it.
+ghost use Rattle.std.specs.Prelude.{◌≡◌, List, Some};
+ghost use Rattle.std.specs.Option.{option_map, option_copied};
+ghost use Rattle.room_http_requests.specs.RequestAsks.{request_by};
+ghost use Rattle.room_http_requests.specs.declared.request_asks.Request.TheVariants as request;
+ghost use Rattle.room_http.specs.MessageEvents.{IsAskFor, token_of};
+ghost use Rattle.room_http.specs.Findings.{FindsAsk, FindsMessage, FindsTerminal, LooksOnly};
+
+use crate::settings::Setting;
+use room_http_messages::messages::Message;
+use room_http_requests::request_asks::{Request, ask_of};
+use room_http_requests::roles::Role;
+use room_http_requests::routes::Routes;
+use room_http_requests::targets::Target;
+use room_http_time::days::Day;
+use room_model::rooms::Room;
+use room_types::asks::{Ask, Event, Who};
+use room_types::numbers::Moment;
+use room_types::refusals::Refusal;
+use room_types::token::Token;
+use std::alloc::Global;
+
+/// The token that a field has for its value: none where it is no token.
+fn token(field: Option<&[u8]>) -> Option<Token>
+    ensures { result ≡ token_of (option_map (λ text. text.now) field.entry) }
+{
+    match str::from_utf8(field?) {
+        Ok(text) => Token::parse(text),
+        Err(_) => None,
+    }
+}
+
+/// The terminal that a message names. It names none where it shows no token, or one that the room
+/// doesn't know.
+fn terminal<M: Room>(alloc: Global, room: &mut M, message: &Message) -> Result<Who, Refusal>
+    requires { M.is_ready room.old }
+    ensures ready { M.is_ready room.new }
+    ensures zone { M.zone room.new ≡ M.zone room.old }
+    ensures terminal { FindsTerminal M.is_trusted M.has_failed M.stands room.old room.new
+        (option_map (λ text. text.now) message.now.terminal) result }
+    ensures looks { LooksOnly M.is_trusted M.is_kept M.stands M.leaves_one_of room.old room.new
+        result }
+{
+    let Some(token) = token(message.terminal) else {
+        return Err(Refusal::NoTerminal);
+    };
+    match room.who(alloc, &token) {
+        Ok(Some(who)) => Ok(who),
+        Ok(None) => Err(Refusal::NoTerminal),
+        Err(refusal) => Err(refusal),
+    }
+}
+
+/// The times of a day in its zone.
+fn times(setting: &Setting, day: Day) -> Ask
+    ensures { IsAskFor setting.now (request.Times day) result }
+{
+    let (from, to) = setting
+        .zone
+        .day(day.year(), day.month(), day.day())
+        .unwrap();
+    Ask::Times(from, to)
+}
+
+/// A request, as the room is asked.
+fn ask_for(setting: &Setting, request: &Request) -> Ask
+    ensures { IsAskFor setting.now request.now result }
+{
+    match request {
+        Request::Ask(ask) => *ask,
+        Request::Times(day) => times(setting, *day),
+    }
+}
+
+/// What a target and a body ask for.
+fn ask(alloc: Global, setting: &Setting, target: &Target, body: &[u8]) -> Result<Ask, Refusal>
+    ensures { FindsAsk setting.now (request_by target.now body.now) result }
+{
+    match ask_of(alloc, target, body) {
+        Ok(request) => Ok(ask_for(setting, &request)),
+        Err(refusal) => Err(refusal),
+    }
+}
+
+/// The event that a message asks for. The path is looked at first, then the method, the terminal,
+/// its role and the body. Whose terminal it is, is noted once it is known.
+pub fn event_of<M: Room>(
+    alloc: Global,
+    routes: &Routes,
+    setting: &Setting,
+    room: &mut M,
+    message: &Message,
+    at: Moment,
+    asker: &mut Option<Who>,
+) -> Result<Event, Refusal>
+    requires { M.is_ready room.old }
+    ensures ready { M.is_ready room.new }
+    ensures zone { M.zone room.new ≡ M.zone room.old }
+    ensures event { FindsMessage M.is_trusted M.has_failed M.stands room.old room.new setting.now
+        message.now at result }
+    ensures looks { LooksOnly M.is_trusted M.is_kept M.stands M.leaves_one_of room.old room.new
+        result }
+{
+    let target = match routes.route(setting.history, message.method, message.target) {
+        Ok(target) => target,
+        Err(refusal) => return Err(refusal),
+    };
+    let who = match terminal(alloc, room, message) {
+        Ok(who) => who,
+        Err(refusal) => return Err(refusal),
+    };
+    *asker = Some(who);
+    if !Role::of(&target).is_of(&who) {
+        return Err(Refusal::WrongRole);
+    }
+    match ask(alloc, setting, &target, message.body) {
+        Ok(ask) => Ok(Event { who, ask, at }),
+        Err(refusal) => Err(refusal),
+    }
+}

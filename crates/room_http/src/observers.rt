@@ -1,0 +1,82 @@
+//! Who is told of what is served, and may keep it.
+ghost use Rattle.std.specs.Prelude.{◌≡◌, ◌||◌, ℕ, List, [], Bool, false, is_err, Option, None};
+ghost use Rattle.room_http.specs.Arrivals.{IsBounded};
+ghost use Rattle.room_http.specs.Kept.{KeepsAll, came_of, told_of};
+
+use crate::arrivals::Arrived;
+use room_types::asks::Who;
+use room_types::numbers::Moment;
+
+/// What is reported could not be kept.
+#[derive(Clone, Copy)]
+pub struct Unkept;
+
+/// Who is told of each arrival and its answer, as a log and a journal are. It is told and not
+/// asked, so it changes no answer; but where it can't keep what it is told, serving ends. What is
+/// refused in the place of a message is reported too, and is not kept.
+pub trait Observer {
+    // The bytes that it keeps, where they are known.
+    ghost held: { Self → Option (List ℕ) };
+
+    // Whether something that it was told could not be kept.
+    ghost has_failed: { Self → Bool };
+
+    // What it keeps of a message: its moment, and its bytes as they came.
+    ghost came: { ℕ → List ℕ → List ℕ };
+
+    // What it keeps of the answer's bytes.
+    ghost told: { List ℕ → List ℕ };
+
+    /// Something has arrived. The room acts on it next.
+    fn arrived(&mut self, arrived: &Arrived<'_>, at: Moment) -> Result<(), Unkept>
+        requires { IsBounded arrived.now }
+        ensures kept { KeepsAll (held self.old) (held self.new) (came_of came arrived.now at)
+            result }
+        ensures failed { has_failed self.new ≡ (has_failed self.old || is_err result) };
+
+    /// This is its answer, which is written next. Where memory or storage was wanting, this is not
+    /// called.
+    fn answering(&mut self, arrived: &Arrived<'_>, answer: &[u8]) -> Result<(), Unkept>
+        ensures kept { KeepsAll (held self.old) (held self.new)
+            (told_of told arrived.now answer.now) result }
+        ensures failed { has_failed self.new ≡ (has_failed self.old || is_err result) };
+
+    /// It was answered, and the bytes of its answer were written, or as many of them as were taken.
+    fn answered(&mut self, asked: &Asked<'_>, answer: &[u8])
+        ensures kept { held self.new ≡ held self.old }
+        ensures failed { has_failed self.new ≡ has_failed self.old };
+}
+
+/// What was asked.
+#[derive(Clone, Copy)]
+pub struct Asked<'a> {
+    pub arrived: &'a Arrived<'a>,
+    /// The moment at which it was answered.
+    pub at: Moment,
+    /// The terminal that asked: none where it was refused before the room knew one.
+    pub who: Option<Who>,
+}
+
+/// Nobody is told.
+#[derive(Clone, Copy)]
+pub struct Nobody;
+
+impl Observer for Nobody {
+    ghost held = { λ _. None };
+
+    ghost has_failed = { λ _. false };
+
+    ghost came = { λ _ _. [] };
+
+    ghost told = { λ _. [] };
+
+    fn arrived(&mut self, _arrived: &Arrived<'_>, _at: Moment) -> Result<(), Unkept> {
+        Ok(())
+    }
+
+    fn answering(&mut self, _arrived: &Arrived<'_>, _answer: &[u8]) -> Result<(), Unkept> {
+        Ok(())
+    }
+
+    fn answered(&mut self, _asked: &Asked<'_>, _answer: &[u8]) {}
+}

@@ -1,0 +1,138 @@
+//! The fields of a body: an object of JSON, and the values under its names.
+ghost use Rattle.std.specs.Prelude.{◌≡◌, ◌≤◌, option_map, IfOk, MatchResult, Some, None, ◌⊎◌};
+ghost use Rattle.serde_json.specs.Data.{object, no_members};
+ghost use Rattle.serde_json.specs.View.{view};
+ghost use Rattle.room_types.specs.declared.refusals.Refusal.TheVariants.{BadBody, Memory};
+ghost use Rattle.room_http_requests.specs.BodyFields.{button_at, callsign_at, fields_of, has_members, needs_at, needs_of, note_at, number_at, number_in, place_at, point_at, text_at};
+
+use room_place::bounded_numbers::Bounded;
+use room_place::places::Place;
+use room_types::callsign::Callsign;
+use room_types::codes::Button;
+use room_types::needs::{Counts, Needs};
+use room_types::note::Note;
+use room_types::numbers::{Need, PointNumber};
+use room_types::refusals::Refusal;
+use serde_json::{Map, Value};
+use std::alloc::Global;
+
+/// The fields of a body: an empty one has none. A text that is no JSON is refused as `BadBody`.
+#[tactic(auto, unfolding(crate::specs::BodyFields::fields_of))]
+pub(crate) fn fields_of(alloc: Global, body: &[u8]) -> Result<Value, Refusal>
+    ensures { MatchResult result (λ fields. fields_of body.now ≡ Some (view fields))
+        (λ refusal. (refusal ≡ Memory) ⊎ ((refusal ≡ BadBody) × (fields_of body.now ≡ None))) }
+{
+    if body.is_empty() {
+        return Ok(Value::Object(Map::new(alloc)));
+    }
+    let Ok(text) = str::from_utf8(body) else {
+        return Err(Refusal::BadBody);
+    };
+    match Value::from_str(alloc, text) {
+        Ok(fields) => Ok(fields),
+        Err(error) if error.is_memory() => Err(Refusal::Memory),
+        Err(_) => Err(Refusal::BadBody),
+    }
+}
+
+/// Whether these are the fields of an object of so many members.
+pub(crate) fn has_members(fields: &Value, count: usize) -> bool
+    ensures { result ≡ has_members count (view fields.now) }
+{
+    match fields.as_object() {
+        Some(members) => members.len() == count,
+        None => false,
+    }
+}
+
+/// The whole number of a range that a value is.
+fn number_in<const LEAST: u32, const GREATEST: u32>(
+    value: &Value,
+) -> Option<Bounded<LEAST, GREATEST>>
+    ensures { result ≡ number_in LEAST GREATEST (view value.now) }
+{
+    let number = value.as_u64()?;
+    if number <= u64::from(GREATEST) {
+        Bounded::new(number as u32)
+    } else {
+        None
+    }
+}
+
+/// The whole number of a range under a name.
+#[tactic(auto, unfolding(crate::specs::BodyFields::number_at))]
+pub(crate) fn number<const LEAST: u32, const GREATEST: u32>(
+    fields: &Value,
+    name: &str,
+) -> Option<Bounded<LEAST, GREATEST>>
+    ensures { result ≡ number_at LEAST GREATEST name.now (view fields.now) }
+{
+    number_in(fields.get(name)?)
+}
+
+/// The text under a name.
+#[tactic(auto, unfolding(crate::specs::BodyFields::text_at))]
+fn text<'v>(fields: &'v Value, name: &str) -> Option<&'v str>
+    ensures { option_map (λ text. text.now) result ≡ text_at name.now (view fields.now) }
+{
+    fields.get(name)?.as_str()
+}
+
+/// The place that a reference under a name names.
+#[tactic(auto, unfolding(crate::specs::BodyFields::place_at))]
+pub(crate) fn place(fields: &Value, name: &str) -> Option<Place>
+    ensures { result ≡ place_at name.now (view fields.now) }
+{
+    Place::parse(text(fields, name)?).ok()
+}
+
+/// The callsign under a name.
+#[tactic(auto, unfolding(crate::specs::BodyFields::callsign_at))]
+pub(crate) fn callsign(fields: &Value, name: &str) -> Option<Callsign>
+    ensures { result ≡ callsign_at name.now (view fields.now) }
+{
+    Callsign::parse(text(fields, name)?)
+}
+
+/// The note under a name.
+#[tactic(auto, unfolding(crate::specs::BodyFields::note_at))]
+pub(crate) fn note(fields: &Value, name: &str) -> Option<Note>
+    ensures { result ≡ note_at name.now (view fields.now) }
+{
+    Note::new(text(fields, name)?)
+}
+
+/// The button whose name stands under a name.
+#[tactic(auto, unfolding(crate::specs::BodyFields::button_at))]
+pub(crate) fn button(fields: &Value, name: &str) -> Option<Button>
+    ensures { result ≡ button_at name.now (view fields.now) }
+{
+    Button::parse(text(fields, name)?)
+}
+
+/// The needs under a name: an array of three numbers, for at least one vehicle.
+#[tactic(auto, unfolding(crate::specs::BodyFields::needs_at, crate::specs::BodyFields::needs_of))]
+pub(crate) fn needs(fields: &Value, name: &str) -> Option<Needs>
+    ensures { result ≡ needs_at name.now (view fields.now) }
+{
+    match fields.get(name)?.as_array()?.as_slice() {
+        [ambulances, cars, support] => Needs::new(Counts {
+            ambulances: number_in(ambulances)?,
+            cars: number_in(cars)?,
+            support: number_in(support)?,
+        }),
+        _ => None,
+    }
+}
+
+/// The standby point under a name: `Some(None)` where it is null.
+#[tactic(auto, unfolding(crate::specs::BodyFields::point_at))]
+pub(crate) fn point(fields: &Value, name: &str) -> Option<Option<PointNumber>>
+    ensures { result ≡ point_at name.now (view fields.now) }
+{
+    let value = fields.get(name)?;
+    if value.is_null() {
+        return Some(None);
+    }
+    number_in(value).map(Some)
+}

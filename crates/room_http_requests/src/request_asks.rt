@@ -1,0 +1,64 @@
+//! What a request asks for.
+ghost use Rattle.std.specs.Prelude.{◌≡◌, ◌⊎◌, MatchResult, None, Some};
+ghost use Rattle.room_types.specs.declared.refusals.Refusal.TheVariants.{BadBody, Memory};
+ghost use Rattle.room_http_requests.specs.RequestAsks.{ask_without_body, request_by};
+
+use crate::bodies::ask_with_body;
+use crate::body_fields::fields_of;
+use crate::targets::Target;
+use room_http_time::days::Day;
+use room_types::asks::Ask;
+use room_types::refusals::Refusal;
+use std::alloc::Global;
+
+/// What a request wants of the room.
+#[derive(Clone, Copy)]
+pub enum Request {
+    Ask(Ask),
+    /// The times of a day, whose first and last instants the plan's time zone gives.
+    Times(Day),
+}
+
+/// What a target that takes no body wants: none for one that takes a body.
+fn ask_without_body(target: &Target) -> Option<Request>
+    ensures { result ≡ ask_without_body target.now }
+{
+    match *target {
+        Target::Incidents => Some(Request::Ask(Ask::Incidents)),
+        Target::Incident(number) => Some(Request::Ask(Ask::Incident(number))),
+        Target::Propose(number) => Some(Request::Ask(Ask::Propose(number))),
+        Target::Vehicles => Some(Request::Ask(Ask::Vehicles)),
+        Target::Queue => Some(Request::Ask(Ask::Queue)),
+        Target::Points => Some(Request::Ask(Ask::Points)),
+        Target::Loans => Some(Request::Ask(Ask::Loans)),
+        Target::Offers => Some(Request::Ask(Ask::Offers)),
+        Target::Times(day) => Some(Request::Times(day)),
+        Target::Order => Some(Request::Ask(Ask::Order)),
+        Target::Last => Some(Request::Ask(Ask::Last)),
+        _ => None,
+    }
+}
+
+/// What a request wants, by its target and its body.
+///
+/// A body is an object of JSON with exactly the members that the target wants; where it wants none,
+/// an empty body serves too. Of equal names the last counts. Any other body is refused as
+/// `BadBody`. The body of a target that takes none, as those of GET, is not looked at.
+#[tactic(auto, unfolding(crate::specs::RequestAsks::request_by))]
+pub fn ask_of(alloc: Global, target: &Target, body: &[u8]) -> Result<Request, Refusal>
+    ensures { MatchResult result (λ given. request_by target.now body.now ≡ Some given)
+        (λ refusal. (refusal ≡ Memory) ⊎
+        ((refusal ≡ BadBody) × (request_by target.now body.now ≡ None))) }
+{
+    if let Some(request) = ask_without_body(target) {
+        return Ok(request);
+    }
+    let fields = match fields_of(alloc, body) {
+        Ok(fields) => fields,
+        Err(refusal) => return Err(refusal),
+    };
+    match ask_with_body(target, &fields) {
+        Some(ask) => Ok(Request::Ask(ask)),
+        None => Err(Refusal::BadBody),
+    }
+}

@@ -1,0 +1,88 @@
+-- A question changes nothing, whoever asks.
+use Rattle.std.proofs.Common.{ap, subst, sym}
+use Rattle.std.specs.Prelude.{List, None, Option, Some, [], not, refl, true, ℕ, ◌||◌, ◌≡◌}
+use Rattle.room_types.specs.Codes.{is_active}
+use Rattle.room_types.specs.Texts.{Callsign}
+use Rattle.room_types.specs.declared.answers.Served.{Served}
+use Rattle.room_types.specs.declared.asks.Ask.{Ask}
+use Rattle.room_types.specs.declared.asks.Event.{Event}
+use Rattle.room_types.specs.declared.asks.Who.{Who}
+use Rattle.room_types.specs.declared.asks.Who.TheVariants.{Crew, Desk, Position}
+use Rattle.room_types.specs.declared.changes.Change.{Change}
+use Rattle.room_types.specs.declared.tables.Assignment.{Assignment}
+use Rattle.room_types.specs.declared.tables.Call.{Call}
+use Rattle.room_types.specs.declared.tables.Incident.{Incident}
+use Rattle.room_types.specs.declared.tables.Turn.{Turn}
+use Rattle.room_types.specs.declared.tables.Vehicle.{Vehicle}
+use Rattle.room_model.proofs.DecisionLaws.{by_refuse}
+use Rattle.room_model.proofs.Tests.{or_left}
+use Rattle.room_model.specs.DayTimes.{show_times}
+use Rattle.room_model.specs.Decisions.{Verdict, changes_of, show, where_active}
+use Rattle.room_model.specs.Incidents.{history_of, show_incident, show_incidents}
+use Rattle.room_model.specs.Loans.{show_loans, show_offers}
+use Rattle.room_model.specs.Points.{show_points}
+use Rattle.room_model.specs.Proposals.{all_proposed, propose}
+use Rattle.room_model.specs.Queries.{assignment_at, incident_of, vehicle_at}
+use Rattle.room_model.specs.Queue.{show_queue}
+use Rattle.room_model.specs.Reports.{last_of, order_of}
+use Rattle.room_model.specs.Room.{Room, apply}
+use Rattle.room_model.specs.Step.{crew_asks, desk_asks, is_of_role, is_question, position_asks, room_after, who_asks}
+use Rattle.room_model.specs.Vehicles.{show_vehicles}
+use Rattle.room_types.specs.declared.answers.Answer.TheVariants as answer
+use Rattle.room_types.specs.declared.asks.Ask.TheVariants as ask
+use Rattle.room_types.specs.declared.refusals.Refusal.TheVariants as refusal
+
+abbrev pub ChangesNothing : Verdict → Type 0
+ChangesNothing x = changes_of x ≡ []
+
+by_active : (o : Option Incident) (f : Incident → Verdict) → ((i : Incident) → ChangesNothing (f i))
+    → ChangesNothing (where_active o f)
+by_active None f g = refl
+by_active (Some i) f g = by_refuse ChangesNothing (not (is_active i.state)) refusal.IncidentNotOpen (f i) refl (λ e. g i)
+
+by_history : (o : Option Incident) (serving : Served) (calls : List Call) (turns : List Turn)
+    → ChangesNothing (history_of o serving calls turns)
+by_history None serving calls turns = refl
+by_history (Some i) serving calls turns = refl
+
+by_order : (o : Option Vehicle) (a : Option Assignment) → ChangesNothing (order_of o a)
+by_order None a = refl
+by_order (Some v) a = refl
+
+by_last : (o : Option Vehicle) → ChangesNothing (last_of o)
+by_last None = refl
+by_last (Some v) = refl
+
+-- a question, or what another role may ask
+abbrev pub IsQuiet : Who → Ask → Type 0
+IsQuiet who a = is_question a || not (is_of_role who a) ≡ true
+
+module _ (at : ℕ) (r : Room) where
+  desk_shows : (d : ℕ) (a : Ask) → IsQuiet (Desk d) a → ChangesNothing (desk_asks d a at r)
+  unfolding show_incidents show_incident show_vehicles show_queue show_points show_loans show_offers show_times propose
+  desk_shows d (ask.Incident n) h = by_history (incident_of d n r) _ _ _
+  desk_shows d (ask.Propose n) h = by_active (incident_of d n r) (λ i. show (answer.Proposals (all_proposed d i at r))) (λ i. refl)
+  desk_shows d a h = cc
+
+  crew_shows : (c : Callsign) (a : Ask) → IsQuiet (Crew c) a → ChangesNothing (crew_asks c a at r)
+  crew_shows c ask.Order h = by_order (vehicle_at c r) (assignment_at c r)
+  crew_shows c ask.Last h = by_last (vehicle_at c r)
+  crew_shows c a h = cc
+
+  position_shows : (p : ℕ) (a : Ask) → IsQuiet (Position p) a
+      → ChangesNothing (position_asks p a at r)
+  position_shows p ask.Last h = refl
+  position_shows p a h = cc
+
+  pub quiet_shows : (who : Who) (a : Ask) → IsQuiet who a → ChangesNothing (who_asks who a at r)
+  quiet_shows (Desk d) a h = desk_shows d a h
+  quiet_shows (Crew c) a h = crew_shows c a h
+  quiet_shows (Position p) a h = position_shows p a h
+
+  -- what holds of no changes, holds of what changes nothing
+  pub by_quiet : (P : List Change → Type 0) (who : Who) (a : Ask) → IsQuiet who a → P []
+      → P (changes_of (who_asks who a at r))
+  by_quiet P who a h none = subst P (sym (quiet_shows who a h)) none
+
+pub question_stays : (e : Event) (r : Room) → is_question e.ask ≡ true → room_after e r ≡ r
+question_stays e r h = ap (apply r) (quiet_shows e.at r e.who e.ask (or_left _ _ h))

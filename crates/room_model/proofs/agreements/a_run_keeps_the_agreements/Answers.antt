@@ -1,5 +1,0 @@
-use Rattle.room_model.proofs.KeptEvents.{run_kept}
-use Rattle.room_model.proofs.agreements.a_run_keeps_the_agreements.Goals as goal
-
-pub returns : goal.returns
-returns g es r w addressed = run_kept es r w addressed

@@ -1,5 +1,0 @@
-use Rattle.room_model.proofs.EnrolLaws.{enrolled_again}
-use Rattle.room_model.proofs.agreements.enrolling_again_changes_nothing.Goals as goal
-
-pub returns : goal.returns
-returns g r ts row = enrolled_again r ts row

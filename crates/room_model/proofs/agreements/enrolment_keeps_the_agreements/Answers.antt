@@ -1,8 +1,0 @@
-use Rattle.room_model.proofs.EnrolLaws.{enrolled_kept, terminals_kept}
-use Rattle.room_model.proofs.agreements.enrolment_keeps_the_agreements.Goals as goal
-
-pub returns-clause-room : goal.returns-clause-room
-returns-clause-room g r ts row w = enrolled_kept r ts row w
-
-pub returns-clause-terminals : goal.returns-clause-terminals
-returns-clause-terminals g r ts row are = terminals_kept r ts row are

@@ -1,5 +1,0 @@
-use Rattle.room_model.proofs.QueueLaws.{ordered_queue}
-use Rattle.room_model.proofs.choices.queues_are_in_order.Goals as goal
-
-pub returns : goal.returns
-returns g entries = ordered_queue entries

@@ -1,5 +1,0 @@
-use Rattle.room_model.proofs.Runs.{run_everyday}
-use Rattle.room_model.proofs.isolation.without_loans_divisions_share_nothing.Goals as goal
-
-pub returns : goal.returns
-returns g d es r l = run_everyday d es r l

@@ -1,5 +1,0 @@
-use Rattle.room_model.proofs.OffersMade.{unoffered_run}
-use Rattle.room_model.proofs.moving.nothing_is_offered_by_itself.Goals as goal
-
-pub returns : goal.returns
-returns g es r none nobody = unoffered_run es r none nobody

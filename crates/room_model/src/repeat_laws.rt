@@ -1,0 +1,101 @@
+//! What changes nothing: a refusal, a question, and a message that is sent again.
+ghost use Rattle.std.specs.Prelude.{◌≡◌, ◌≢◌, ℕ, List, Err, IfErr, is_ok, true};
+ghost use Rattle.room_types.specs.Texts.{Callsign};
+ghost use Rattle.room_types.specs.declared.asks.Ask.TheVariants.{Call, Report};
+ghost use Rattle.room_types.specs.declared.asks.CallForm.{CallForm};
+ghost use Rattle.room_types.specs.declared.asks.Event.{Event};
+ghost use Rattle.room_types.specs.declared.asks.Press.{Press};
+ghost use Rattle.room_types.specs.declared.refusals.Refusal.{Refusal};
+ghost use Rattle.room_types.specs.declared.refusals.Refusal.TheVariants.{NumberReused, OutsideArea, SerialReused};
+ghost use Rattle.room_model.specs.Calls.{outside_again};
+ghost use Rattle.room_model.specs.Events.{OnlyAnswers, by_crew, by_position};
+ghost use Rattle.room_model.specs.Queries.{kept_call};
+ghost use Rattle.room_model.specs.Room.{Room, IsInOrder};
+ghost use Rattle.room_model.specs.Run.{room_run};
+ghost use Rattle.room_model.specs.Step.{IsAddressed, answer_to, decided, is_question, room_after};
+
+/// A refused event leaves the room as it was.
+pub fn a_refusal_changes_nothing()
+    ensures { (e : Event) (r : Room) (why : Refusal) → decided e r ≡ Err why → room_after e r ≡ r }
+{}
+
+/// A question leaves the room as it is.
+pub fn a_question_changes_nothing()
+    ensures { (e : Event) (r : Room) → is_question e.ask ≡ true → room_after e r ≡ r }
+{}
+
+/// Whatever happened in between: a report that was accepted and is sent again, with its number,
+/// button, order and place, changes nothing and gets its first answer.
+pub fn a_repeated_report_acts_once()
+    ensures { (c : Callsign) (p : Press) (at later : ℕ) (r : Room) (es : List Event) →
+        IsInOrder r → is_ok (answer_to (by_crew c (Report p) at) r) ≡ true →
+        OnlyAnswers (by_crew c (Report p) later)
+        (room_run es (room_after (by_crew c (Report p) at) r))
+        (answer_to (by_crew c (Report p) at) r) }
+{}
+
+/// Whatever happened in between: a call that was accepted and is sent again by its position, with
+/// its serial, place, class, needs and note, changes nothing and gets its first answer.
+pub fn a_repeated_call_acts_once()
+    ensures { (p : ℕ) (f : CallForm) (at later : ℕ) (r : Room) (es : List Event) →
+        IsInOrder r → is_ok (answer_to (by_position p (Call f) at) r) ≡ true →
+        OnlyAnswers (by_position p (Call f) later)
+        (room_run es (room_after (by_position p (Call f) at) r))
+        (answer_to (by_position p (Call f) at) r) }
+{}
+
+/// Whatever happened in between: the number of a report that was accepted, and the serial of such a
+/// call, are refused for any other report or call, which changes nothing.
+pub fn a_used_number_is_refused()
+    ensures report { (c : Callsign) (p q : Press) (at later : ℕ) (r : Room) (es : List Event) →
+        IsInOrder r → is_ok (answer_to (by_crew c (Report p) at) r) ≡ true → q.number ≡ p.number →
+        q ≢ p →
+        OnlyAnswers (by_crew c (Report q) later)
+        (room_run es (room_after (by_crew c (Report p) at) r))
+        (Err NumberReused) }
+    ensures call { (p : ℕ) (f g : CallForm) (at later : ℕ) (r : Room) (es : List Event) →
+        IsInOrder r → is_ok (answer_to (by_position p (Call f) at) r) ≡ true →
+        g.serial ≡ f.serial → g ≢ f →
+        OnlyAnswers (by_position p (Call g) later)
+        (room_run es (room_after (by_position p (Call f) at) r))
+        (Err SerialReused) }
+{}
+
+/// Whatever happened in between: a report or a call that was refused because its number or serial
+/// was another's is refused so again, and changes nothing.
+pub fn a_used_number_stays_refused()
+    ensures report { (c : Callsign) (p : Press) (at later : ℕ) (r : Room) (es : List Event) →
+        IsInOrder r → answer_to (by_crew c (Report p) at) r ≡ Err NumberReused →
+        OnlyAnswers (by_crew c (Report p) later)
+        (room_run es (room_after (by_crew c (Report p) at) r))
+        (Err NumberReused) }
+    ensures call { (p : ℕ) (f : CallForm) (at later : ℕ) (r : Room) (es : List Event) →
+        IsInOrder r → answer_to (by_position p (Call f) at) r ≡ Err SerialReused →
+        OnlyAnswers (by_position p (Call f) later)
+        (room_run es (room_after (by_position p (Call f) at) r))
+        (Err SerialReused) }
+{}
+
+/// A report of a vehicle that is there is refused only for its number; so whatever happened in
+/// between, and whatever it was told, it is told that again, and changes nothing.
+pub fn a_repeated_report_is_told_its_first_answer()
+    ensures refused { (c : Callsign) (p : Press) (at : ℕ) (r : Room) →
+        IsAddressed (by_crew c (Report p) at) r →
+        IfErr (answer_to (by_crew c (Report p) at) r) (λ why. why ≡ NumberReused) }
+    ensures again { (c : Callsign) (p : Press) (at later : ℕ) (r : Room) (es : List Event) →
+        IsInOrder r → IsAddressed (by_crew c (Report p) at) r →
+        OnlyAnswers (by_crew c (Report p) later)
+        (room_run es (room_after (by_crew c (Report p) at) r))
+        (answer_to (by_crew c (Report p) at) r) }
+{}
+
+/// Whatever happened in between: a call that was refused because its place is in no division is
+/// refused again, and changes nothing: for its place, or for its serial where that was given to
+/// another call meanwhile.
+pub fn a_call_from_outside_stays_refused()
+    ensures { (p : ℕ) (f : CallForm) (at later : ℕ) (r : Room) (es : List Event) →
+        IsInOrder r → answer_to (by_position p (Call f) at) r ≡ Err OutsideArea →
+        let now = room_run es (room_after (by_position p (Call f) at) r) in
+        OnlyAnswers (by_position p (Call f) later) now
+        (Err (outside_again (kept_call p f.serial now))) }
+{}

@@ -1,0 +1,47 @@
+use Rattle.std.proofs.Common.{Some, ap, refl, sym, ◌∙◌, ◌≡◌}
+use Rattle.std.proofs.lemmas.Result.{IfOk-weaker}
+use Rattle.room_types_keyed.specs.Keyed.{row_at}
+use Rattle.room_types.specs.Keys.{assignment_key, callsign_cmp, vehicle_key}
+use Rattle.room_model.specs.Queries.{assignment_at, vehicle_at}
+use Rattle.room_tables_laws.proofs.ReadLaws.{begins, told, wants}
+use Rattle.room_store_cache.specs.declared.fleets.FleetRows.{FleetRows}
+use Rattle.room_store_cache.proofs.CrewReads.{found_here}
+use Rattle.room_store.specs.EventDecisions.{unless_out_of_memory}
+use Rattle.room_store.proofs.event_decisions.for_crew.Goals as goal
+
+pub returns-in-Order-clause-decided : goal.returns-in-Order-clause-decided
+unfolding assignment_at vehicle_at
+returns-in-Order-clause-decided g c clean config room h formed fleet =
+    let k = c.args.callsign.now in
+    let there : row_at callsign_cmp vehicle_key room.vehicles k ≡ Some c.in-Some.vehicle = ap (λ xs. row_at callsign_cmp vehicle_key xs k) (sym (ap (λ (r : FleetRows). r.vehicles) c.get.ensures ∙ fleet.rows.vehicles)) ∙ sym (c.copied.ensures ∙ c.get-2.ensures) ∙ c.in-Some.is in
+    let assigned : row_at callsign_cmp assignment_key room.assignments k ≡ c.copied-assignment.result = ap (λ xs. row_at callsign_cmp assignment_key xs k) (sym (ap (λ (r : FleetRows). r.assignments) c.get-in-Order.ensures ∙ fleet.rows.assignments)) ∙ sym (c.copied-assignment.ensures ∙ c.get-in-Order-2.ensures) in
+    sym (rw (c.in-Order.is, there, assigned) (sym c.decide_order.ensures))
+
+pub returns-in-Report-clause-decided : goal.returns-in-Report-clause-decided
+returns-in-Report-clause-decided g c clean = IfOk-weaker (unless_out_of_memory c.for_report.result) _ _ (λ x told config room h formed fleet.
+    let k = c.args.callsign.now in
+    let there : row_at callsign_cmp vehicle_key room.vehicles k ≡ Some c.in-Some.vehicle = ap (λ xs. row_at callsign_cmp vehicle_key xs k) (sym (ap (λ (r : FleetRows). r.vehicles) c.get.ensures ∙ fleet.rows.vehicles)) ∙ sym (c.copied.ensures ∙ c.get-2.ensures) ∙ c.in-Some.is in
+    let here = found_here k c.in-Some.vehicle room there in
+    rw c.in-Report.is (rw here.0 at (told config room h formed fleet here.1))) (c.for_report.ensures.decided clean)
+
+pub returns-in-Last-clause-decided : goal.returns-in-Last-clause-decided
+unfolding vehicle_at
+returns-in-Last-clause-decided g c clean config room h formed fleet =
+    let k = c.args.callsign.now in
+    let there : row_at callsign_cmp vehicle_key room.vehicles k ≡ Some c.in-Some.vehicle = ap (λ xs. row_at callsign_cmp vehicle_key xs k) (sym (ap (λ (r : FleetRows). r.vehicles) c.get.ensures ∙ fleet.rows.vehicles)) ∙ sym (c.copied.ensures ∙ c.get-2.ensures) ∙ c.in-Some.is in
+    sym (rw (c.in-Last.is, there) (sym c.decide_last.ensures))
+
+pub returns-in-Last-clause-reads : goal.returns-in-Last-clause-reads
+returns-in-Last-clause-reads g c = told (begins c.requires.open)
+
+pub returns-in-Order-clause-reads : goal.returns-in-Order-clause-reads
+returns-in-Order-clause-reads g c = told (begins c.requires.open)
+
+pub returns-in-Report-clause-reads : goal.returns-in-Report-clause-reads
+returns-in-Report-clause-reads g c = c.for_report.ensures.reads
+
+pub returns-in_default-clause-reads : goal.returns-in_default-clause-reads
+returns-in_default-clause-reads g c = wants refl (begins c.requires.open)
+
+pub returns-in_default-ask-clause-reads : goal.returns-in_default-ask-clause-reads
+returns-in_default-ask-clause-reads g c = told (begins c.requires.open)

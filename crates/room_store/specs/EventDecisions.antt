@@ -1,0 +1,20 @@
+-- What is decided of an event, or why nothing is.
+use Rattle.std.specs.Prelude.{Err, List, Ok, Result}
+use Rattle.room_model.specs.Decisions.{Verdict, answer_of, changes_of}
+use Rattle.room_types.specs.declared.answers.Answer.{Answer}
+use Rattle.room_types.specs.declared.changes.Change.{Change}
+use Rattle.room_types.specs.declared.decisions.Decision.{Decision}
+use Rattle.room_types.specs.declared.refusals.Refusal.{Refusal}
+use Rattle.room_types.specs.declared.refusals.Refusal.TheVariants as refusal
+
+-- The decision or the refusal, which is to be the machine's. Where memory or storage is wanting,
+-- nothing is decided.
+abbrev pub unless_out_of_memory : Result Decision Refusal → Result Verdict Refusal
+unless_out_of_memory (Err refusal.Memory) = Err refusal.Memory
+unless_out_of_memory (Err refusal.Storage) = Err refusal.Storage
+unless_out_of_memory decision = Ok decision
+
+-- what is decided, as changes and an answer
+abbrev pub in_parts : Result Verdict Refusal → Result (List Change × Result Answer Refusal) Refusal
+in_parts (Ok decided) = Ok (changes_of decided, answer_of decided)
+in_parts (Err want) = Err want

@@ -1,0 +1,18 @@
+-- What a fault of the database is to who asks: a refusal.
+use Rattle.room_model.specs.declared.digests.Miss.{Miss}
+use Rattle.room_model.specs.declared.digests.Miss.TheVariants as miss
+use Rattle.room_store_file.specs.declared.digest_changes.Undone.{Undone}
+use Rattle.room_store_file.specs.declared.digest_changes.Undone.TheVariants as undone
+use Rattle.room_types.specs.declared.refusals.Refusal.{Refusal}
+use Rattle.room_types.specs.declared.refusals.Refusal.TheVariants as refusal
+use Rattle.room_tables_schema.specs.declared.database_faults.Fault.{Fault}
+use Rattle.room_tables_schema.specs.declared.database_faults.Fault.TheVariants.{Memory, Storage}
+
+abbrev pub refusal_of : Fault → Refusal
+refusal_of Memory = refusal.Memory
+refusal_of Storage = refusal.Storage
+
+-- how it is reported that changes were undone which were to lead to a digest
+abbrev pub miss_of : Undone → Miss
+miss_of undone.Another = miss.Another
+miss_of (undone.Want fault) = miss.Want (refusal_of fault)

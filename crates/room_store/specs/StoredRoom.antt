@@ -1,0 +1,59 @@
+-- What a store keeps true between calls, and which room it stands for.
+use Rattle.std.specs.Prelude.{List, [], false, IsTrue, ◌∷◌, ◌≡◌, ◌⊎◌}
+use Rattle.sqlite.specs.Held.{state}
+use Rattle.sqlite.specs.State.{HasCleanDisk, State}
+use Rattle.sqlite_trees.specs.Tree.{Trees}
+use Rattle.sqlite_trees.specs.declared.store.Store.{Ghosts}
+use Rattle.room_types.specs.declared.fleet.Terminal.{Terminal}
+use Rattle.room_model.specs.Enrol.{AreTerminals}
+use Rattle.room_model.specs.Room.{Room}
+use Rattle.room_model.specs.WellFormed.{IsWellFormed}
+use Rattle.room_tables_schema.specs.Schema.{room_schema}
+use Rattle.room_tables.specs.Stands.{Configuration, Stands}
+use Rattle.room_store_writes.specs.Houses.{config_of}
+use Rattle.room_store_writes.specs.Transactions.{IsSettled}
+use Rattle.room_store_cache.specs.Cache.{IsCacheOf, KnowsNothing}
+use Rattle.room_store_cache.specs.KnownTerminals.{AreTerminalsOf}
+use Rattle.room_store.specs.declared.store.Store.{Store}
+
+-- The connection shows a room: it is open, its tables are a room's, and they are as they were
+-- committed.
+pub record ShowsRoom (at : State) : Type 0 where
+  pub schema : at.now.schema ≡ room_schema
+  pub settled : IsSettled at
+
+-- It may be called: no transaction is open, a sound store's connection shows a room, and an unsound
+-- store knows nothing.
+pub record IsReady {S : Type 0} (g : Ghosts S) (held : Store S) : Type 0 where
+  pub outside : held.conn.in_transaction ≡ false
+  pub sound : IsTrue held.is_sound → HasCleanDisk (state g held.conn)
+      → ShowsRoom (state g held.conn)
+  pub unsound : held.is_sound ≡ false → KnowsNothing held.cache
+
+-- It stands for this well-formed room with these terminals, those that it knows are of these, and
+-- what else it knows is so in the room. Of a connection that a fault has shut, the tables say
+-- nothing.
+pub record IsRoom {S : Type 0} (g : Ghosts S) (held : Store S) (terminals : List Terminal)
+    (room : Room) : Type 0 where
+  pub formed : IsWellFormed room
+  pub fits : AreTerminals room terminals
+  pub plan : room.plan ≡ held.plan.areas
+  pub known : AreTerminalsOf held.terminals.kept.items terminals
+  pub cache : IsCacheOf held.cache room
+  pub tables : IsTrue (state g held.conn).is_open
+      → Stands (state g held.conn).now.trees (config_of held.plan terminals) room
+
+-- What its tables hold is kept: the connection is open, and a stop leaves only these tables.
+pub record IsKept {S : Type 0} (g : Ghosts S) (held : Store S) : Type 0 where
+  pub is_open : IsTrue (state g held.conn).is_open
+  pub alone : (db : Trees) → (state g held.conn).may_leave db → db ≡ (state g held.conn).now.trees
+
+-- the tables stand for one of these rooms
+abbrev pub StandForOne : Trees → Configuration → List Room → Type 0
+StandForOne trees config [] = ⊥
+StandForOne trees config (room ∷ rooms) = Stands trees config room ⊎ StandForOne trees config rooms
+
+-- Whatever tables a stop leaves, they stand for one of these rooms with these terminals.
+abbrev pub LeavesOneOf : {S : Type 0} → Ghosts S → Store S → List Terminal → List Room → Type 0
+LeavesOneOf g held terminals rooms = (db : Trees) → (state g held.conn).may_leave db
+    → StandForOne db (config_of held.plan terminals) rooms

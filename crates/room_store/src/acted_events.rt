@@ -1,0 +1,160 @@
+//! One event acted on: decided, answered, kept.
+ghost use Rattle.std.specs.Prelude.{◌≡◌, false, Ok, Result, IsTrue, IfOk, IfErr, OnOk, OnErr};
+ghost use Rattle.std.specs.Fn.{FnOnceReturnsAt};
+ghost use Rattle.sqlite.specs.Held.{state};
+ghost use Rattle.sqlite.specs.State.{HasCleanDisk, Survives};
+ghost use Rattle.room_tables_schema.specs.FileConnections.{HasRoomSchema};
+ghost use Rattle.room_tables_laws.specs.Outcomes.{ReadsOnly};
+ghost use Rattle.room_types.specs.declared.answers.Answer.{Answer as Told};
+ghost use Rattle.room_types.specs.declared.refusals.Refusal.{Refusal as Why};
+ghost use Rattle.room_types.specs.declared.refusals.Refusal.TheVariants.{Memory};
+ghost use Rattle.room_model.specs.Decisions.{changes_of};
+ghost use Rattle.room_model.specs.Events.{IsNumbered};
+ghost use Rattle.room_model.specs.Room.{Room};
+ghost use Rattle.room_model.specs.Step.{answer_to, decided, room_after};
+ghost use Rattle.room_model.specs.Rooms.{IsWant};
+ghost use Rattle.room_tables.specs.Stands.{Configuration, Stands};
+ghost use Rattle.room_store_writes.specs.Transactions.{Commits, Leaves};
+ghost use Rattle.room_store_cache.specs.Cache.{IsCacheOf};
+ghost use Rattle.room_store.specs.ActedEvents.{IsFor};
+ghost use Rattle.room_store.specs.EventDecisions.{in_parts, unless_out_of_memory};
+
+use crate::event_decisions::decide;
+use crate::store_faults::refusal_of;
+use room_place::plans::Plan;
+use room_store_cache::cache::Cache;
+use room_store_writes::transactions::write;
+use room_types::answers::{Answer, Listed};
+use room_types::asks::{Ask, Event};
+use room_types::changes::Change;
+use room_types::decisions::Decision;
+use room_types::refusals::Refusal;
+use sqlite::{Alter, Connection};
+use std::alloc::Global;
+
+/// Acts on an event: gives what `render` makes of the machine's answer, which it is asked for
+/// before anything is written. A refusal is of memory or of storage, and changes nothing.
+pub(crate) fn act_on<S: Alter, F: FnOnce(&Result<Answer, Refusal>) -> Result<Vec<u8>, Refusal>>(
+    alloc: Global,
+    conn: &mut Connection<S>,
+    plan: &Plan,
+    cache: &mut Cache,
+    event: &Event,
+    render: F,
+) -> Result<Vec<u8>, Refusal>
+    requires room { HasRoomSchema S.Store conn.old }
+    requires outside { conn.old.in_transaction ≡ false }
+    requires open { IsTrue cache.old.fleet.is_known → HasCleanDisk (state S.Store conn.old)
+        → IsTrue (state S.Store conn.old).is_open }
+    requires callable { F.IsAlwaysCallable render }
+    requires memory { (answer : Result Told Why) (r : _)
+        → FnOnceReturnsAt F.FnOnce render answer r → IfErr r (λ e. e ≡ Memory) }
+    ensures bytes { HasCleanDisk (state S.Store conn.new)
+        → IfOk result (λ bytes. (config : Configuration) (room : Room)
+        → IsFor (state S.Store conn.old).now.trees plan.now cache.old event.now config room
+        → FnOnceReturnsAt F.FnOnce render (answer_to event.now room) (Ok bytes)) }
+    ensures ok { HasCleanDisk (state S.Store conn.new)
+        → OnOk result (Commits (state S.Store conn.old) (state S.Store conn.new)
+        (IsFor (state S.Store conn.old).now.trees plan.now cache.old event.now)
+        (room_after event.now)) }
+    ensures cache { HasCleanDisk (state S.Store conn.new)
+        → OnOk result ((config : Configuration) (room : Room)
+        → IsFor (state S.Store conn.old).now.trees plan.now cache.old event.now config room
+        → IsCacheOf cache.new (room_after event.now room)) }
+    ensures err { HasCleanDisk (state S.Store conn.new)
+        → OnErr result (Leaves (state S.Store conn.old) (state S.Store conn.new)) }
+    ensures wants { IfErr result IsWant }
+    ensures ended { conn.new.in_transaction ≡ false }
+    ensures survives { Survives (state S.Store conn.old) (state S.Store conn.new) (λ db.
+        (config : Configuration) (room : Room)
+        → IsFor (state S.Store conn.old).now.trees plan.now cache.old event.now config room
+        → Stands db config (room_after event.now room)) }
+{
+    // Outside a transaction the tables are as they were committed.
+    let _ = conn.is_autocommit();
+    let prepared = match prepare(alloc, conn, plan, cache, event, render) {
+        Ok(prepared) => prepared,
+        Err(refusal) => return Err(refusal),
+    };
+    let Prepared { changes, bytes } = prepared;
+    if let Err(fault) = write(conn, changes.as_slice()) {
+        return Err(refusal_of(fault));
+    }
+    cache.apply(changes.as_slice());
+    Ok(bytes)
+}
+
+/// What an event changes, and the answer to it.
+#[derive(Drop)]
+pub(crate) struct Prepared {
+    pub(crate) changes: Listed<Change>,
+    pub(crate) bytes: Vec<u8>,
+}
+
+/// What an event changes, and what `render` makes of the machine's answer. Nothing is written. A
+/// refusal is of memory or of storage.
+pub(crate) fn prepare<S: Alter, F: FnOnce(&Result<Answer, Refusal>) -> Result<Vec<u8>, Refusal>>(
+    alloc: Global,
+    conn: &mut Connection<S>,
+    plan: &Plan,
+    cache: &mut Cache,
+    event: &Event,
+    render: F,
+) -> Result<Prepared, Refusal>
+    requires room { HasRoomSchema S.Store conn.old }
+    requires open { IsTrue cache.old.fleet.is_known → HasCleanDisk (state S.Store conn.old)
+        → IsTrue (state S.Store conn.old).is_open }
+    requires callable { F.IsAlwaysCallable render }
+    requires memory { (answer : Result Told Why) (r : _)
+        → FnOnceReturnsAt F.FnOnce render answer r → IfErr r (λ e. e ≡ Memory) }
+    ensures changes { HasCleanDisk (state S.Store conn.new)
+        → IfOk result (λ prepared. (config : Configuration) (room : Room)
+        → IsFor (state S.Store conn.old).now.trees plan.now cache.old event.now config room
+        → prepared.changes ≡ changes_of (decided event.now room)) }
+    ensures bytes { HasCleanDisk (state S.Store conn.new)
+        → IfOk result (λ prepared. (config : Configuration) (room : Room)
+        → IsFor (state S.Store conn.old).now.trees plan.now cache.old event.now config room
+        → FnOnceReturnsAt F.FnOnce render (answer_to event.now room) (Ok prepared.bytes)) }
+    ensures cache { HasCleanDisk (state S.Store conn.new)
+        → OnOk result ((config : Configuration) (room : Room)
+        → IsFor (state S.Store conn.old).now.trees plan.now cache.old event.now config room
+        → IsCacheOf cache.new room) }
+    ensures reads { ReadsOnly S.Store conn.old conn.new result }
+    ensures wants { IfErr result IsWant }
+{
+    let decision = decide(alloc, conn, plan, cache, event);
+    let (changes, answer) = match parts(alloc, decision) {
+        Ok(parts) => parts,
+        Err(refusal) => return Err(refusal),
+    };
+    let rendered = render(&answer);
+    drop(answer);
+    match rendered {
+        Ok(bytes) => Ok(Prepared { changes, bytes }),
+        Err(refusal) => Err(refusal),
+    }
+}
+
+// The changes of a decision, and the answer: a refusal too, unless memory or storage is wanting.
+fn parts(
+    alloc: Global,
+    decision: Result<Decision, Refusal>,
+) -> Result<(Listed<Change>, Result<Answer, Refusal>), Refusal>
+    ensures { result ≡ in_parts (unless_out_of_memory decision) }
+{
+    match decision {
+        Ok(Decision { changes, answer }) => Ok((changes, Ok(answer))),
+        Err(Refusal::Memory) => Err(Refusal::Memory),
+        Err(Refusal::Storage) => Err(Refusal::Storage),
+        Err(refusal) => Ok((Listed::new(alloc), Err(refusal))),
+    }
+}
+
+// A report's number is from 1, as its type has it; the machine's laws ask for this.
+pub(crate) fn lemma_numbered(ask: &Ask)
+    ensures { IsNumbered ask.now }
+{
+    if let Ask::Report(press) = ask {
+        let _ = press.number.get();
+    }
+}

@@ -1,0 +1,105 @@
+//! One event acted on where the room comes to a digest by it.
+ghost use Rattle.std.specs.Prelude.{◌≡◌, false, Ok, Result, IsTrue, IfOk, IfErr, OnOk, OnErr};
+ghost use Rattle.std.specs.Fn.{FnOnceReturnsAt};
+ghost use Rattle.sqlite.specs.Held.{state};
+ghost use Rattle.sqlite.specs.State.{HasCleanDisk, Survives};
+ghost use Rattle.room_tables_schema.specs.FileConnections.{HasRoomSchema};
+ghost use Rattle.room_types.specs.declared.answers.Answer.{Answer as Told};
+ghost use Rattle.room_types.specs.declared.refusals.Refusal.{Refusal as Why};
+ghost use Rattle.room_types.specs.declared.refusals.Refusal.TheVariants.{Memory};
+ghost use Rattle.room_model.specs.Room.{Room};
+ghost use Rattle.room_model.specs.Step.{answer_to, room_after};
+ghost use Rattle.room_model.specs.Digests.{IsMiss};
+ghost use Rattle.room_model.specs.declared.digests.Miss.TheVariants.{Another};
+ghost use Rattle.room_tables.specs.Stands.{Configuration, Stands};
+ghost use Rattle.room_store_writes.specs.Transactions.{Commits, Leaves};
+ghost use Rattle.room_store_cache.specs.Cache.{IsCacheOf};
+ghost use Rattle.room_store.specs.ActedEvents.{IsFor};
+ghost use Rattle.room_store.specs.StoreFaults.{miss_of};
+ghost use Rattle.room_store.specs.DigestEvents.{IsHeadAfter};
+
+use crate::acted_events::{Prepared, prepare};
+use crate::store_faults::refusal_of;
+use room_model::digests::{Head, Miss};
+use room_place::plans::Plan;
+use room_store_cache::cache::Cache;
+use room_store_file::digest_changes::{Undone, write_towards};
+use room_types::answers::Answer;
+use room_types::asks::Event;
+use room_types::refusals::Refusal;
+use sqlite::{Alter, Connection};
+use std::alloc::Global;
+
+/// Acts on an event as `act_on` does, where the room comes by it to the digest of this head.
+/// Where it would come to another one, nothing is changed.
+pub(crate) fn act_towards_on<
+    S: Alter,
+    F: FnOnce(&Result<Answer, Refusal>) -> Result<Vec<u8>, Refusal>,
+>(
+    alloc: Global,
+    conn: &mut Connection<S>,
+    plan: &Plan,
+    cache: &mut Cache,
+    event: &Event,
+    head: &Head,
+    render: F,
+) -> Result<Vec<u8>, Miss>
+    requires room { HasRoomSchema S.Store conn.old }
+    requires outside { conn.old.in_transaction ≡ false }
+    requires open { IsTrue cache.old.fleet.is_known → HasCleanDisk (state S.Store conn.old)
+        → IsTrue (state S.Store conn.old).is_open }
+    requires callable { F.IsAlwaysCallable render }
+    requires memory { (answer : Result Told Why) (r : _)
+        → FnOnceReturnsAt F.FnOnce render answer r → IfErr r (λ e. e ≡ Memory) }
+    ensures bytes { HasCleanDisk (state S.Store conn.new)
+        → IfOk result (λ bytes. (config : Configuration) (room : Room)
+        → IsFor (state S.Store conn.old).now.trees plan.now cache.old event.now config room
+        → FnOnceReturnsAt F.FnOnce render (answer_to event.now room) (Ok bytes)) }
+    ensures ok { HasCleanDisk (state S.Store conn.new)
+        → OnOk result (Commits (state S.Store conn.old) (state S.Store conn.new)
+        (IsFor (state S.Store conn.old).now.trees plan.now cache.old event.now)
+        (room_after event.now)) }
+    ensures cache { HasCleanDisk (state S.Store conn.new)
+        → OnOk result ((config : Configuration) (room : Room)
+        → IsFor (state S.Store conn.old).now.trees plan.now cache.old event.now config room
+        → IsCacheOf cache.new (room_after event.now room)) }
+    ensures reaches { HasCleanDisk (state S.Store conn.new)
+        → OnOk result ((config : Configuration) (room : Room)
+        → IsFor (state S.Store conn.old).now.trees plan.now cache.old event.now config room
+        → IsHeadAfter event.now config.zone config.terminals room head.now) }
+    ensures another { HasCleanDisk (state S.Store conn.new)
+        → IfErr result (λ miss. miss ≡ Another → (config : Configuration) (room : Room)
+        → IsFor (state S.Store conn.old).now.trees plan.now cache.old event.now config room
+        → ¬ (IsHeadAfter event.now config.zone config.terminals room head.now)) }
+    ensures err { HasCleanDisk (state S.Store conn.new)
+        → OnErr result (Leaves (state S.Store conn.old) (state S.Store conn.new)) }
+    ensures wants { IfErr result IsMiss }
+    ensures ended { conn.new.in_transaction ≡ false }
+    ensures survives { Survives (state S.Store conn.old) (state S.Store conn.new) (λ db.
+        (config : Configuration) (room : Room)
+        → IsFor (state S.Store conn.old).now.trees plan.now cache.old event.now config room
+        → Stands db config (room_after event.now room)) }
+{
+    // Outside a transaction the tables are as they were committed.
+    let _ = conn.is_autocommit();
+    let prepared = match prepare(alloc, conn, plan, cache, event, render) {
+        Ok(prepared) => prepared,
+        Err(refusal) => return Err(Miss::Want(refusal)),
+    };
+    let Prepared { changes, bytes } = prepared;
+    if let Err(undone) = write_towards(conn, changes.as_slice(), head) {
+        return Err(miss_of(undone));
+    }
+    cache.apply(changes.as_slice());
+    Ok(bytes)
+}
+
+// How it is reported that changes were undone.
+fn miss_of(undone: Undone) -> Miss
+    ensures { result ≡ miss_of undone }
+{
+    match undone {
+        Undone::Another => Miss::Another,
+        Undone::Want(fault) => Miss::Want(refusal_of(fault)),
+    }
+}

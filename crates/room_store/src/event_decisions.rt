@@ -1,0 +1,300 @@
+//! What the room in the tables decides of an event. Nothing is written.
+ghost use Rattle.std.specs.Prelude.{◌≡◌, IsTrue, IfOk};
+ghost use Rattle.sqlite.specs.Held.{state};
+ghost use Rattle.sqlite.specs.State.{HasCleanDisk};
+ghost use Rattle.room_tables_schema.specs.FileConnections.{HasRoomSchema};
+ghost use Rattle.room_tables_laws.specs.Outcomes.{ReadsOnly};
+ghost use Rattle.room_core.specs.DecisionRows.{AreRead};
+ghost use Rattle.room_types.specs.declared.asks.Ask.TheVariants.{Call as CallAsk};
+ghost use Rattle.room_types.specs.declared.asks.Who.TheVariants.{Position};
+ghost use Rattle.room_model.specs.Calls.{new_call, show_last_serial};
+ghost use Rattle.room_model.specs.Decisions.{Decides};
+ghost use Rattle.room_model.specs.Reports.{take_report};
+ghost use Rattle.room_model.specs.Room.{Room};
+ghost use Rattle.room_model.specs.RoomSlices.{room_of};
+ghost use Rattle.room_model.specs.Step.{IsAddressed, crew_asks, decided};
+ghost use Rattle.room_model.specs.WellFormed.{IsWellFormed};
+ghost use Rattle.room_tables.specs.Stands.{Configuration};
+ghost use Rattle.room_tables.specs.FoundRows.{Finds};
+ghost use Rattle.room_store.specs.ActedEvents.{IsFor, IsIn};
+ghost use Rattle.room_store.specs.EventDecisions.{unless_out_of_memory};
+ghost use Rattle.room_store_cache.specs.CrewParts.{HasVehicle};
+ghost use Rattle.room_store_cache.specs.Partitions.{AreKnown};
+ghost use Rattle.room_store_cache.specs.Cache.{HasFleetOf, IsCacheOf};
+
+use crate::store_faults::refusal_of;
+use room_core::call_decisions::{decide_again, decide_call, decide_last_serial};
+use room_core::crew_decisions::{decide_last, decide_order, decide_report, decide_report_again};
+use room_core::desk_decisions::decide_desk;
+use room_place::plans::{DivisionNumber, Plan};
+use room_store_cache::cache::Cache;
+use room_store_cache::crew_reads::{load_crew, load_report};
+use room_store_cache::fleets::Fleet;
+use room_store_cache::working_rows::load_working;
+use room_tables::call_table::last_serial;
+use room_tables::table_loads::row_at;
+use room_types::asks::{Ask, CallForm, Event, NewCall, Press, Who};
+use room_types::callsign::Callsign;
+use room_types::crews::CrewSlice;
+use room_types::decisions::Decision;
+use room_types::numbers::{Moment, PositionNumber};
+use room_types::refusals::Refusal;
+use room_types::slices::Slice;
+use room_types::tables::{Call, Vehicle};
+use sqlite::{Alter, Connection};
+use std::alloc::Global;
+
+/// What the machine decides of an event in the room that the tables stand for. A lack of memory or
+/// of storage is no decision of it: rows that don't agree are one of storage, and so is an event
+/// that is not addressed.
+pub(crate) fn decide<S: Alter>(
+    alloc: Global,
+    conn: &mut Connection<S>,
+    plan: &Plan,
+    cache: &mut Cache,
+    event: &Event,
+) -> Result<Decision, Refusal>
+    requires room { HasRoomSchema S.Store conn.old }
+    requires open { IsTrue cache.old.fleet.is_known → HasCleanDisk (state S.Store conn.old)
+        → IsTrue (state S.Store conn.old).is_open }
+    ensures decided { HasCleanDisk (state S.Store conn.new)
+        → IfOk (unless_out_of_memory result) (λ x. (config : Configuration) (room : Room)
+        → IsFor (state S.Store conn.old).now.trees plan.now cache.old event.now config room
+        → x ≡ decided event.now room) }
+    ensures cache { HasCleanDisk (state S.Store conn.new)
+        → IfOk (unless_out_of_memory result) (λ _. (config : Configuration) (room : Room)
+        → IsFor (state S.Store conn.old).now.trees plan.now cache.old event.now config room
+        → IsCacheOf cache.new room) }
+    ensures reads { ReadsOnly S.Store conn.old conn.new (unless_out_of_memory result) }
+{
+    match cache.fleet.fill(alloc, conn) {
+        Ok(()) => decide_known(alloc, conn, plan, cache, event),
+        Err(fault) => Err(refusal_of(fault)),
+    }
+}
+
+// The same where the fleet is known.
+fn decide_known<S: Alter>(
+    alloc: Global,
+    conn: &mut Connection<S>,
+    plan: &Plan,
+    cache: &mut Cache,
+    event: &Event,
+) -> Result<Decision, Refusal>
+    requires room { HasRoomSchema S.Store conn.old }
+    requires open { HasCleanDisk (state S.Store conn.old)
+        → IsTrue (state S.Store conn.old).is_open }
+    ensures decided { Finds S.Store conn.old conn.new (unless_out_of_memory result) (λ room x.
+        IsWellFormed room → room.plan ≡ plan.now.areas → IsAddressed event.now room
+        → HasFleetOf cache.old.fleet room → IsCacheOf cache.old room → x ≡ decided event.now room) }
+    ensures cache { Finds S.Store conn.old conn.new (unless_out_of_memory result) (λ room _.
+        IsWellFormed room → room.plan ≡ plan.now.areas → IsAddressed event.now room
+        → HasFleetOf cache.old.fleet room → IsCacheOf cache.old room
+        → IsCacheOf cache.new room) }
+    ensures reads { ReadsOnly S.Store conn.old conn.new (unless_out_of_memory result) }
+{
+    match &event.who {
+        Who::Desk(division) => for_division(alloc, conn, plan, cache, *division, event),
+        Who::Crew(callsign) => {
+            for_crew(
+                alloc,
+                conn,
+                &mut cache.fleet,
+                callsign,
+                &event.ask,
+                event.at,
+            )
+        }
+        Who::Position(position) => match &event.ask {
+            Ask::Call(form) => for_call(alloc, conn, plan, cache, *position, form, event),
+            Ask::Last => for_last(alloc, conn, *position),
+            _ => Err(Refusal::Storage),
+        },
+    }
+}
+
+// What is for a division: what its desk asks, or a call that is placed in it and not kept.
+fn for_division<S: Alter>(
+    alloc: Global,
+    conn: &mut Connection<S>,
+    plan: &Plan,
+    cache: &mut Cache,
+    division: DivisionNumber,
+    event: &Event,
+) -> Result<Decision, Refusal>
+    requires room { HasRoomSchema S.Store conn.old }
+    requires open { HasCleanDisk (state S.Store conn.old)
+        → IsTrue (state S.Store conn.old).is_open }
+    ensures decided { Finds S.Store conn.old conn.new (unless_out_of_memory result) (λ room x.
+        IsWellFormed room → room.plan ≡ plan.now.areas
+        → IsIn event.now.who event.now.ask division room → AreKnown cache.old room
+        → x ≡ decided event.now room) }
+    ensures known { Finds S.Store conn.old conn.new (unless_out_of_memory result) (λ room _.
+        IsWellFormed room → AreKnown cache.old room → AreKnown cache.new room) }
+    ensures fleet { cache.new.fleet ≡ cache.old.fleet }
+    ensures reads { ReadsOnly S.Store conn.old conn.new (unless_out_of_memory result) }
+{
+    let rows = match load_working(alloc, conn, division, &event.ask, event.at, cache) {
+        Ok(rows) => rows,
+        Err(fault) => return Err(refusal_of(fault)),
+    };
+    match Slice::build(division, rows) {
+        Some(slice) => {
+            let decision = decide_on(alloc, plan, &slice, event);
+            drop(slice);
+            decision
+        }
+        None => Err(Refusal::Storage),
+    }
+}
+
+// What is decided of it on the division's rows. Nothing else is for a division.
+fn decide_on(alloc: Global, plan: &Plan, slice: &Slice, event: &Event) -> Result<Decision, Refusal>
+    ensures { (room : Room) → IsWellFormed room → room.plan ≡ plan.now.areas
+        → AreRead slice.now.division event.now.ask event.now.at
+        (room_of room.plan slice.now.rows) room
+        → IsIn event.now.who event.now.ask slice.now.division room
+        → Decides (decided event.now room) result }
+{
+    match &event.who {
+        Who::Desk(_) => decide_desk(alloc, plan, slice, &event.ask, event.at),
+        Who::Position(position) => match &event.ask {
+            Ask::Call(form) => decide_call(alloc, slice, &new_call(*position, form, event.at)),
+            _ => Err(Refusal::WrongRole),
+        },
+        Who::Crew(_) => Err(Refusal::WrongRole),
+    }
+}
+
+// What a vehicle's crew asks.
+fn for_crew<S: Alter>(
+    alloc: Global,
+    conn: &mut Connection<S>,
+    fleet: &mut Fleet,
+    callsign: &Callsign,
+    ask: &Ask,
+    at: Moment,
+) -> Result<Decision, Refusal>
+    requires room { HasRoomSchema S.Store conn.old }
+    requires open { HasCleanDisk (state S.Store conn.old)
+        → IsTrue (state S.Store conn.old).is_open }
+    ensures decided { Finds S.Store conn.old conn.new (unless_out_of_memory result) (λ room x.
+        IsWellFormed room → HasFleetOf fleet.old room
+        → x ≡ crew_asks callsign.now ask.now at room) }
+    ensures known { Finds S.Store conn.old conn.new (unless_out_of_memory result) (λ room _.
+        HasFleetOf fleet.old room → HasFleetOf fleet.new room) }
+    ensures reads { ReadsOnly S.Store conn.old conn.new (unless_out_of_memory result) }
+{
+    let Some(vehicle) = fleet.get().vehicles.get(callsign).copied() else {
+        return Err(Refusal::Storage);
+    };
+    match ask {
+        Ask::Order => {
+            let assignment = fleet.get().assignments.get(callsign).copied();
+            Ok(decide_order(alloc, &vehicle, assignment))
+        }
+        Ask::Report(press) => for_report(alloc, conn, fleet, &vehicle, press, at),
+        Ask::Last => Ok(decide_last(alloc, &vehicle)),
+        _ => Err(Refusal::WrongRole),
+    }
+}
+
+// A report, kept already or new.
+fn for_report<S: Alter>(
+    alloc: Global,
+    conn: &mut Connection<S>,
+    fleet: &mut Fleet,
+    vehicle: &Vehicle,
+    press: &Press,
+    at: Moment,
+) -> Result<Decision, Refusal>
+    requires room { HasRoomSchema S.Store conn.old }
+    requires open { HasCleanDisk (state S.Store conn.old)
+        → IsTrue (state S.Store conn.old).is_open }
+    ensures decided { Finds S.Store conn.old conn.new (unless_out_of_memory result) (λ room x.
+        IsWellFormed room → HasFleetOf fleet.old room → HasVehicle vehicle.now room
+        → x ≡ take_report vehicle.now.callsign press.now at room) }
+    ensures known { Finds S.Store conn.old conn.new (unless_out_of_memory result) (λ room _.
+        HasFleetOf fleet.old room → HasFleetOf fleet.new room) }
+    ensures reads { ReadsOnly S.Store conn.old conn.new (unless_out_of_memory result) }
+{
+    let found = match load_report(conn, vehicle, press.number) {
+        Ok(found) => found,
+        Err(fault) => return Err(refusal_of(fault)),
+    };
+    if let Some(kept) = found {
+        return decide_report_again(alloc, &kept, press);
+    }
+    let rows = match load_crew(conn, fleet, vehicle) {
+        Ok(rows) => rows,
+        Err(fault) => return Err(refusal_of(fault)),
+    };
+    match CrewSlice::build(rows) {
+        Some(slice) => decide_report(alloc, &slice, press, at),
+        None => Err(Refusal::Storage),
+    }
+}
+
+// What a call taker's position asks: a call, kept already or new.
+fn for_call<S: Alter>(
+    alloc: Global,
+    conn: &mut Connection<S>,
+    plan: &Plan,
+    cache: &mut Cache,
+    position: PositionNumber,
+    form: &CallForm,
+    event: &Event,
+) -> Result<Decision, Refusal>
+    requires room { HasRoomSchema S.Store conn.old }
+    ensures decided { Finds S.Store conn.old conn.new (unless_out_of_memory result) (λ room x.
+        IsWellFormed room → room.plan ≡ plan.now.areas → event.now.who ≡ Position position
+        → event.now.ask ≡ CallAsk form.now → HasFleetOf cache.old.fleet room
+        → IsCacheOf cache.old room → x ≡ decided event.now room) }
+    ensures cache { Finds S.Store conn.old conn.new (unless_out_of_memory result) (λ room _.
+        IsWellFormed room → event.now.ask ≡ CallAsk form.now → HasFleetOf cache.old.fleet room
+        → IsCacheOf cache.old room → IsCacheOf cache.new room) }
+    ensures reads { ReadsOnly S.Store conn.old conn.new (unless_out_of_memory result) }
+{
+    let found = match row_at::<Call, S>(conn, &(position, form.serial)) {
+        Ok(found) => found,
+        Err(fault) => return Err(refusal_of(fault)),
+    };
+    match found {
+        Some(kept) => decide_again(alloc, &kept, &new_call(position, form, event.at)),
+        None => match plan.division_of(form.place) {
+            Some(division) => for_division(alloc, conn, plan, cache, division, event),
+            None => Err(Refusal::OutsideArea),
+        },
+    }
+}
+
+// The greatest serial of a position's calls.
+fn for_last<S: Alter>(
+    alloc: Global,
+    conn: &mut Connection<S>,
+    position: PositionNumber,
+) -> Result<Decision, Refusal>
+    requires room { HasRoomSchema S.Store conn.old }
+    ensures decided { Finds S.Store conn.old conn.new (unless_out_of_memory result) (λ room x.
+        x ≡ show_last_serial position room) }
+    ensures reads { ReadsOnly S.Store conn.old conn.new (unless_out_of_memory result) }
+{
+    match last_serial(conn, position) {
+        Ok(serial) => Ok(decide_last_serial(alloc, serial)),
+        Err(fault) => Err(refusal_of(fault)),
+    }
+}
+
+fn new_call(position: PositionNumber, form: &CallForm, at: Moment) -> NewCall
+    ensures { result ≡ new_call position form.now at }
+{
+    NewCall {
+        position,
+        serial: form.serial,
+        place: form.place,
+        class: form.class,
+        needs: form.needs,
+        note: form.note,
+        at,
+    }
+}

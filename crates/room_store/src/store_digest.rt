@@ -1,0 +1,87 @@
+//! The digest of the room that a store keeps, by which it is known again.
+ghost use Rattle.std.specs.Prelude.{◌≡◌, List, [], ◌∷◌, Ok, IsTrue, IfOk, IfErr, OnOk};
+ghost use Rattle.sqlite.specs.Held.{state};
+ghost use Rattle.sqlite.specs.State.{HasCleanDisk};
+ghost use Rattle.room_types.specs.declared.fleet.Terminal.{Terminal};
+ghost use Rattle.room_model.specs.Room.{Room};
+ghost use Rattle.room_model.specs.Rooms.{IsWant};
+ghost use Rattle.room_store_file.specs.DigestTexts.{digest_of};
+ghost use Rattle.room_store.specs.StoredRoom.{IsKept, IsReady, IsRoom, LeavesOneOf};
+
+use crate::store::Store;
+use crate::store_faults::refusal_of;
+use room_model::digests::{Digested, Head, Miss, Version};
+use room_store_file::table_digest::digest_in;
+use room_tables_schema::database_faults::Fault;
+use room_types::answers::Answer;
+use room_types::asks::Event;
+use room_types::refusals::Refusal;
+use sqlite::Alter;
+use std::alloc::Global;
+
+impl<S: Alter> Digested for Store<S> {
+    ghost digest_of = { digest_of };
+
+    fn digest(&mut self, version: Version) -> Result<[u8; 32], Refusal> {
+        digest_of_room(self, version)
+    }
+
+    fn act_towards<F: FnOnce(&Result<Answer, Refusal>) -> Result<Vec<u8>, Refusal>>(
+        &mut self,
+        alloc: Global,
+        event: &Event,
+        head: &Head,
+        render: F,
+    ) -> Result<Vec<u8>, Miss> {
+        Store::act_towards(self, alloc, event, head, render)
+    }
+}
+
+/// The digest of this version of the room with its terminals. The room stays as it was. A refusal is
+/// of memory or of storage.
+pub fn digest_of_room<S: Alter>(store: &mut Store<S>, version: Version) -> Result<[u8; 32], Refusal>
+    requires ready { IsReady S.Store store.old }
+    ensures ready { IsReady S.Store store.new }
+    ensures plan { store.new.plan ≡ store.old.plan }
+    ensures trusted { HasCleanDisk (state S.Store store.new.conn)
+        → HasCleanDisk (state S.Store store.old.conn) }
+    ensures known { HasCleanDisk (state S.Store store.new.conn)
+        → IfOk result (λ digest. (terminals : List Terminal) (room : Room)
+        → IsRoom S.Store store.old terminals room
+        → digest ≡ digest_of version store.old.plan.zone terminals room) }
+    ensures same { HasCleanDisk (state S.Store store.new.conn)
+        → (terminals : List Terminal) (room : Room) → IsRoom S.Store store.old terminals room
+        → IsRoom S.Store store.new terminals room }
+    ensures kept { HasCleanDisk (state S.Store store.new.conn)
+        → OnOk result (IsKept S.Store store.old → IsKept S.Store store.new) }
+    ensures left { HasCleanDisk (state S.Store store.new.conn) → IsKept S.Store store.old
+        → (terminals : List Terminal) (room : Room) → IsRoom S.Store store.old terminals room
+        → LeavesOneOf S.Store store.new terminals (room ∷ []) }
+    ensures wants { IfErr result IsWant }
+{
+    if !store.is_sound {
+        return Err(Refusal::Storage);
+    }
+    let digest = digest_in(&mut store.conn, version);
+    // The transaction that it was read in is undone, and that may have shut the connection.
+    store.test_file();
+    told(digest, store.is_sound)
+}
+
+// The digest that was read of a room whose file was then found sound.
+fn told(digest: Result<[u8; 32], Fault>, is_sound: bool) -> Result<[u8; 32], Refusal>
+    ensures read { IfOk result (λ x. digest ≡ Ok x) }
+    ensures sound { OnOk result (IsTrue is_sound) }
+    ensures wants { IfErr result IsWant }
+{
+    match digest {
+        Ok(digest) => {
+            if is_sound {
+                Ok(digest)
+            } else {
+                Err(Refusal::Storage)
+            }
+        }
+        Err(fault) => Err(refusal_of(fault)),
+    }
+}

@@ -1,9 +1,0 @@
-use Rattle.std.proofs.Common.{Some, subst, sym, ◌∙◌, ◌≡◌}
-use Rattle.std.specs.Prelude.{IfSome}
-use Rattle.room_types.specs.Keys.{numbered_cmp, turn_key}
-use Rattle.room_types_keyed.specs.Keyed.{row_at}
-use Rattle.room_store_cache.proofs.turns.Turns.get.Goals as goal
-
-pub returns : goal.returns
-returns c room are =
-    subst (λ o. IfSome o (λ t. row_at numbered_cmp turn_key room.turns c.args.key.now ≡ Some t)) (sym (c.copied.ensures ∙ c.get.ensures)) (are c.args.key.now)

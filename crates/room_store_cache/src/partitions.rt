@@ -1,0 +1,132 @@
+//! Parts of a division's calls, turns and reports that are known or that an index finds, and the
+//! load of all that are in some.
+ghost use Rattle.std.specs.Prelude.{◌≡◌, ◌==◌, ◌&&◌, ℕ, Bool, filter, not, IsTrue};
+ghost use Rattle.sqlite.specs.Held.{state};
+ghost use Rattle.sqlite.specs.State.{HasCleanDisk};
+ghost use Rattle.room_types.specs.Codes.{outcome_number};
+ghost use Rattle.room_types_keyed.specs.Keyed.{IsKeyed};
+ghost use Rattle.room_tables.specs.FoundRows.{Finds};
+ghost use Rattle.room_tables_schema.specs.FileConnections.{HasRoomSchema};
+ghost use Rattle.room_tables_laws.specs.Outcomes.{ReadsOnly};
+ghost use Rattle.room_store_cache.specs.Partitions.{AreKnown, any};
+
+use crate::cache::Cache;
+use crate::cached_rows::own_rows;
+use crate::row_unions::add_all;
+use room_place::plans::DivisionNumber;
+use room_tables::call_table::calls_of;
+use room_tables::report_table::uncleared_reports;
+use room_tables::room_table::Table;
+use room_tables::turn_table::turns_of;
+use room_tables_schema::database_faults::Fault;
+use room_types::codes::Outcome;
+use room_types::numbers::Number;
+use room_types::rows::Rows;
+use room_types::tables::{Call, Report, Turn};
+use sqlite::{Alter, Connection};
+use std::alloc::Global;
+
+/// A table that a division's rows are read from part by part.
+pub trait Partition: Table {
+    /// What names a part.
+    type Part;
+
+    /// Whether a row is in a division's part.
+    ghost is_in: { ℕ → Self.Part → Self → Bool };
+
+    /// The rows of a part.
+    fn load_part<S: Alter>(
+        alloc: Global,
+        conn: &mut Connection<S>,
+        known: &Cache,
+        division: DivisionNumber,
+        part: &Self::Part,
+    ) -> Result<Rows<Self>, Fault>
+        requires room { HasRoomSchema S.Store conn.old }
+        requires open { HasCleanDisk (state S.Store conn.old)
+            → IsTrue (state S.Store conn.old).is_open }
+        ensures rows { Finds S.Store conn.old conn.new result (λ room x.
+            AreKnown known.now room
+            → IsKeyed Self.Key.cmp Self.key_of (Self.rows room)
+            → x ≡ filter (is_in division part.now) (Self.rows room)) }
+        ensures reads { ReadsOnly S.Store conn.old conn.new result };
+}
+
+/// The rows that are in one of some parts.
+pub fn load_parts<R: Partition, S: Alter>(
+    alloc: Global,
+    conn: &mut Connection<S>,
+    known: &Cache,
+    division: DivisionNumber,
+    parts: &[R::Part],
+) -> Result<Rows<R>, Fault>
+    requires room { HasRoomSchema S.Store conn.old }
+    requires open { HasCleanDisk (state S.Store conn.old)
+        → IsTrue (state S.Store conn.old).is_open }
+    ensures rows { Finds S.Store conn.old conn.new result (λ room x.
+        AreKnown known.now room → IsKeyed R.Key.cmp R.key_of (R.rows room)
+        → x ≡ filter (λ y. any (λ p. R.is_in division p y) parts.now) (R.rows room)) }
+    ensures reads { ReadsOnly S.Store conn.old conn.new result }
+{
+    let mut rows = Rows::new(alloc);
+    for part in parts {
+        let more = R::load_part::<S>(alloc, conn, known, division, part)?;
+        add_all(&mut rows, &more)?;
+    }
+    Ok(rows)
+}
+
+// The calls of an incident.
+impl Partition for Call {
+    type Part = Number;
+
+    ghost is_in = { λ d n c. c.incident == n && c.division == d };
+
+    fn load_part<S: Alter>(
+        alloc: Global,
+        conn: &mut Connection<S>,
+        _known: &Cache,
+        division: DivisionNumber,
+        part: &Number,
+    ) -> Result<Rows<Call>, Fault> {
+        calls_of(alloc, conn, division, *part)
+    }
+}
+
+// The turns of an incident.
+impl Partition for Turn {
+    type Part = Number;
+
+    ghost is_in = { λ d n t. t.incident == n && t.division == d };
+
+    fn load_part<S: Alter>(
+        alloc: Global,
+        conn: &mut Connection<S>,
+        known: &Cache,
+        division: DivisionNumber,
+        part: &Number,
+    ) -> Result<Rows<Turn>, Fault> {
+        match known.incident_views.get(division, *part) {
+            Some(incident_view) => own_rows(alloc, &incident_view.turns, division),
+            None => turns_of(alloc, conn, division, *part),
+        }
+    }
+}
+
+// The reports of an outcome that are not cleared.
+impl Partition for Report {
+    type Part = Outcome;
+
+    ghost is_in = { λ d o x. outcome_number x.outcome == outcome_number o &&
+        (not x.cleared && x.division == d) };
+
+    fn load_part<S: Alter>(
+        alloc: Global,
+        conn: &mut Connection<S>,
+        _known: &Cache,
+        division: DivisionNumber,
+        part: &Outcome,
+    ) -> Result<Rows<Report>, Fault> {
+        uncleared_reports(alloc, conn, *part, division)
+    }
+}

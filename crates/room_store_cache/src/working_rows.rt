@@ -1,0 +1,271 @@
+//! The rows of a division that a request reads: of the fleet those known, others from the tables.
+ghost use Rattle.std.specs.Prelude.{◌≡◌, ◌&&◌, ◌==◌, ℕ, filter, IsTrue, IfErr, IfOk};
+ghost use Rattle.sqlite.specs.Held.{state};
+ghost use Rattle.sqlite.specs.State.{HasCleanDisk};
+ghost use Rattle.room_tables.specs.FoundRows.{Finds};
+ghost use Rattle.room_tables_laws.specs.Outcomes.{ReadsOnly};
+ghost use Rattle.room_types.specs.declared.asks.Ask.{Ask as AskModel};
+ghost use Rattle.room_types.specs.declared.tables.Turn.{Turn};
+ghost use Rattle.room_model.specs.Queries.{held};
+ghost use Rattle.room_model.specs.Room.{IsInOrder, Room};
+ghost use Rattle.room_model.specs.RoomSlices.{room_of};
+ghost use Rattle.room_model.specs.Working.{is_last_turn, reads_number, working};
+ghost use Rattle.room_tables_schema.specs.declared.database_faults.Fault.TheVariants.{Memory};
+ghost use Rattle.room_tables_schema.specs.FileConnections.{HasRoomSchema};
+ghost use Rattle.room_store_cache.specs.Backlogs.{AreBacklogsOf};
+ghost use Rattle.room_store_cache.specs.Cache.{AreRowsOf};
+ghost use Rattle.room_store_cache.specs.IncidentViews.{AreIncidentViewsOf};
+ghost use Rattle.room_store_cache.specs.IncidentNumbers.{contains};
+ghost use Rattle.room_store_cache.specs.RecentIncidents.{AreRecent};
+ghost use Rattle.room_store_cache.specs.Partitions.{AreKnown, IsHeld, IsWork, is_turn};
+ghost use Rattle.room_store_cache.specs.RequestReads.{Selects, is_report};
+
+use crate::cache::Cache;
+use crate::cached_rows::own_rows;
+use crate::fleets::FleetRows;
+use crate::incident_reads::{load_incidents, numbers_read};
+use crate::partitions::load_parts;
+use crate::request_reads::{Incidents, Reads, Reports, reads_of};
+use crate::selections::{load_one, owned_row, part_of};
+use room_place::plans::DivisionNumber;
+use room_tables_schema::database_faults::Fault;
+use room_types::asks::Ask;
+use room_types::callsign::Callsign;
+use room_types::codes::Outcome;
+use room_types::numbers::{Moment, Number};
+use room_types::rows::Rows;
+use room_types::slices::DivisionRows;
+use room_types::tables::{Call, Incident, Report, Turn, Vehicle};
+use sqlite::{Alter, Connection};
+use std::alloc::Global;
+
+/// The rows of a division that a request at a moment reads: what its desk asks, or a call that is
+/// placed in it. What is known is handed over, and the next request knows what this one read of
+/// incidents.
+pub fn load_working<S: Alter>(
+    alloc: Global,
+    conn: &mut Connection<S>,
+    division: DivisionNumber,
+    ask: &Ask,
+    at: Moment,
+    cache: &mut Cache,
+) -> Result<DivisionRows, Fault>
+    requires room { HasRoomSchema S.Store conn.old }
+    requires open { HasCleanDisk (state S.Store conn.old)
+        → IsTrue (state S.Store conn.old).is_open }
+    ensures rows { Finds S.Store conn.old conn.new result (λ room x. IsInOrder room
+        → AreKnown cache.old room → room_of room.plan x ≡ working division ask.now at room) }
+    ensures known { Finds S.Store conn.old conn.new result (λ room _. IsInOrder room
+        → AreKnown cache.old room → AreKnown cache.new room) }
+    ensures fleet { cache.new.fleet ≡ cache.old.fleet }
+    ensures reads { ReadsOnly S.Store conn.old conn.new result }
+{
+    let reads = reads_of(division, ask);
+    let held = held_part(alloc, division, &reads, cache.fleet.get())?;
+    let work = load_work(alloc, conn, division, &reads, at, cache)?;
+    let rows = DivisionRows {
+        divisions: held.divisions,
+        incidents: work.incidents,
+        calls: work.calls,
+        vehicles: held.vehicles,
+        turns: work.turns,
+        assignments: held.assignments,
+        points: held.points,
+        loans: held.loans,
+        offers: held.offers,
+        reports: work.reports,
+    };
+    fill(alloc, cache, division, &reads, &rows);
+    Ok(rows)
+}
+
+// Keeps what a queue shows, or the one incident that was named, where it isn't known.
+fn fill(
+    alloc: Global,
+    cache: &mut Cache,
+    division: DivisionNumber,
+    reads: &Reads,
+    rows: &DivisionRows,
+)
+    ensures backlogs { (room : Room) (ask : AskModel) (at : ℕ) → Selects division ask reads.now
+        → room_of room.plan rows.now ≡ working division ask at room
+        → AreBacklogsOf cache.old.backlogs.kept.items room
+        → AreBacklogsOf cache.new.backlogs.kept.items room }
+    ensures incident_views { (room : Room) (ask : AskModel) (at : ℕ) → IsInOrder room
+        → Selects division ask reads.now
+        → room_of room.plan rows.now ≡ working division ask at room
+        → AreIncidentViewsOf cache.old.incident_views.kept.items room
+        → AreIncidentViewsOf cache.new.incident_views.kept.items room }
+    ensures fleet { cache.new.fleet ≡ cache.old.fleet }
+    ensures recent_incidents { cache.new.recent_incidents ≡ cache.old.recent_incidents }
+{
+    if let Reports::Uncleared = reads.reports {
+        cache.backlogs.fill(alloc, division, rows);
+        cache.incident_views.fill_shown(alloc, division, rows);
+        return;
+    }
+    if let Incidents::One(number) = reads.incidents {
+        cache.incident_views.fill(alloc, division, number, rows);
+    }
+}
+
+// What a request reads of the fleet's rows: the division's own, vehicles that it holds and its
+// assignments, and its points, loans and offers. The one fault is `Memory`.
+fn held_part(
+    alloc: Global,
+    division: DivisionNumber,
+    reads: &Reads,
+    fleet: &FleetRows,
+) -> Result<FleetRows, Fault>
+    ensures rows { IfOk result (λ x. (room : Room) (ask : AskModel) → IsInOrder room
+        → AreRowsOf fleet.now room → Selects division ask reads.now → IsHeld division ask room x) }
+    ensures memory { IfErr result (λ e. e ≡ Memory) }
+{
+    Ok(FleetRows {
+        divisions: part_of(alloc, &fleet.divisions, division, &reads.divisions)?,
+        vehicles: part_of(alloc, &fleet.vehicles, division, &reads.vehicles)?,
+        assignments: part_of(alloc, &fleet.assignments, division, &reads.assignments)?,
+        points: part_of(alloc, &fleet.points, division, &reads.points)?,
+        loans: part_of(alloc, &fleet.loans, division, &reads.loans)?,
+        offers: part_of(alloc, &fleet.offers, division, &reads.offers)?,
+    })
+}
+
+// The incidents that a request reads, with their calls and turns, and reports.
+#[derive(Drop)]
+struct Work {
+    incidents: Rows<Incident>,
+    calls: Rows<Call>,
+    turns: Rows<Turn>,
+    reports: Rows<Report>,
+}
+
+fn load_work<S: Alter>(
+    alloc: Global,
+    conn: &mut Connection<S>,
+    division: DivisionNumber,
+    reads: &Reads,
+    at: Moment,
+    cache: &mut Cache,
+) -> Result<Work, Fault>
+    requires room { HasRoomSchema S.Store conn.old }
+    requires open { HasCleanDisk (state S.Store conn.old)
+        → IsTrue (state S.Store conn.old).is_open }
+    ensures rows { Finds S.Store conn.old conn.new result (λ room x. (ask : AskModel)
+        → IsInOrder room → AreKnown cache.old room → Selects division ask reads.now
+        → IsWork division ask at room x) }
+    ensures recent_incidents { Finds S.Store conn.old conn.new result (λ room _.
+        AreRecent cache.old.recent_incidents room → AreRecent cache.new.recent_incidents room) }
+    ensures others { cache.new ≡ record cache.old { recent_incidents = cache.new.recent_incidents } }
+    ensures reads { ReadsOnly S.Store conn.old conn.new result }
+{
+    let incidents = load_incidents(alloc, conn, division, &reads.incidents, at, cache)?;
+    let numbers = numbers_read(alloc, &reads.incidents, &incidents)?;
+    let of_calls = numbers_if(reads.calls, numbers.as_slice());
+    let calls = load_parts::<Call, S>(alloc, conn, cache, division, of_calls)?;
+    let turns = load_turns(alloc, conn, division, reads, cache, numbers.as_slice())?;
+    let reports = load_reports(alloc, conn, division, &reads.reports, cache)?;
+    Ok(Work {
+        incidents,
+        calls,
+        turns,
+        reports,
+    })
+}
+
+// All of some numbers, or none.
+fn numbers_if(is_read: bool, numbers: &[Number]) -> &[Number]
+    ensures { (n : ℕ) → contains n result.now ≡ is_read && contains n numbers.now }
+{
+    if is_read { numbers } else { &[] }
+}
+
+// The reports that wait to be cleared, or the one that is named.
+fn load_reports<S: Alter>(
+    alloc: Global,
+    conn: &mut Connection<S>,
+    division: DivisionNumber,
+    reports: &Reports,
+    known: &Cache,
+) -> Result<Rows<Report>, Fault>
+    requires room { HasRoomSchema S.Store conn.old }
+    requires open { HasCleanDisk (state S.Store conn.old)
+        → IsTrue (state S.Store conn.old).is_open }
+    ensures rows { Finds S.Store conn.old conn.new result (λ room x. IsInOrder room
+        → AreKnown known.now room
+        → x ≡ filter (λ y. y.division == division && is_report reports.now y) room.reports) }
+    ensures reads { ReadsOnly S.Store conn.old conn.new result }
+{
+    match reports {
+        Reports::Nothing => Ok(Rows::new(alloc)),
+        Reports::Uncleared => match known.backlogs.get(division) {
+            Some(backlog) => own_rows(alloc, &backlog.exceptions, division),
+            None => load_parts::<Report, S>(alloc, conn, known, division, &EXCEPTIONS),
+        },
+        Reports::One(named) => load_one::<Report, S>(alloc, conn, division, named),
+    }
+}
+
+// The outcomes of the reports that wait to be cleared.
+const EXCEPTIONS: [Outcome; 4] = [
+    Outcome::Skipped,
+    Outcome::Wrong,
+    Outcome::Late,
+    Outcome::Stale,
+];
+
+// The turns of some incidents, or that of the named vehicle's last order.
+fn load_turns<S: Alter>(
+    alloc: Global,
+    conn: &mut Connection<S>,
+    division: DivisionNumber,
+    reads: &Reads,
+    known: &Cache,
+    numbers: &[Number],
+) -> Result<Rows<Turn>, Fault>
+    requires room { HasRoomSchema S.Store conn.old }
+    requires open { HasCleanDisk (state S.Store conn.old)
+        → IsTrue (state S.Store conn.old).is_open }
+    ensures rows { Finds S.Store conn.old conn.new result (λ room x. (ask : AskModel)
+        → IsInOrder room → AreKnown known.now room → Selects division ask reads.now
+        → ((n : ℕ) → contains n numbers.now ≡ reads_number division ask room n)
+        → x ≡ (working division ask 0 room).turns) }
+    ensures reads { ReadsOnly S.Store conn.old conn.new result }
+{
+    match reads.last_turn {
+        Some(callsign) => last_turn(alloc, conn, division, known.fleet.get(), &callsign),
+        None => load_parts::<Turn, S>(alloc, conn, known, division, numbers),
+    }
+}
+
+// The turn of a held vehicle's last order.
+fn last_turn<S: Alter>(
+    alloc: Global,
+    conn: &mut Connection<S>,
+    division: DivisionNumber,
+    fleet: &FleetRows,
+    callsign: &Callsign,
+) -> Result<Rows<Turn>, Fault>
+    requires room { HasRoomSchema S.Store conn.old }
+    requires open { HasCleanDisk (state S.Store conn.old)
+        → IsTrue (state S.Store conn.old).is_open }
+    ensures rows { Finds S.Store conn.old conn.new result (λ room x. IsInOrder room
+        → AreRowsOf fleet.now room → x ≡ filter (λ t. t.division == division &&
+        is_last_turn (held division callsign.now room) t) room.turns) }
+    ensures reads { ReadsOnly S.Store conn.old conn.new result }
+{
+    let vehicle = fleet.vehicles.get(callsign).copied();
+    match last_key(owned_row(vehicle, division)) {
+        Some(key) => load_one::<Turn, S>(alloc, conn, division, &key),
+        None => Ok(Rows::new(alloc)),
+    }
+}
+
+// The key of that turn, where the vehicle is there and had an order.
+fn last_key(vehicle: Option<Vehicle>) -> Option<(Callsign, Number)>
+    ensures { (t : Turn) → is_last_turn vehicle t ≡ is_turn result t }
+{
+    let vehicle = vehicle?;
+    let order = Number::new(vehicle.last_order.get())?;
+    Some((vehicle.callsign, order))
+}

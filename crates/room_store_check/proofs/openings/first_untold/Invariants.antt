@@ -1,6 +1,0 @@
-use Rattle.std.proofs.Common.{drop, ◌≡◌}
-use Rattle.room_store_check.specs.Faults.{first_of, told_fault}
-use Rattle.room_store_check.proofs.openings.first_untold.Given as goal
-
-abbrev pub invariant-loop-incident : goal.invariant-loop-incident
-invariant-loop-incident l = first_of (told_fault l.openings) l.incidents ≡ first_of (told_fault l.openings) (drop l.incident-index l.incidents)

@@ -1,0 +1,8 @@
+pub mod TerminalCrews
+pub mod FirstFaults
+pub mod Fits
+-- turns, reports and calls that are judged one at a time
+pub mod HistoryChecks
+pub mod Misfits
+pub mod Summaries
+pub mod Disagreements

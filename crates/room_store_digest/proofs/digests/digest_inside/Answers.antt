@@ -1,9 +1,0 @@
-use Rattle.std.proofs.Common.{[]}
-use Rattle.room_store_digest.specs.Texts.{digest_text, tables_in}
-use Rattle.room_store_digest.proofs.digests.digest_inside.Goals as goal
-
-pub returns-clause-digest : goal.returns-clause-digest
-unfolding digest_text
-returns-clause-digest g c clean house room h =
-    let all = (c.in_ok-add_tables.ensures.rows clean (tables_in c.args.version house.zone house.terminals room) (c.texts_of.ensures.read _ house room h)).holds [] c.new-hasher.ensures in
-    c.finalize.ensures _ all

@@ -1,9 +1,0 @@
-use Rattle.room_store_digest.specs.Texts.{number_text}
-use Rattle.room_store_digest.proofs.Added.{Adding}
-use Rattle.room_store_digest.proofs.hashing.add_number.Given as goal
-
-abbrev pub invariant-loop-rest : goal.invariant-loop-rest
-invariant-loop-rest l = Adding l.fn.hasher l.hasher (number_text l.number) (number_text l.rest)
-
-abbrev pub decreases-loop-rest : goal.decreases-loop-rest
-decreases-loop-rest l = l.rest

@@ -1,8 +1,0 @@
-use Rattle.std.proofs.Common.{drop}
-use Rattle.std.specs.List.{flat_map}
-use Rattle.room_store_digest.specs.Texts.{row_text, value_text}
-use Rattle.room_store_digest.proofs.Added.{Adding}
-use Rattle.room_store_digest.proofs.hashing.add_row.Given as goal
-
-abbrev pub invariant-loop-at : goal.invariant-loop-at
-invariant-loop-at l = Adding l.fn.hasher l.hasher (row_text l.row) (flat_map value_text (drop l.at l.row))

@@ -1,8 +1,0 @@
-use Rattle.std.proofs.Common.{drop}
-use Rattle.std.specs.List.{flat_map}
-use Rattle.room_store_digest.specs.Texts.{row_text, table_text}
-use Rattle.room_store_digest.proofs.Added.{Adding}
-use Rattle.room_store_digest.proofs.hashing.add_rows.Given as goal
-
-abbrev pub invariant-loop-row : goal.invariant-loop-row
-invariant-loop-row l = Adding l.fn.hasher l.hasher (table_text l.rows) (flat_map row_text (drop l.row-index l.rows))

@@ -1,2 +1,0 @@
--- what was found is told of the file
-mod ExaminedLaws

@@ -1,2 +1,0 @@
--- what is told of a file
-pub mod Examined

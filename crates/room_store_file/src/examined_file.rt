@@ -1,0 +1,181 @@
+//! What is wrong with a file first, or how much its room has. Nothing is written to the file.
+ghost use Rattle.std.specs.Prelude.{◌≡◌, ◌⊎◌, false, IfErr, IfOk, IsTrue};
+ghost use Rattle.sqlite.specs.Held.{state};
+ghost use Rattle.sqlite.specs.State.{HasCleanDisk};
+ghost use Rattle.room_store_file.specs.OpeningCauses.{FailsInside};
+ghost use Rattle.room_store_file.specs.OpenedFile.{schema_of};
+ghost use Rattle.room_store_check_tables.specs.HeldRooms.{WritesNothing};
+ghost use Rattle.room_store_file.specs.declared.room_in_tables.Tables.TheVariants.{Unindexed, Whole};
+ghost use Rattle.room_store_file.specs.ExaminedFile.{Explains, ExplainsFile, FailsToReadTables, HasCause, IsAmount, IsSummaryOf, Weighs};
+ghost use Rattle.room_store_file.specs.declared.examined_file.Wrong.TheVariants.{Storage};
+
+use crate::opened_file::{is_room_of, room_tables_of};
+use crate::room_in_tables::{Tables, read_file};
+use room_place::plans::Plan;
+use room_store_check_rows::disagreements::{Disagreement, TerminalFault};
+use room_store_check_rows::room_checks::disagreement;
+use room_store_check_rows::summaries::{Summary, summary_of};
+use room_store_check_rows::terminal_checks::terminals_fault;
+use room_store_check_tables::file_faults::FileFault;
+use room_store_check_tables::whole_file::ReadFile;
+use room_tables_rows::meta_columns::FIRST_VERSION;
+use sqlite::{Alter, Connection};
+use std::alloc::Global;
+use std::fmt;
+
+/// What is wrong with a file. Of several the first of this list is reported.
+#[derive(Clone, Copy)]
+pub enum Wrong {
+    /// It holds a room of the version before this one, well-formed or not.
+    OldRoom,
+    /// Its tables, indexes and views are not those of a room.
+    Tables,
+    /// Its areas and its zone make no plan, or a table has two rows of one number.
+    NoPlan,
+    /// The rows disagree.
+    Rows(Disagreement),
+    /// The terminals don't fit them.
+    Terminals(TerminalFault),
+    /// Memory was refused; the same call may succeed later.
+    Memory,
+    /// The database failed for another cause, or a row is none of its table.
+    Storage,
+}
+
+impl fmt::Display for Wrong {
+    fn fmt<W: fmt::Write>(&self, f: &mut fmt::Formatter<W>) -> fmt::Result {
+        match self {
+            Wrong::OldRoom => f.write_str("version 1: migrate it"),
+            Wrong::Tables => f.write_str("its tables and indexes are not those of a room"),
+            Wrong::NoPlan => {
+                f.write_str("its areas and its zone make no plan, or two rows have one number")
+            }
+            Wrong::Rows(disagreement) => write!(f, "{disagreement}"),
+            Wrong::Terminals(fault) => write!(f, "{fault}"),
+            Wrong::Memory => f.write_str("memory was refused"),
+            Wrong::Storage => {
+                f.write_str("a row is none of its table, or the file can't be read")
+            }
+        }
+    }
+}
+
+impl From<FileFault> for Wrong {
+    ghost use Rattle.room_store_file.specs.ExaminedFile.{wrong_of};
+
+    ghost from_gives = { λ fault wrong. wrong ≡ wrong_of fault };
+
+    fn from(fault: FileFault) -> Wrong {
+        match fault {
+            FileFault::NotARoom => Wrong::NoPlan,
+            FileFault::Memory => Wrong::Memory,
+            FileFault::Storage => Wrong::Storage,
+        }
+    }
+}
+
+/// The plan of the room that the file holds, and how much it has; or what is wrong with it first.
+/// The file stays as it is, also where it lacks the indexes of its tables.
+pub fn examine<S: Alter>(alloc: Global, conn: &mut Connection<S>) -> Result<(Plan, Summary), Wrong>
+    requires outside { conn.old.in_transaction ≡ false }
+    ensures room { HasCleanDisk (state S.Store conn.new)
+        → IfOk result (λ x. IsSummaryOf (state S.Store conn.old).now.trees x.0 x.1) }
+    ensures wrong { HasCleanDisk (state S.Store conn.new)
+        → IfErr result (ExplainsFile (state S.Store conn.old) (state S.Store conn.new)) }
+    ensures why { HasCleanDisk (state S.Store conn.new)
+        → IfErr result (HasCause S.Store conn.old conn.new) }
+    ensures nothing { WritesNothing (state S.Store conn.old) (state S.Store conn.new) }
+    ensures ended { conn.new.in_transaction ≡ false }
+{
+    match is_room_of(conn, FIRST_VERSION) {
+        Ok(true) => Err(Wrong::OldRoom),
+        Ok(false) => examine_tables(alloc, conn),
+        Err(fault) => Err(Wrong::from(FileFault::from(fault))),
+    }
+}
+
+// The same of a file that holds no room of the first version.
+fn examine_tables<S: Alter>(
+    alloc: Global,
+    conn: &mut Connection<S>,
+) -> Result<(Plan, Summary), Wrong>
+    requires outside { conn.old.in_transaction ≡ false }
+    ensures room { HasCleanDisk (state S.Store conn.new)
+        → IfOk result (λ x. IsSummaryOf (state S.Store conn.old).now.trees x.0 x.1) }
+    ensures wrong { HasCleanDisk (state S.Store conn.new)
+        → IfErr result (Explains (state S.Store conn.old).now) }
+    ensures why { HasCleanDisk (state S.Store conn.new)
+        → IfErr result (λ e. e ≡ Storage → FailsToReadTables S.Store conn.old conn.new) }
+    ensures nothing { WritesNothing (state S.Store conn.old) (state S.Store conn.new) }
+    ensures ended { conn.new.in_transaction ≡ false }
+{
+    // Outside a transaction the tables are as they were committed.
+    let _ = conn.is_autocommit();
+    match room_tables_of(conn.schema()) {
+        Some(tables) => examine_room(alloc, conn, tables),
+        None => Err(Wrong::Tables),
+    }
+}
+
+// The same of a file that has a room's tables, with their indexes or without.
+fn examine_room<S: Alter>(
+    alloc: Global,
+    conn: &mut Connection<S>,
+    tables: Tables,
+) -> Result<(Plan, Summary), Wrong>
+    requires tables { (state S.Store conn.old).now.schema ≡ schema_of tables }
+    requires new { (tables ≡ Whole) ⊎ (tables ≡ Unindexed) }
+    requires outside { conn.old.in_transaction ≡ false }
+    requires committed { IsTrue (state S.Store conn.old).is_open
+        → (state S.Store conn.old).now ≡ (state S.Store conn.old).committed }
+    ensures room { HasCleanDisk (state S.Store conn.new)
+        → IfOk result (λ x. IsSummaryOf (state S.Store conn.old).now.trees x.0 x.1) }
+    ensures wrong { HasCleanDisk (state S.Store conn.new)
+        → IfErr result (Explains (state S.Store conn.old).now) }
+    ensures why { HasCleanDisk (state S.Store conn.new)
+        → IfErr result (λ e. e ≡ Storage → FailsInside S.Store tables conn.old conn.new) }
+    ensures nothing { WritesNothing (state S.Store conn.old) (state S.Store conn.new) }
+    ensures ended { conn.new.in_transaction ≡ false }
+{
+    match read_file(alloc, conn, tables) {
+        Ok(whole) => judge(alloc, whole),
+        Err(fault) => Err(Wrong::from(fault)),
+    }
+}
+
+// The plan of a file and how much its room has, or what is wrong with its rows and terminals.
+fn judge(alloc: Global, whole: ReadFile) -> Result<(Plan, Summary), Wrong>
+    ensures sound { IfOk result (λ x. (x.0 ≡ whole.config.plan)
+        × IsAmount whole.config.plan.areas x.1 whole.rows whole.config.terminals.items) }
+    ensures wrong { IfErr result
+        (Weighs whole.config.plan.areas whole.rows whole.config.terminals.items) }
+{
+    let weighed = weigh(alloc, &whole);
+    let ReadFile { config, rows } = whole;
+    drop(rows);
+    match weighed {
+        Ok(summary) => Ok((config.plan, summary)),
+        Err(wrong) => Err(wrong),
+    }
+}
+
+fn weigh(alloc: Global, whole: &ReadFile) -> Result<Summary, Wrong>
+    ensures sound { IfOk result (λ x. IsAmount whole.now.config.plan.areas x whole.now.rows
+        whole.now.config.terminals.items) }
+    ensures wrong { IfErr result (Weighs whole.now.config.plan.areas whole.now.rows
+        whole.now.config.terminals.items) }
+{
+    let plan = &whole.config.plan;
+    let terminals = whole.config.terminals.as_slice();
+    let Ok(found) = disagreement(alloc, plan, &whole.rows) else {
+        return Err(Wrong::Memory);
+    };
+    let Ok(misfit) = terminals_fault(alloc, plan, &whole.rows, terminals) else {
+        return Err(Wrong::Memory);
+    };
+    match (found, misfit) {
+        (Some(found), _) => Err(Wrong::Rows(found)),
+        (None, Some(misfit)) => Err(Wrong::Terminals(misfit)),
+        (None, None) => Ok(summary_of(plan, &whole.rows, terminals)),
+    }
+}

@@ -1,3 +1,0 @@
-pub mod FileLaws
--- tables that are taken
-pub mod TakeLaws

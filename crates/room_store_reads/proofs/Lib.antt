@@ -1,3 +1,0 @@
-pub mod KeyedUnions
-pub mod Selected
-pub mod CrewReads

@@ -1,0 +1,10 @@
+use Rattle.std.proofs.Common.{◌≡◌, map, take, length}
+use Rattle.room_tables_rows.specs.AreaColumns.{area_row}
+use Rattle.room_tables_rows.specs.Stands.{numbered}
+use Rattle.room_tables.proofs.area_table.areas_in.Given as goal
+
+abbrev pub invariant-loop-index : goal.invariant-loop-index
+invariant-loop-index l = record {
+  count : length l.areas.items ≡ l.index;
+  read : map area_row (numbered 1 l.areas.items) ≡ take l.index l.shown;
+}

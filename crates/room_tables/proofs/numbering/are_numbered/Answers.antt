@@ -1,5 +1,0 @@
-use Rattle.room_tables.proofs.Rowids.{select_each}
-use Rattle.room_tables.proofs.numbering.are_numbered.Goals as goal
-
-pub are_all_numbered-requires-clause-texts : goal.are_all_numbered-requires-clause-texts
-are_all_numbered-requires-clause-texts g c = select_each

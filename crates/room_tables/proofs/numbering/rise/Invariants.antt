@@ -1,6 +1,0 @@
-use Rattle.std.proofs.Common.{take}
-use Rattle.room_tables.specs.Numbering.{TellsRise}
-use Rattle.room_tables.proofs.numbering.rise.Given as goal
-
-abbrev pub invariant-loop-row : goal.invariant-loop-row
-invariant-loop-row l = TellsRise (take l.row-index l.shown) l.rowids.rise l.rowids.last

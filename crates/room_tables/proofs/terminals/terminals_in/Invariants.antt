@@ -1,6 +1,0 @@
-use Rattle.std.proofs.Common.{◌≡◌, map, take}
-use Rattle.room_tables_rows.specs.Terminals.{terminal_row}
-use Rattle.room_tables.proofs.terminals.terminals_in.Given as goal
-
-abbrev pub invariant-loop-columns : goal.invariant-loop-columns
-invariant-loop-columns l = map terminal_row l.terminals.items ≡ take l.columns-index l.shown

@@ -1,7 +1,0 @@
-use Rattle.std.proofs.Common.{◌∙◌, ap}
-use Rattle.room_tables_rows.proofs.ReadLaws.{button_read}
-use Rattle.room_tables_rows.specs.Readable.{is_button}
-use Rattle.room_tables_rows.proofs.columns.ButtonField.read.Goals as goal
-
-pub returns-clause-has_one : goal.returns-clause-has_one
-returns-clause-has_one c = button_read _ c.from_number.result c.from_number.ensures ∙ ap is_button c.in_ok-code.ensures.value

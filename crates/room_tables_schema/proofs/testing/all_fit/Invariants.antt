@@ -1,6 +1,0 @@
-use Rattle.std.proofs.Common.{◌≡◌, map}
-use Rattle.room_tables_schema.proofs.Fitting.{Waits}
-use Rattle.room_tables_schema.proofs.testing.all_fit.Given as goal
-
-abbrev pub invariant-loop-form : goal.invariant-loop-form
-invariant-loop-form g l = Waits g.F.Form.meant (l.parts ≡ map g.F.Form.meant l.forms) l.form-iterator.a.rest.now l.form-iterator.b.rest.now

@@ -1,0 +1,41 @@
+#!/usr/bin/env python3
+"""Draws the pictures of the documents: docs/NAME.svg of the text docs/pictures/NAME.txt. The text
+of the floors is made of crates.txt first. tests/test_pictures.py finds out where what is committed
+differs from what is written.
+Usage: tools/pictures.py             writes into docs/
+       tools/pictures.py FOLDER      writes into that folder, as the files lie in docs/"""
+import pathlib
+import sys
+
+from picture_files.drawing import Drawing
+from picture_files.floors import drawing
+
+TOP = pathlib.Path(__file__).resolve().parent.parent
+SOURCES = TOP / 'docs' / 'pictures'
+WRITTEN = '# Written by tools/pictures.py from crates.txt.\n'
+
+
+def texts():
+    """Each picture by its name, as text."""
+    found = {it.stem: it.read_text() for it in sorted(SOURCES.glob('*.txt'))}
+    floors = WRITTEN + '\n'.join(drawing((TOP / 'crates.txt').read_text())) + '\n'
+    return found | {'floors': floors}
+
+
+def files():
+    """The place of each file below docs/, and its text."""
+    for name, text in texts().items():
+        if text.startswith(WRITTEN):
+            yield f'pictures/{name}.txt', text
+        yield f'{name}.svg', Drawing(text).svg()
+
+
+def main(docs):
+    for place, text in files():
+        file = docs / place
+        file.parent.mkdir(parents=True, exist_ok=True)
+        file.write_text(text)
+
+
+if __name__ == '__main__':
+    main(pathlib.Path(sys.argv[1]) if len(sys.argv) > 1 else TOP / 'docs')
