@@ -10,6 +10,7 @@ import signal
 import socket
 import stat
 import subprocess
+import threading
 import time
 
 from room import (PLAN, PROGRAM, TestCase, ask, call, free_port, made, message, read_answer, run,
@@ -194,19 +195,242 @@ def sql_of(room, process):
     return sql(room, 'SELECT count(*) FROM calls')
 
 
-class ClosingAnswers(ServedTestCase):
+class EndlessTestCase(ServedTestCase):
+    """A room that is served until it is stopped."""
+
+    def start(self, *words):
+        """The room is served by its own times, where no others are given; returns the port."""
+        self.port = free_port()
+        command = [PROGRAM, 'serve', self.room, f'127.0.0.1:{self.port}', *words]
+        self.process = self.enterContext(subprocess.Popen(command, stdout=subprocess.PIPE))
+        self.addCleanup(self.process.kill)
+        self.assertEqual(self.process.stdout.readline(), b'serving\n')
+        return self.port
+
+
+class Dripping(threading.Thread):
+    """Sends a request byte by byte, and never all of it, again and again until it is told to end.
+    Notes what it gets."""
+
+    def __init__(self, port):
+        super().__init__(daemon=True)
+        self.port, self.got, self.is_ending = port, [], False
+
+    def run(self):
+        while not self.is_ending:
+            with connect(self.port) as peer:
+                with contextlib.suppress(ConnectionError):
+                    for byte in LOANS[:-1]:
+                        if self.is_ending:
+                            return
+                        peer.sendall(bytes([byte]))
+                        time.sleep(0.2)
+                self.got.append(given(peer))
+
+
+class Busy(threading.Thread):
+    """Asks without a pause on a connection that it keeps, until it is told to end. Counts its
+    requests, and those that were answered as they should be."""
+
+    def __init__(self, port):
+        super().__init__(daemon=True)
+        self.peer, self.asked, self.answered, self.is_ending = connect(port), 0, 0, False
+
+    def run(self):
+        with self.peer, self.peer.makefile('rb') as stream:
+            while not self.is_ending:
+                self.asked += 1
+                with contextlib.suppress(ConnectionError):
+                    self.peer.sendall(LOANS)
+                    self.answered += read_answer(stream) == NO_LOANS
+
+
+class NobodyWaits(EndlessTestCase):
+    """Nobody waits for who has not spoken, and who keeps a connection holds nobody."""
+
+    def silent(self, port, count):
+        """So many connections that say nothing."""
+        return [self.enterContext(connect(port)) for _ in range(count)]
+
+    def threads(self, kind, port, count):
+        """So many peers of a kind, which end with the test."""
+        peers = [kind(port) for _ in range(count)]
+        for peer in peers:
+            peer.start()
+            self.addCleanup(peer.join, 30)
+            self.addCleanup(setattr, peer, 'is_ending', True)
+        return peers
+
+    def ended(self, peers):
+        for peer in peers:
+            peer.is_ending = True
+        for peer in peers:
+            peer.join(30)
+        return peers
+
+    def test_silent(self):
+        """Forty that say nothing: the next is answered, and then each of them, when it speaks."""
+        port = self.start()
+        silent = self.silent(port, 40)
+        self.check_wait('beside forty that say nothing', port, 0, 3)
+        for number, peer in enumerate(silent):
+            peer.sendall(LOANS)
+            self.check(f'number {number} speaks', read_answer(peer.makefile('rb')), NO_LOANS)
+
+    def test_dripping(self):
+        """A request that is not whole in its time gets no answer, and others don't wait for it."""
+        port = self.start('--patience', '2')
+        dripping = self.threads(Dripping, port, 20)
+        time.sleep(1)
+        self.check_wait('beside twenty that drip', port, 0, 3)
+        time.sleep(4)
+        got = [one for peer in self.ended(dripping) for one in peer.got]
+        self.check('they are let go', len(got) >= 20, True)
+        self.check('and get nothing', {*got} <= {b'', b'reset'}, True)
+
+    def test_busy(self):
+        """Ten that ask without a pause: each gets each answer, and so does the next."""
+        port = self.start()
+        busy = self.threads(Busy, port, 10)
+        time.sleep(0.5)
+        for _ in range(20):
+            self.check_wait('beside ten without a pause', port, 0, 3)
+        for number, peer in enumerate(self.ended(busy)):
+            self.check(f'number {number} lost', peer.asked - peer.answered, 0)
+            self.check(f'number {number} was served', peer.answered > 10, True)
+
+    def test_together(self):
+        """All of them at once, and a terminal that asks each 100 ms: none of its requests is
+        lost."""
+        port = self.start()
+        silent = self.silent(port, 40)
+        self.threads(Dripping, port, 20)
+        busy = self.threads(Busy, port, 10)
+        for number in range(30):
+            self.check_wait(f'request {number}', port, 0, 3)
+            time.sleep(0.1)
+        lost = sum(peer.asked - peer.answered for peer in self.ended(busy))
+        self.check('those without a pause lost', lost, 0)
+        for peer in silent:
+            peer.sendall(LOANS)
+            self.check('who was silent', read_answer(peer.makefile('rb')), NO_LOANS)
+
+    def test_order(self):
+        """Who is whole first is served first, whenever they came."""
+        port = self.start()
+        peers = self.silent(port, 5)
+        for number, peer in enumerate(peers):
+            peer.sendall(call(number + 1, f'TQ{100 + 4 * number}800')[:-1])
+        time.sleep(0.2)
+        order = [3, 0, 4, 2, 1]
+        for number in order:
+            peers[number].sendall(call(1, '')[-1:])
+            time.sleep(0.2)
+        answers = [read_answer(peers[number].makefile('rb')) for number in order]
+        told = [(200, f'{{"division":1,"incident":{it},"linked":false}}') for it in range(1, 6)]
+        self.check('each is the next incident', answers, told)
+
+    def test_pieces(self):
+        """However a stream is cut, its messages are answered as those of one that comes whole."""
+        places = [f'TQ{100 + 4 * number}800' for number in range(60)]
+        stream = b''.join(call(number, place) + LOANS for number, place in enumerate(places, 1))
+        told = [one for number in range(1, 61)
+                for one in [(200, f'{{"division":1,"incident":{number},"linked":false}}'),
+                            NO_LOANS]]
+        choose, port = random.Random(1), self.start()
+        with connect(port) as peer:
+            answers = []
+            reads = threading.Thread(target=lambda: answers.extend(answers_of(peer)))
+            reads.start()
+            while stream:
+                size = choose.choice([1, 30, 200, 3000])
+                peer.sendall(stream[:size])
+                stream = stream[size:]
+                time.sleep(choose.choice([0, 0.001, 0.02]))
+            peer.shutdown(socket.SHUT_WR)
+            reads.join(30)
+        self.check('its answers', answers, told)
+
+    def test_keep(self):
+        """A connection is kept so long as it may be silent, and is then closed."""
+        for words, pause, kept in [((), 1.5, True), (('--keep', '1'), 2.5, False)]:
+            with connect(self.start(*words)) as peer, connect(self.port) as silent:
+                stream = peer.makefile('rb')
+                for _ in range(2):
+                    peer.sendall(LOANS)
+                    self.check(f'{words}: an answer', read_answer(stream), NO_LOANS)
+                time.sleep(pause)
+                answer, first = None, None
+                with contextlib.suppress(ConnectionError):
+                    peer.sendall(LOANS)
+                    answer = read_answer(stream)
+                with contextlib.suppress(ConnectionError):
+                    silent.sendall(LOANS)
+                    first = read_answer(silent.makefile('rb'))
+                self.check(f'{words}: after {pause} s', (answer, first),
+                           2 * (NO_LOANS if kept else None,))
+            self.process.kill()
+            self.process.wait(timeout=10)
+
+    def test_more_than_are_kept(self):
+        """More than are kept wait in the system's queue, and are served once others have left."""
+        _, most = resource.getrlimit(resource.RLIMIT_NOFILE)
+        before = resource.getrlimit(resource.RLIMIT_NOFILE)
+        resource.setrlimit(resource.RLIMIT_NOFILE, (min(most, 4096), most))
+        self.addCleanup(resource.setrlimit, resource.RLIMIT_NOFILE, before)
+        port = self.start('--keep', '3')
+        self.silent(port, 1030)
+        self.check_wait('behind 1,030 that say nothing', port, 0, 20)
+
+    def test_few_files(self):
+        """Where few files may be open fewer connections are kept, and these are served."""
+        port = self.start('--keep', '3')
+        most = resource.prlimit(self.process.pid, resource.RLIMIT_NOFILE)[1]
+        resource.prlimit(self.process.pid, resource.RLIMIT_NOFILE, (40, most))
+        silent = self.silent(port, 60)
+        time.sleep(0.5)
+        silent[0].sendall(LOANS)
+        self.check('who is kept', read_answer(silent[0].makefile('rb')), NO_LOANS)
+        self.check_wait('behind sixty that say nothing', port, 0, 20)
+
+    def test_does_not_spin(self):
+        """A room at which nobody asks takes next to nothing, whoever is connected."""
+        port = self.start('--patience', '60')
+        silent = self.silent(port, 40)
+        for peer in silent[:20]:
+            peer.sendall(LOANS[:-1])
+        time.sleep(0.5)
+        before = seconds_of(self.process)
+        time.sleep(2)
+        spent = seconds_of(self.process) - before
+        self.check(f'{spent} s of a processor', spent < 0.1, True)
+        for peer in silent[:20]:
+            peer.sendall(LOANS[-1:])
+            self.check('who had begun', read_answer(peer.makefile('rb')), NO_LOANS)
+
+    def test_half_and_gone(self):
+        """Who sends a part and its end is let go at once."""
+        port = self.start('--patience', '60')
+        with connect(port) as peer:
+            peer.sendall(LOANS[:-1])
+            peer.shutdown(socket.SHUT_WR)
+            seconds, got = took(lambda: given(peer))
+        self.check(f'after {seconds:.2f} s', (got, seconds < 10), (b'', True))
+
+
+def seconds_of(process):
+    """The seconds of a processor that a program took so far."""
+    with open(f'/proc/{process.pid}/stat') as it:
+        fields = it.read().rsplit(')', 1)[1].split()
+    return (int(fields[11]) + int(fields[12])) / os.sysconf('SC_CLK_TCK')
+
+
+class ClosingAnswers(EndlessTestCase):
     """An answer that closes its connection arrives, whatever its peer still sends."""
 
     def setUp(self):
         super().setUp()
-        self.port = free_port()
         self.start()
-
-    def start(self):
-        words = [PROGRAM, 'serve', self.room, f'127.0.0.1:{self.port}']
-        self.process = self.enterContext(subprocess.Popen(words, stdout=subprocess.PIPE))
-        self.addCleanup(self.process.kill)
-        self.assertEqual(self.process.stdout.readline(), b'serving\n')
 
     def talk(self, stream, pause=0.0):
         """Sends a stream whole, and then reads."""
@@ -265,12 +489,6 @@ class Descriptors(ServedTestCase):
         resource.prlimit(self.process.pid, resource.RLIMIT_NOFILE,
                          (max(map(int, names)) + 1 + more, most))
 
-    def seconds(self):
-        """The seconds of a processor that the program took so far."""
-        with open(f'/proc/{self.process.pid}/stat') as it:
-            fields = it.read().rsplit(')', 1)[1].split()
-        return (int(fields[11]) + int(fields[12])) / os.sysconf('SC_CLK_TCK')
-
     def test_none_for_a_connection(self):
         port = self.served()
         self.limit(0)
@@ -278,9 +496,9 @@ class Descriptors(ServedTestCase):
             time.sleep(0.3)  # a place may have been kept for this one
         with connect(port) as waits:
             waits.sendall(LOANS)
-            before = self.seconds()
+            before = seconds_of(self.process)
             time.sleep(1)
-            spent = self.seconds() - before
+            spent = seconds_of(self.process) - before
             self.check(f'it does not spin: {spent} s of a processor', spent < 0.1, True)
             self.limit(8)
             self.check('who waited is answered', read_answer(waits.makefile('rb')), NO_LOANS)

@@ -176,6 +176,7 @@ class Rooms(ErrorCase):
     def commands(self, room):
         """The commands that open a room that is there."""
         return [('check', room), ('times', room, 1, '2026-03-29'), ('import', room, FLEET),
+                ('terminals', room), ('terminals', room, '--new', 'desk:1'),
                 ('replay', room), ('serve', room, f'127.0.0.1:{free_port()}')]
 
     def test_in_use(self):

@@ -3,6 +3,7 @@ over a room that stands where the list begins a replay gives the room again, row
 the program or the machine stopped in between; and a list that is none is refused at its record."""
 # needs: python3 gcc libc6-dev sqlite3
 # builds: dispatch_room
+import hashlib
 import io
 import os
 import re
@@ -54,6 +55,37 @@ def written(found):
         else:
             text += ' '.join(words).encode() + b'\n'
     return text
+
+
+def records(found):
+    """The records of a journal of these entries, each as a list of version 2 has it."""
+    return [written([it]) for it in found]
+
+
+def chain(bodies, opening=b'list 2\n'):
+    """A list of version 2 of these records: each has its size, and the SHA-256 of the check before
+    it and of its bytes."""
+    text, check = opening, b'0' * 64
+    for body in bodies:
+        check = hashlib.sha256(check + body).hexdigest().encode()
+        text += b'%05d %s\n' % (len(body), check) + body
+    return text
+
+
+def pieces(text):
+    """The records of a list of version 2 with their lines, as they stand in its text."""
+    found, at = [], len(b'list 2\n')
+    while at < len(text):
+        end = at + 71 + int(text[at:at + 5])
+        found.append(text[at:end])
+        at = end
+    return found
+
+
+def verify(path):
+    """Looks through a list; the status, what was printed, and what was told."""
+    done = subprocess.run([PROGRAM, 'verify', path], capture_output=True, timeout=60)
+    return done.returncode, done.stdout.decode(), done.stderr.decode()
 
 
 def replay(room, text, *words):
@@ -337,6 +369,112 @@ class Replayed(JournalTestCase):
             wanted = shutil.copy(self.before, self.folder / 'wanted.db')
             replay(wanted, written(found[:1 + 2 * records]))
             self.check(f'until {records}: the room', dump(self.again), dump(wanted))
+
+
+class Chained(JournalTestCase):
+    """A list of version 2 is a chain: what changed in it is found at its record."""
+
+    END = b'end\n'
+
+    def setUp(self):
+        super().setUp()
+        self.before = self.copy()
+        self.serve([call(1), DUTY], [QUEUE])
+        self.found = [it for it in self.entries_of(self.list.read_bytes()) if it != ('end',)]
+        self.bodies = records(self.found)
+
+    def entries_of(self, text):
+        """The entries of a list of either version."""
+        if text.startswith(b'list 2\n'):
+            text = b''.join(it[71:] for it in pieces(text))
+        return entries(text)
+
+    def fresh(self):
+        self.again = shutil.copy(self.before, self.folder / 'again.db')
+        return self.again
+
+    def refused(self, what, text, number):
+        """A list is refused at this record, by its replay and where it is looked through."""
+        status, out, err = replay(self.fresh(), text)
+        self.check(f'{what}: the replay', (status, out, f'record {number}\n' in err),
+                   (1, b'', True))
+        self.list.write_bytes(text)
+        status, out, err = verify(self.list)
+        self.check(f'{what}: it is told', (status, out), (1, ''))
+        self.check(f'{what}: where', re.search(r'record (\d+)\n', err) is not None, True)
+
+    def test_whole(self):
+        """It is played as a list of version 1 is."""
+        for end in ([], [self.END]):
+            told = replay(self.fresh(), chain([*self.bodies, *end]))
+            self.check('it is replayed', told, (0, b'replayed 3\n', ''))
+            self.check('the room', dump(self.again), dump(self.room))
+        self.check('version 1', replay(self.fresh(), written(self.found)),
+                   (0, b'replayed 3\n', ''))
+
+    def test_verified(self):
+        moments = [it[1] for it in self.found if it[0] == 'message']
+        span = f'verified 3\nfrom {moments[0]} to {moments[-1]}\n'
+        for what, text, wanted in [
+            ('one that ended', chain([*self.bodies, self.END]), span + 'ended\n'),
+            ('one that did not', chain(self.bodies), span + 'not ended\n'),
+            ('version 1', written(self.found), span + 'not ended\n'),
+            ('a head', chain(self.bodies[:1]), 'verified 0\nnot ended\n'),
+            ('nothing', b'', 'verified 0\nnot ended\n'),
+        ]:
+            self.list.write_bytes(text)
+            self.check(what, verify(self.list), (0, wanted, ''))
+        self.check('no list', verify(self.folder / 'none')[:2], (1, ''))
+
+    def test_each_byte(self):
+        """A bit that changed anywhere is found at its record."""
+        text = chain([*self.bodies[:3], self.END])
+        ends = [len(b'list 2\n')]
+        for piece in pieces(text):
+            ends.append(ends[-1] + len(piece))
+        for at in range(len(text)):
+            changed = bytearray(text)
+            changed[at] ^= 1 << at % 8
+            status, out, err = replay(self.fresh(), bytes(changed))
+            with self.subTest(f'byte {at}'):
+                self.assertEqual((status, out), (1, b''))
+                self.assertRegex(err, r'record [12]\n')
+                if at < ends[2]:
+                    self.assertIn('record 1\n', err)
+                    self.assertEqual(dump(self.again), dump(self.before))
+
+    def test_each_record(self):
+        """A record that was lost, came twice or changed places is found."""
+        whole = [*self.bodies, self.END]
+        stood = pieces(chain(whole))
+        for nth in range(len(stood)):
+            front, rest = stood[:nth], stood[nth + 1:]
+            cases = {'twice': [*front, stood[nth], stood[nth], *rest]}
+            if rest:
+                cases['lost'] = [*front, *rest]
+                cases['after the next'] = [*front, rest[0], stood[nth], *rest[1:]]
+            for what, found in cases.items():
+                text = b'list 2\n' + b''.join(found)
+                with self.subTest(f'record {nth}, {what}'):
+                    status, out, err = replay(self.fresh(), text)
+                    self.assertEqual((status, out), (1, b''))
+                    self.assertRegex(err, r'record \d+\n')
+                    self.list.write_bytes(text)
+                    self.assertEqual(verify(self.list)[:2], (1, ''))
+        self.list.write_bytes(b'list 2\n' + b''.join(stood[:-1]))
+        self.check('its end lost', verify(self.list)[1].splitlines()[-1], 'not ended')
+
+    def test_bad(self):
+        text = chain(self.bodies)
+        self.refused('cut in a record', text[:-1], 3)
+        self.refused('cut in a line', text[:-len(self.bodies[-1]) - 30], 3)
+        self.refused('no first line', text[7:], 1)
+        self.refused('the first line twice', b'list 2\n' + text, 1)
+        self.refused('another version', chain(self.bodies, b'list 3\n'), 1)
+        self.refused('two ends', chain([*self.bodies, self.END, self.END]), 4)
+        self.refused('an empty record', chain([self.bodies[0], b'']), 1)
+        self.refused('no entry', chain([self.bodies[0], b'what is this\n']), 1)
+        self.refused('zeros', b'list 2\n' + bytes(100_000), 1)
 
 
 class Piped(JournalTestCase):

@@ -117,6 +117,10 @@ class Stops(PreloadedTestCase):
         empty = made(self.folder / 'empty.db')
         self.stop_everywhere('an import', empty, command('import', fleet), between)
 
+    def test_terminal(self):
+        deed = command('terminals', '--revoke', 'position:1')
+        self.stop_everywhere('a terminal that is taken away', self.room(), deed)
+
     def test_migration(self):
         for journal in ['delete', 'wal']:
             for indexed in [True, False]:

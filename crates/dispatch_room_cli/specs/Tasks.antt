@@ -3,7 +3,7 @@ use Rattle.std.specs.Prelude.{⊤, ℕ, List, Option, None, Some}
 use Rattle.dispatch_room_cli.specs.Addresses.{IsLoopback}
 use Rattle.dispatch_room_cli.specs.declared.tasks.Service.{Service}
 use Rattle.dispatch_room_cli.specs.declared.tasks.Task.{Task}
-use Rattle.dispatch_room_cli.specs.declared.tasks.Task.TheVariants.{Board, Check, Import, Init, Migrate, Replay, Serve, Times}
+use Rattle.dispatch_room_cli.specs.declared.tasks.Task.TheVariants.{Board, Check, Import, Init, Migrate, Renew, Replay, Serve, Terminals, Times, Verify}
 
 -- the path of the room's file, where the task has one
 abbrev pub file_of : Task → Option (List ℕ)
@@ -13,8 +13,11 @@ file_of (Migrate file) = Some file.now
 file_of (Check file) = Some file.now
 file_of (Serve file service) = Some file.now
 file_of (Replay file replay) = Some file.now
+file_of (Renew file new since) = Some file.now
 file_of (Times file division day) = Some file.now
+file_of (Terminals file wanted) = Some file.now
 file_of (Board look) = None
+file_of (Verify list) = None
 
 -- a room is served at an address of this machine only
 abbrev pub IsHere : Service → Type 0

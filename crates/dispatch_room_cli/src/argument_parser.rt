@@ -5,10 +5,12 @@ ghost use Rattle.dispatch_room_cli.specs.Tasks.{IsServedHere};
 
 use crate::addresses::{AddressFault, fault_in, loopback};
 use crate::builder::program;
-use crate::tasks::{Color, Journal, Look, Replay, Service, Task};
+use crate::tasks::{Color, Journal, Look, Replay, Service, Task, Terminals};
+use crate::who::who_of;
 use clap::error::ErrorKind;
 use clap::{ArgMatches, Command, Error};
 use room_place::plans::DivisionNumber;
+use room_types::asks::Who;
 use room_types::numbers::{Moment, Number};
 use std::alloc::Global;
 use std::fmt;
@@ -34,13 +36,21 @@ enum Mistake<'a> {
         address: &'a str,
         fault: AddressFault,
     },
+    /// The word behind an option names nobody.
+    Nobody {
+        option: &'a str,
+        who: &'a str,
+    },
+    /// A terminal is to be given and one to be taken away.
+    TwoChanges,
 }
 
 impl<'a> Mistake<'a> {
     fn kind(self) -> ErrorKind {
         match self {
             Mistake::NoCommand => ErrorKind::MissingSubcommand,
-            Mistake::NotLoopback { .. } => ErrorKind::ValueValidation,
+            Mistake::NotLoopback { .. } | Mistake::Nobody { .. } => ErrorKind::ValueValidation,
+            Mistake::TwoChanges => ErrorKind::ArgumentConflict,
         }
     }
 }
@@ -54,6 +64,14 @@ impl<'a> fmt::Display for Mistake<'a> {
                     f,
                     "invalid value '{address}' for '<ADDRESS>': {fault}; {NOT_LOOPBACK}"
                 )
+            }
+            Mistake::Nobody { option, who } => write!(
+                f,
+                "invalid value '{who}' for '--{option} <WHO>': it is desk:1 to desk:9, \
+                 position:1 to position:99, or crew: and a callsign"
+            ),
+            Mistake::TwoChanges => {
+                f.write_str("the argument '--new <WHO>' cannot be used with '--revoke <WHO>'")
             }
         }
     }
@@ -104,10 +122,14 @@ fn task_of<'a>(matches: &ArgMatches<'a>) -> Result<Task<'a>, Mistake<'a>>
     let Some((name, given)) = matches.subcommand() else {
         return Err(Mistake::NoCommand);
     };
-    if name == "board" {
-        return board_of(given);
+    match name {
+        "board" => board_of(given),
+        "renew" => renew_of(given),
+        "verify" => Ok(Task::Verify {
+            list: text(given, "LIST")?,
+        }),
+        _ => task_over(text(given, "FILE")?, name, given),
     }
-    task_over(text(given, "FILE")?, name, given)
 }
 
 // What a command over a room's file asks for.
@@ -135,7 +157,31 @@ fn task_over<'a>(file: &'a str, name: &str, given: &ArgMatches<'a>) -> Result<Ta
             division: division_of(given)?,
             day: text(given, "DAY")?,
         }),
+        "terminals" => Ok(Task::Terminals {
+            file,
+            wanted: terminals_of(given)?,
+        }),
         _ => Err(Mistake::NoCommand),
+    }
+}
+
+fn terminals_of<'a>(given: &ArgMatches<'a>) -> Result<Terminals, Mistake<'a>> {
+    match (named(given, "new")?, named(given, "revoke")?) {
+        (None, None) => Ok(Terminals::List),
+        (Some(who), None) => Ok(Terminals::New(who)),
+        (None, Some(who)) => Ok(Terminals::Revoke(who)),
+        (Some(_), Some(_)) => Err(Mistake::TwoChanges),
+    }
+}
+
+// Whom the word behind an option names, where the option is given.
+fn named<'a>(given: &ArgMatches<'a>, option: &'a str) -> Result<Option<Who>, Mistake<'a>> {
+    let Some(who) = given.get_str(option) else {
+        return Ok(None);
+    };
+    match who_of(who) {
+        Some(who) => Ok(Some(who)),
+        None => Err(Mistake::Nobody { option, who }),
     }
 }
 
@@ -153,6 +199,7 @@ fn serve_of<'a>(file: &'a str, given: &ArgMatches<'a>) -> Result<Task<'a>, Mista
         address,
         connections: given.get_one::<u64>("connections").unwrap_or(u64::MAX),
         idle: number(given, "idle")?,
+        keep: number(given, "keep")?,
         patience: number(given, "patience")?,
         history: given.get_flag("history"),
         log: given.get_flag("log"),
@@ -174,6 +221,16 @@ fn replay_of(given: &ArgMatches<'_>) -> Replay {
         answers: given.get_flag("answers"),
         history: given.get_flag("history"),
     }
+}
+
+fn renew_of<'a>(given: &ArgMatches<'a>) -> Result<Task<'a>, Mistake<'a>>
+    ensures { IfOk result IsServedHere }
+{
+    Ok(Task::Renew {
+        file: text(given, "OLD")?,
+        new: text(given, "NEW")?,
+        since: text(given, "since")?,
+    })
 }
 
 fn board_of<'a>(given: &ArgMatches<'a>) -> Result<Task<'a>, Mistake<'a>>

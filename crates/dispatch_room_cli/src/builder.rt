@@ -52,6 +52,7 @@ fn arg_of<'a>(alloc: Global, word: &Word) -> Arg<'a> {
     match word.kind {
         WordKind::Placed(parser) => placed(alloc, word, parser),
         WordKind::Flag => flag(alloc, word),
+        WordKind::Needed { value, parser } => named(alloc, word, value, parser, &[]).required(true),
         WordKind::Named {
             value,
             parser,

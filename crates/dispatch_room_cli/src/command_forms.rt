@@ -26,6 +26,11 @@ pub enum WordKind {
     Placed(ValueParser<'static>),
     /// By its name only.
     Flag,
+    /// Behind its name, and it has to be there: what help calls it, and what it has to be.
+    Needed {
+        value: &'static str,
+        parser: ValueParser<'static>,
+    },
     /// Behind its name: what help calls it, what it has to be, and what it is where none is given.
     Named {
         value: &'static str,
@@ -104,7 +109,7 @@ const CHECK: CommandForm = CommandForm {
 
 const SERVE: CommandForm = CommandForm {
     name: "serve",
-    about: "Serves a room over HTTP, one connection after another",
+    about: "Serves a room over HTTP",
     end: "Where it says `refused: file`, `check` tells what is wrong.\n\n\
          Example: dispatch_room serve room.db 127.0.0.1:8080",
     words: &[
@@ -130,7 +135,18 @@ const SERVE: CommandForm = CommandForm {
                 parser: ValueParser::Signed(1, 60000),
                 default: &["200"],
             },
-            help: "How long a connection may be silent between requests, and before the first",
+            help: "How long a connection may be silent between requests, and before the first, where \
+                 all others wait for it: with --connections",
+        },
+        Word {
+            name: "keep",
+            kind: WordKind::Named {
+                value: "SECONDS",
+                parser: ValueParser::Signed(1, 3600),
+                default: &["75"],
+            },
+            help: "How long a connection may be silent where nobody waits for it: without \
+                 --connections",
         },
         Word {
             name: "patience",
@@ -205,6 +221,22 @@ const REPLAY: CommandForm = CommandForm {
     ],
 };
 
+const VERIFY: CommandForm = CommandForm {
+    name: "verify",
+    about: "Reports how much a journal holds, or at which record it is none",
+    end: "In a list of version 2 each byte that changed is found, and each record that was lost or \
+         came twice. Its status is 0 where the list is whole.\n\n\
+         Example: dispatch_room verify room.list",
+    words: &[
+        Word {
+            name: "LIST",
+            kind: TEXT,
+            help: "The journal's file",
+        },
+        EXPLAIN,
+    ],
+};
+
 const BOARD: CommandForm = CommandForm {
     name: "board",
     about: "Shows what a desk sees in a room that is served: queue, incidents, vehicles, points, \
@@ -250,6 +282,36 @@ const BOARD: CommandForm = CommandForm {
     ],
 };
 
+const RENEW: CommandForm = CommandForm {
+    name: "renew",
+    about: "Makes a new room of a room: what is going on in it, and what happened since a day",
+    end: "OLD is not served meanwhile. No row of it is written: it stays the archive, which check \
+         and times read.\n\n\
+         Example: dispatch_room renew room.db new.db --since 2026-03-22",
+    words: &[
+        Word {
+            name: "OLD",
+            kind: TEXT,
+            help: "The file of the room that there is",
+        },
+        Word {
+            name: "NEW",
+            kind: TEXT,
+            help: "The file of the new room: an empty one, or one that is not there",
+        },
+        Word {
+            name: "since",
+            kind: WordKind::Needed {
+                value: "DAY",
+                parser: ValueParser::String,
+            },
+            help: "The first day of which all stays, as YYYY-MM-DD: two days before the room's \
+                 last moment, or earlier",
+        },
+        EXPLAIN,
+    ],
+};
+
 const TIMES: CommandForm = CommandForm {
     name: "times",
     about: "Writes the activation times of a division's day as CSV",
@@ -273,5 +335,37 @@ const TIMES: CommandForm = CommandForm {
     ],
 };
 
+const TERMINALS: CommandForm = CommandForm {
+    name: "terminals",
+    about: "Lists who has a terminal, or gives one a new token, or takes it away",
+    end: "WHO is desk:1, position:3 or crew:A1. No token is listed; a new one is printed once. \
+         The room must not be served. A change is in no journal.\n\n\
+         Example: dispatch_room terminals room.db --new crew:A1",
+    words: &[
+        FILE,
+        Word {
+            name: "new",
+            kind: WordKind::Named {
+                value: "WHO",
+                parser: ValueParser::String,
+                default: &[],
+            },
+            help: "Give this one a new token, print it, and know no other of it any more",
+        },
+        Word {
+            name: "revoke",
+            kind: WordKind::Named {
+                value: "WHO",
+                parser: ValueParser::String,
+                default: &[],
+            },
+            help: "Know no token of this one any more",
+        },
+        EXPLAIN,
+    ],
+};
+
 /// All commands, as help lists them.
-pub const FORMS: [CommandForm; 8] = [INIT, IMPORT, MIGRATE, CHECK, SERVE, REPLAY, BOARD, TIMES];
+pub const FORMS: [CommandForm; 11] = [
+    INIT, IMPORT, TERMINALS, MIGRATE, CHECK, SERVE, REPLAY, VERIFY, RENEW, BOARD, TIMES,
+];

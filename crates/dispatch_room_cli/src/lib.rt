@@ -6,3 +6,4 @@ pub mod argument_parser;
 mod builder;
 mod command_forms;
 pub mod tasks;
+mod who;

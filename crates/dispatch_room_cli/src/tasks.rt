@@ -1,6 +1,7 @@
 //! What a command line asks for. Files are named by their paths.
 
 use room_place::plans::DivisionNumber;
+use room_types::asks::Who;
 use room_types::numbers::{Moment, Number};
 use std::net::SocketAddr;
 
@@ -31,9 +32,19 @@ pub enum Task<'a> {
         file: &'a str,
         replay: Replay,
     },
+    /// How much a list holds is reported, or at which record it is none.
+    Verify {
+        list: &'a str,
+    },
     /// What is wrong with a room's file is reported.
     Check {
         file: &'a str,
+    },
+    /// A new room is made of a room, since a day.
+    Renew {
+        file: &'a str,
+        new: &'a str,
+        since: &'a str,
     },
     /// The board of a desk is shown.
     Board {
@@ -45,6 +56,11 @@ pub enum Task<'a> {
         division: DivisionNumber,
         day: &'a str,
     },
+    /// The terminals of a room are listed, or those of one changed.
+    Terminals {
+        file: &'a str,
+        wanted: Terminals,
+    },
 }
 
 impl<'a> Task<'a> {
@@ -52,7 +68,8 @@ impl<'a> Task<'a> {
     ghost use Rattle.std.specs.Option.{option_map};
     ghost use Rattle.dispatch_room_cli.specs.Tasks.{file_of};
 
-    /// The room's file: none of a board, which knows only where a room is served.
+    /// The room's file: none of a board, which knows only where a room is served, and none of a
+    /// list.
     pub fn file(&self) -> Option<&'a str>
         ensures { option_map (λ file. file.now) result ≡ file_of self.now }
     {
@@ -63,8 +80,10 @@ impl<'a> Task<'a> {
             | Task::Check { file }
             | Task::Serve { file, .. }
             | Task::Replay { file, .. }
-            | Task::Times { file, .. } => Some(file),
-            Task::Board { .. } => None,
+            | Task::Times { file, .. }
+            | Task::Terminals { file, .. }
+            | Task::Renew { file, .. } => Some(file),
+            Task::Board { .. } | Task::Verify { .. } => None,
         }
     }
 }
@@ -74,10 +93,14 @@ impl<'a> Task<'a> {
 pub struct Service<'a> {
     /// Where it listens: an address of this machine only.
     pub address: SocketAddr,
-    /// How many connections it serves.
+    /// How many connections it serves, one after another: where these are as many as can be, it
+    /// goes on until it is stopped.
     pub connections: u64,
-    /// How many milliseconds it waits for the first byte of a message.
+    /// How many milliseconds it waits for the first byte of a message, where it serves so many
+    /// connections.
     pub idle: u16,
+    /// How many seconds a connection may be silent where the service goes on until it is stopped.
+    pub keep: u16,
     /// How many seconds a message has from its first byte, and an answer.
     pub patience: u16,
     /// Whether the paths of history are served.
@@ -105,6 +128,17 @@ pub struct Replay {
     pub answers: bool,
     /// Whether the paths of history were served.
     pub history: bool,
+}
+
+/// What is done to the terminals of a room.
+#[derive(Clone, Copy)]
+pub enum Terminals {
+    /// Who has one is listed.
+    List,
+    /// This one gets a new token, and its old ones are no longer known.
+    New(Who),
+    /// The tokens of this one are no longer known.
+    Revoke(Who),
 }
 
 /// Which served room is looked at, by which desk, and how.

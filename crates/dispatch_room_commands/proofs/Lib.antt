@@ -1,2 +1,3 @@
 pub mod ListeningLemmas
+pub mod ServiceLemmas
 pub mod WorkLemmas

@@ -1,7 +1,7 @@
 -- What a task of the command line comes to, where it is done.
 use Rattle.std.specs.Global.{Global}
 use Rattle.std.specs.Io.KnownBytes.{Appends}
-use Rattle.std.specs.Prelude.{Bool, Err, List, MatchResult, Ok, Option, Result, Vec, codes, is_some, ℕ, ◌≡◌, ◌⊎◌}
+use Rattle.std.specs.Prelude.{Bool, Err, List, MatchResult, Ok, Option, Result, Some, Vec, codes, false, is_some, true, ℕ, ◌++◌, ◌≡◌, ◌⊎◌, None, ◌==◌}
 use Rattle.clap.specs.Words.{kind_of}
 use Rattle.clap.specs.declared.error.Error.{Error}
 use Rattle.dispatch_room_disk.specs.RoomFiles.{IsDoneInFile, IsUndoneInFile}
@@ -12,15 +12,37 @@ use Rattle.dispatch_room_exit.specs.declared.exit_status.Failure.{Failure}
 use Rattle.dispatch_room_exit.specs.declared.exit_status.Failure.TheVariants as failure
 use Rattle.dispatch_room_csv.specs.declared.fleet_file.FleetLine.{FleetLine}
 use Rattle.dispatch_room_csv.specs.declared.plan_file.PlanFile.{PlanFile}
+use Rattle.room_types.specs.Texts.{Token}
+use Rattle.room_types.specs.declared.asks.Who.{Who}
+use Rattle.room_types.specs.declared.asks.Who.TheVariants.{Crew, Desk, Position}
+use Rattle.dispatch_room_tasks.specs.declared.renewal.Successor.{Successor}
+use Rattle.dispatch_room_serving.specs.Callers.{Opening}
+use Rattle.dispatch_room_serving.specs.declared.served_room.Terms.{Terms}
 use Rattle.dispatch_room_cli.specs.declared.tasks.Look.{Look}
 use Rattle.dispatch_room_cli.specs.declared.tasks.Replay.{Replay as How}
 use Rattle.dispatch_room_cli.specs.declared.tasks.Service.{Service}
 use Rattle.dispatch_room_cli.specs.declared.tasks.Task.{Task}
-use Rattle.dispatch_room_cli.specs.declared.tasks.Task.TheVariants.{Board, Check, Import, Init, Migrate, Replay, Serve, Times}
+use Rattle.dispatch_room_cli.specs.declared.tasks.Terminals.{Terminals as Wanted}
+use Rattle.dispatch_room_cli.specs.declared.tasks.Terminals.TheVariants as wanted
+use Rattle.dispatch_room_cli.specs.declared.tasks.Task.TheVariants.{Board, Check, Import, Init, Migrate, Renew, Replay, Serve, Terminals, Times, Verify}
 use Rattle.dispatch_room_commands.specs.CommandEnds.{IsPrinted, IsWordsStatus}
-use Rattle.dispatch_room_commands.specs.RoomTasks.{Creates, CreatesNone, Enrols, EnrolsNone, Examines, ExaminesNone, Moves, MovesNone, OpensNone, Replays, Reports, ServesAddress, terms_of}
+use Rattle.dispatch_room_commands.specs.RoomTasks.{Begins, BeginsNone, Creates, CreatesNone, Enrols, EnrolsNone, Examines, ExaminesNone, HoldsNoRoom, LeavesNothing, LeavesRows, Lists, Moves, MovesNone, OpensNone, Reissues, Replays, Reports, Serves, terms_of}
+use Rattle.dispatch_room_chain.specs.ListTallies.{IsVerified}
+use Rattle.dispatch_room_chain.specs.declared.list_tallies.Tally.{Tally}
+use Rattle.dispatch_room_commands.specs.Verified.{IsUnverified, tally_text}
 use Rattle.dispatch_room_commands.specs.declared.listeners.TcpAddress.{TcpAddress}
 use Rattle.dispatch_room_commands.specs.declared.serve.Served.{Served}
+use Rattle.dispatch_room_commands.specs.declared.tcp_doors.TcpDoor.{TcpDoor}
+
+-- who is the crew of a vehicle
+abbrev pub is_a_crew : Who → Bool
+is_a_crew (Desk d) = false
+is_a_crew (Position p) = false
+is_a_crew (Crew c) = true
+
+-- a service that goes on until it is stopped
+abbrev pub is_endless : Service → Bool
+is_endless service = service.connections == 18446744073709551615
 
 -- by what the output held before, what it holds after, and how much is done
 module _ (before after : Option (List ℕ)) (done : Done) where
@@ -51,21 +73,65 @@ module _ (before after : Option (List ℕ)) (done : Done) where
     pub text : Appends between after report.items
     pub whole : done ≡ Whole
 
-  -- a room was served to as many calls as was asked for, with a journal where one was
+  -- a room was served to those who call where something listens
+  abbrev pub IsServedAt : {L : Type 0} → (L → Option (List (Option Opening)))
+      → (L → Option (List (Option (List ℕ)))) → Bool → Terms → Type 0
+  IsServedAt {L} heard told has_journal terms =
+      (listener : L) × (served : Served L)
+      × IsDoneInFile (Serves heard told has_journal terms listener) before after served
+      × (done ≡ served.done)
+
+  -- A room was served, with a journal where one was asked for: at a door, where it goes on until it
+  -- is stopped, or to as many connections as was asked for, one after another.
+  abbrev pub IsServedBy : Bool → Bool → Terms → Type 0
+  IsServedBy true has_journal terms = IsServedAt {L = TcpDoor} (λ _. None) (λ _. None) has_journal terms
+  IsServedBy false has_journal terms =
+      IsServedAt {L = TcpAddress} (λ _. None) (λ _. None) has_journal terms
+
   abbrev pub IsServe : Service → Type 0
-  IsServe service = (listener : TcpAddress) × (served : Served TcpAddress)
-      × IsDoneInFile (ServesAddress (is_some service.journal) (terms_of service) listener) before
-      after served × (done ≡ served.done)
+  IsServe service = IsServedBy (is_endless service) (is_some service.journal) (terms_of service)
 
   -- a list was replayed
   abbrev pub IsReplay : How → Type 0
   IsReplay how = IsDoneInFile (Replays how) before after done
+
+  -- what a room leaves since a day was read, and then a room was made of it
+  pub record IsRenew (day : List ℕ) : Type 0 where
+    pub between : Option (List ℕ)
+    pub left : Successor
+    pub read : IsDoneInFile (LeavesRows day) before between left
+    pub made : IsDoneInFile (Begins left) between after done
+
+  -- a list was looked through, and what it holds was printed
+  pub record IsVerify : Type 0 where
+    pub tally : Tally
+    pub has_ended : Bool
+    pub list : Option (List ℕ)
+    pub is : (text : List ℕ) → list ≡ Some text → IsVerified text tally
+    pub text : Appends before after (tally_text tally has_ended)
+    pub whole : done ≡ Whole
 
   -- the board of a desk was shown
   abbrev pub IsBoardOf : Look → Type 0
   IsBoardOf look =
       (heard : List ℕ) × (colour : Bool)
       × IsPrinted heard (is_some look.incident) colour before after done
+
+  -- one was given only this token, or none, and then this was printed
+  pub record IsReissued (who : Who) (token : Option Token) (text : List ℕ) : Type 0 where
+    pub between : Option (List ℕ)
+    pub is : IsDoneInFile (Reissues who token) before between tt
+    pub told : Appends between after text
+    pub whole : done ≡ Whole
+
+  -- Terminals were listed; or one got a new token, which was printed; or it has no terminal that
+  -- anybody knows: no token, or where a vehicle's crew has to have one, one that is not printed.
+  abbrev pub IsTerminals : Wanted → Type 0
+  IsTerminals wanted.List = IsDoneInFile Lists before after done
+  IsTerminals (wanted.New who) =
+      (token : Token) × IsReissued who (Some token) (token ++ codes "\n")
+  IsTerminals (wanted.Revoke who) = (token : Option Token) × (is_some token ≡ is_a_crew who)
+      × IsReissued who token (codes "revoked\n")
 
   -- what was asked for was done
   abbrev pub IsTask : Task → Type 0
@@ -75,8 +141,11 @@ module _ (before after : Option (List ℕ)) (done : Done) where
   IsTask (Check file) = IsCheck
   IsTask (Serve file service) = IsServe service
   IsTask (Replay file how) = IsReplay how
+  IsTask (Verify list) = IsVerify
   IsTask (Board look) = IsBoardOf look
+  IsTask (Renew file new since) = IsRenew since.now
   IsTask (Times file division day) = IsTimes division day.now
+  IsTask (Terminals file wanted) = IsTerminals wanted
 
 -- by what the output held before, what it holds after, and why the task fails
 module _ (before after : Option (List ℕ)) (fault : Failure) where
@@ -108,24 +177,61 @@ module _ (before after : Option (List ℕ)) (fault : Failure) where
       ⊎ ((fault ≡ failure.Network) × ((between : Option (List ℕ)) × (report : Vec ℕ Global)
       × IsDoneInFile (Reports division day) before between report))
 
+  -- this became of the file of the room that was to be served to those who call where something
+  -- listens
+  abbrev pub FailsAt : {L : Type 0} → (L → Option (List (Option Opening)))
+      → (L → Option (List (Option (List ℕ)))) → Bool → Terms → Type 0
+  FailsAt {L} heard told has_journal terms =
+      (listener : L)
+      × IsUndoneInFile (Serves heard told has_journal terms listener) OpensNone before after fault
+
+  abbrev pub FailsBy : Bool → Bool → Terms → Type 0
+  FailsBy true has_journal terms = FailsAt {L = TcpDoor} (λ _. None) (λ _. None) has_journal terms
+  FailsBy false has_journal terms = FailsAt {L = TcpAddress} (λ _. None) (λ _. None) has_journal terms
+
   -- there is no journal where one was asked for, and nothing is said; or this became of the file of
   -- the room that was to be served
   abbrev pub FailsServe : Service → Type 0
   FailsServe service =
       ((after ≡ before) × ((fault ≡ failure.Memory) ⊎ (fault ≡ failure.Journal)))
-      ⊎ ((listener : TcpAddress)
-      × IsUndoneInFile (ServesAddress (is_some service.journal) (terms_of service) listener)
-      OpensNone before after fault)
+      ⊎ FailsBy (is_endless service) (is_some service.journal) (terms_of service)
 
   -- a list was not replayed whole, and this became of the room's file
   abbrev pub FailsReplay : How → Type 0
   FailsReplay how = IsUndoneInFile (Replays how) OpensNone before after fault
+
+  -- no room was made of another one: that left nothing since a day; or this became of the new file
+  abbrev pub FailsRenew : List ℕ → Type 0
+  FailsRenew day = IsUndoneInFile (LeavesRows day) (LeavesNothing day) before after fault
+      ⊎ ((between : Option (List ℕ)) × (left : Successor)
+      × IsDoneInFile (LeavesRows day) before between left
+      × IsUndoneInFile (Begins left) BeginsNone between after fault)
+
+  -- the list could not be looked through, and nothing was printed; or the output failed
+  abbrev pub FailsVerify : Type 0
+  FailsVerify = ((after ≡ before) × IsUnverified fault) ⊎ (fault ≡ failure.Network)
 
   -- no board was shown, for lack of a token or of memory; or less of one than all, or the output
   -- failed
   abbrev pub FailsBoard : Type 0
   FailsBoard = ((after ≡ before) × ((fault ≡ failure.Input) ⊎ (fault ≡ failure.Memory)))
       ⊎ (fault ≡ failure.Network)
+
+  -- the system gives no random token, and nothing is said; or with some token this became of the
+  -- file; or the change was made, and the output failed
+  abbrev pub FailsReissue : Who → Type 0
+  FailsReissue who =
+      ((after ≡ before) × ((fault ≡ failure.Memory) ⊎ (fault ≡ failure.Storage)))
+      ⊎ ((token : Option Token)
+      × (IsUndoneInFile (Reissues who token) HoldsNoRoom before after fault
+      ⊎ ((fault ≡ failure.Network)
+      × ((between : Option (List ℕ)) × IsDoneInFile (Reissues who token) before between tt))))
+
+  -- terminals were not listed, or not changed
+  abbrev pub FailsTerminals : Wanted → Type 0
+  FailsTerminals wanted.List = IsUndoneInFile Lists HoldsNoRoom before after fault
+  FailsTerminals (wanted.New who) = FailsReissue who
+  FailsTerminals (wanted.Revoke who) = FailsReissue who
 
   -- what was asked for was not done
   abbrev pub FailsTask : Task → Type 0
@@ -135,8 +241,11 @@ module _ (before after : Option (List ℕ)) (fault : Failure) where
   FailsTask (Check file) = FailsCheck
   FailsTask (Serve file service) = FailsServe service
   FailsTask (Replay file how) = FailsReplay how
+  FailsTask (Verify list) = FailsVerify
   FailsTask (Board look) = FailsBoard
+  FailsTask (Renew file new since) = FailsRenew since.now
   FailsTask (Times file division day) = FailsTimes division day.now
+  FailsTask (Terminals file wanted) = FailsTerminals wanted
 
 -- The exit status of what the words of a command line ask for. Of a task it is by how much was
 -- done, or by why it was not, and what the output holds is by that; of other words it is by what

@@ -5,6 +5,8 @@ use Rattle.std.specs.Prelude.{Bool, Err, IfOk, List, None, Ok, OnOk, Option, Res
 use Rattle.sqlite.specs.Held.{Held, state}
 use Rattle.sqlite.specs.State.{HasCleanDisk}
 use Rattle.sqlite_trees.specs.declared.store.Store.{Ghosts}
+use Rattle.room_types.specs.Texts.{Token}
+use Rattle.room_types.specs.declared.asks.Who.{Who}
 use Rattle.room_types.specs.declared.fleet.Terminal.{Terminal}
 use Rattle.room_model.specs.Room.{Room}
 use Rattle.room_http.specs.Settings.{IsSetting}
@@ -22,7 +24,7 @@ use Rattle.dispatch_room_exit.specs.declared.exit_status.Failure.TheVariants.{Me
 use Rattle.dispatch_room_csv.specs.declared.fleet_file.FleetLine.{FleetLine}
 use Rattle.dispatch_room_csv.specs.declared.plan_file.PlanFile.{PlanFile}
 use Rattle.dispatch_room_journal.specs.JournalRecords.{answer_text, message_text, room_text}
-use Rattle.dispatch_room_tasks.specs.OpenedRoom.{IsUnopened, OpensRoom}
+use Rattle.dispatch_room_tasks.specs.OpenedRoom.{HoldsNone, IsUnopened, OpensRoom}
 use Rattle.dispatch_room_journal.specs.AnswerFrames.{AnswersEach}
 use Rattle.dispatch_room_journal.specs.Replays.{DigitsOf, digits_of}
 use Rattle.dispatch_room_journal.specs.Replays as replay
@@ -32,7 +34,6 @@ use Rattle.dispatch_room_cli.specs.declared.tasks.Journal.{Journal}
 use Rattle.dispatch_room_cli.specs.declared.tasks.Replay.{Replay as How}
 use Rattle.dispatch_room_cli.specs.declared.tasks.Service.{Service}
 use Rattle.dispatch_room_commands.specs.CommandEnds.{failure_of}
-use Rattle.dispatch_room_commands.specs.declared.listeners.TcpAddress.{TcpAddress}
 use Rattle.dispatch_room_commands.specs.declared.serve.Served.{Served}
 use Rattle.dispatch_room_serving.specs.Callers.{Opening}
 use Rattle.dispatch_room_serving.specs.ServedRoom.{ServesRoom}
@@ -40,8 +41,13 @@ use Rattle.dispatch_room_serving.specs.declared.served_room.Terms.{Terms}
 use Rattle.dispatch_room_tasks.specs.Examination as checked
 use Rattle.dispatch_room_tasks.specs.Creation as created
 use Rattle.dispatch_room_tasks.specs.TimesReport.{HasReported}
+use Rattle.dispatch_room_tasks.specs.ListedTerminals.{HasListed}
+use Rattle.dispatch_room_tasks.specs.ChangedTerminals.{HasChanged}
 use Rattle.dispatch_room_tasks.specs.Enrolment as imported
 use Rattle.dispatch_room_tasks.specs.Migration.{IsMigrated, IsUnmoved}
+use Rattle.dispatch_room_tasks.specs.Renewal.{ExplainsUnmade, IsBegun, IsLeftBy, LeavesNone}
+use Rattle.dispatch_room_tasks.specs.Renewal as renewed
+use Rattle.dispatch_room_tasks.specs.declared.renewal.Successor.{Successor}
 
 -- the room of a plan is created, and reported
 abbrev pub Creates : PlanFile → Saying Done
@@ -74,6 +80,25 @@ Moves = λ S g old new before after done. IsMigrated g old new done × (after �
 abbrev pub MovesNone : Refusing
 MovesNone = λ S g conn. IsUnmoved g conn
 
+-- what the room leaves to one that is made of it since a day is read, and nothing is written yet
+abbrev pub LeavesRows : List ℕ → Saying Successor
+LeavesRows day = λ S g old new before after done.
+    (HasCleanDisk (state g new) → IfOk done (IsLeftBy (state g old).now.trees day))
+    × WritesNothing (state g old) (state g new) × (after ≡ before)
+
+-- or it leaves nothing, for this
+abbrev pub LeavesNothing : List ℕ → Refusing
+LeavesNothing day = λ S g conn. LeavesNone g conn day
+
+-- the room of what was left is made, and how much it has is reported
+abbrev pub Begins : Successor → Saying Done
+Begins left = λ S g old new before after done.
+    IsBegun g old new left × renewed.IsTold left.changes.items before after done
+
+-- or none is: the file is not empty, or the machine fails
+abbrev pub BeginsNone : Refusing
+BeginsNone = λ S g conn. ExplainsUnmade (state g conn).now.schema
+
 -- how much the room has is reported, or what is wrong with its file; the file stays as it is
 abbrev pub Examines : Saying Done
 Examines = λ S g old new before after done.
@@ -88,6 +113,19 @@ ExaminesNone = λ S g conn fault. ⊥
 abbrev pub Reports : ℕ → List ℕ → Saying (Vec ℕ Global)
 Reports division day = λ S g old new before after done.
     (HasCleanDisk (state g new) → HasReported g old new division day done) × (after ≡ before)
+
+-- who has a terminal is listed, and the room stays as it is
+abbrev pub Lists : Saying Done
+Lists = λ S g old new before after done. HasListed g old new before after done
+
+-- one has only this token, or none, and nothing is written yet
+abbrev pub Reissues : Who → Option Token → Saying (Unit {0})
+Reissues who token = λ S g old new before after done.
+    HasChanged g old new who token done × (after ≡ before)
+
+-- or the file holds no room, for this
+abbrev pub HoldsNoRoom : Refusing
+HoldsNoRoom = λ S g conn. HoldsNone g conn
 
 -- what is served of a room, by its service
 abbrev pub terms_of : Service → Terms
@@ -131,10 +169,6 @@ abbrev pub Serves : {L : Type 0} → (L → Option (List (Option Opening)))
     → (L → Option (List (Option (List ℕ)))) → Bool → Terms → L → Saying (Served L)
 Serves heard told has_journal terms listener = λ S g old new before after served.
     IsServed heard told g old new has_journal terms listener served
-
--- the same, where it is listened at an address of TCP: of that nothing is known
-abbrev pub ServesAddress : Bool → Terms → TcpAddress → Saying (Served TcpAddress)
-ServesAddress = Serves (λ _. None) (λ _. None)
 
 -- whether each message lasts before the room acts on it: where a journal is asked for that is so
 abbrev pub is_synced_by : Option Journal → Bool

@@ -13,10 +13,13 @@ use crate::files::is_open_to_others;
 use crate::import::import;
 use crate::init::init;
 use crate::migrate::migrate;
+use crate::renew::renew;
 use crate::replay::replay;
 use crate::serve::serve_file;
 use crate::task_causes::explain;
+use crate::terminals::terminals;
 use crate::times::times;
+use crate::verify::verify_list;
 use clap::Error;
 use clap::error::ErrorKind;
 use dispatch_room_cli::argument_parser;
@@ -137,12 +140,15 @@ fn perform<O: Write, E: Write>(
             file,
             replay: ref how,
         } => replay(rt, explainer, alloc, file, how, out, err),
+        Task::Renew { file, new, since } => renew(rt, explainer, alloc, file, new, since, out),
+        Task::Verify { list } => verify_list(rt, explainer, alloc, list, out),
         Task::Board { ref look } => board(rt, explainer, alloc, look, out),
         Task::Times {
             file,
             division,
             day,
         } => times(rt, explainer, alloc, file, division, day, out),
+        Task::Terminals { file, wanted } => terminals(rt, explainer, alloc, file, wanted, out),
     }
 }
 

@@ -131,16 +131,12 @@ impl<'a> Listener for TcpAddress<'a> {
     ghost peer_of = { λ reader writer. record { reader = reader; writer = writer } };
 
     fn listen(&mut self) -> Result<(), Failure> {
-        match TcpListener::bind(self.rt, self.address) {
+        match bound(self.rt, self.explainer, self.address) {
             Ok(listener) => {
                 self.listener = Some(listener);
                 Ok(())
             }
-            Err(error) => {
-                let address = self.address;
-                self.explainer.explain(format_args!("{address}: {error}"));
-                Err(Failure::Network)
-            }
+            Err(fault) => Err(fault),
         }
     }
 
@@ -160,6 +156,23 @@ impl<'a> Listener for TcpAddress<'a> {
 
     fn let_go(&mut self, peer: Self::Peer) {
         drop(peer);
+    }
+}
+
+/// What listens at an address of TCP. A failure is the network's, and is explained.
+pub(crate) fn bound(
+    rt: &HostRuntime,
+    explainer: Explainer<'_>,
+    address: SocketAddr,
+) -> Result<TcpListener, Failure>
+    ensures { IfErr result (λ fault. fault ≡ Network) }
+{
+    match TcpListener::bind(rt, address) {
+        Ok(listener) => Ok(listener),
+        Err(error) => {
+            explainer.explain(format_args!("{address}: {error}"));
+            Err(Failure::Network)
+        }
     }
 }
 

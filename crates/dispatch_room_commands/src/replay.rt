@@ -5,6 +5,7 @@ ghost use Rattle.dispatch_room_commands.specs.DoneTasks.{FailsReplay, IsReplay};
 ghost use Rattle.dispatch_room_commands.specs.RoomTasks.{AreAnswered, IsReplayed, IsTold, OpensNone, Replays};
 ghost use Rattle.dispatch_room_journal.specs.Replays.{digits_of};
 
+use dispatch_room_chain::unchained::Unchained;
 use dispatch_room_cli::tasks::Replay;
 use dispatch_room_disk::room_files::{RoomFile, RoomTask, in_file};
 use dispatch_room_exit::exit_status::{Done, Failure, refused};
@@ -69,7 +70,7 @@ impl<'a, E: Write> RoomTask for Replaying<'a, E> {
             zone,
             history: replay.history,
         };
-        let mut list = Wire::new(rt.stdin());
+        let mut list = Unchained::new(Wire::new(rt.stdin()));
         let done = replay_in(alloc, &mut list, &mut room, &setting, replay, out, err);
         Ok((done, room.close()))
     }

@@ -1,15 +1,17 @@
-//! `serve`: a room is served over TCP, one connection after another.
-ghost use Rattle.std.specs.Prelude.{◌≡◌, ◌⊎◌, ℕ, List, Bool, Option, false, is_some, IfErr, IfOk, IfSome};
+//! `serve`: a room is served over TCP, to so many connections one after another, or to all who
+//! call, until it is stopped.
+ghost use Rattle.std.specs.Prelude.{◌≡◌, ◌⊎◌, ℕ, List, Bool, Option, false, true, is_some, IfErr, IfOk, IfSome};
 ghost use Rattle.dispatch_room_exit.specs.declared.exit_status.Failure.TheVariants as failure;
 ghost use Rattle.dispatch_room_journal.specs.JournalRecords.{answer_text, message_text, room_text};
 ghost use Rattle.dispatch_room_tasks.specs.OpenedRoom.{IsUnopened};
 ghost use Rattle.dispatch_room_serving.specs.Journals.{failed_by};
 ghost use Rattle.dispatch_room_serving.specs.ServedRoom.{ServesRoom};
-ghost use Rattle.dispatch_room_commands.specs.DoneTasks.{FailsServe, IsServe};
+ghost use Rattle.dispatch_room_commands.specs.DoneTasks.{FailsAt, FailsBy, FailsServe, IsServe, IsServedAt, IsServedBy, is_endless};
 ghost use Rattle.dispatch_room_commands.specs.RoomTasks.{OpensNone, Serves, ended, is_synced_by, terms_of};
 
 use crate::listeners::{Listener, TcpAddress};
 use crate::tcp_callers::Heard;
+use crate::tcp_doors::TcpDoor;
 use dispatch_room_cli::tasks::{self, Service};
 use dispatch_room_disk::room_files::{RoomFile, RoomTask, in_file};
 use dispatch_room_exit::exit_status::{Done, Failure};
@@ -29,9 +31,11 @@ use std::fs::File;
 use std::io::Write;
 use std::time::Duration;
 
-/// Serves the room of a file to so many connections, with a log and a journal of it where they are
-/// wanted. A connection that ends badly doesn't end it, but for lack of memory, where the journal
-/// can't be kept, and where the room's file failed so that it has to be opened again.
+/// Serves the room of a file, with a log and a journal of it where they are wanted: to so many
+/// connections, one after another, each to its end; or where it goes on until it is stopped, in
+/// pieces, so that nobody waits for who has not spoken. A connection that ends badly doesn't end
+/// it, but for lack of memory, where the journal can't be kept, and where the room's file failed so
+/// that it has to be opened again.
 pub fn serve_file<O: Write, E: Write>(
     rt: &HostRuntime,
     explainer: Explainer<'_>,
@@ -47,21 +51,16 @@ pub fn serve_file<O: Write, E: Write>(
         FailsServe (O.contents out.old) (O.contents out.new) fault service.entry) }
 {
     let journal = journal_file(rt, explainer, alloc, &service.journal, err)?;
-    let listener = TcpAddress::new(rt, explainer, service.address, waits_of(&service));
     let run = ServiceRun {
         rt,
         explainer,
         service: &service,
         journal: &journal,
     };
-    let serving = Serving {
-        run: &run,
-        listener,
-        err,
-    };
-    match in_file(rt, explainer, alloc, RoomFile::Kept(file), serving, out) {
-        Ok(served) => Ok(served.done),
-        Err(fault) => Err(fault),
+    if is_endless(&service) {
+        serve_at_door(alloc, file, &run, out, err)
+    } else {
+        serve_at_address(alloc, file, &run, out, err)
     }
 }
 
@@ -73,6 +72,79 @@ struct ServiceRun<'a> {
     explainer: Explainer<'a>,
     service: &'a Service<'a>,
     journal: &'a Option<File>,
+}
+
+// Whether a service goes on until it is stopped.
+fn is_endless(service: &Service<'_>) -> bool
+    ensures { result ≡ is_endless service.now }
+{
+    service.connections == u64::MAX
+}
+
+// Serves the room of a file at a door, until it is stopped.
+fn serve_at_door<O: Write, E: Write>(
+    alloc: Global,
+    file: &str,
+    run: &ServiceRun<'_>,
+    out: &mut O,
+    err: &mut E,
+) -> Result<Done, Failure>
+    ensures done { IfOk result (λ done. IsServedBy (O.contents out.old) (O.contents out.new) done
+        true (is_some run.now.journal.now) (terms_of run.now.service.now)) }
+    ensures undone { IfErr result (λ fault. FailsBy (O.contents out.old) (O.contents out.new) fault
+        true (is_some run.now.journal.now) (terms_of run.now.service.now)) }
+{
+    let keep = Duration::from_secs(u64::from(run.service.keep));
+    let patience = waits_of(run.service).patience;
+    let address = run.service.address;
+    let listener = TcpDoor::new(run.rt, run.explainer, alloc, address, keep, patience);
+    serve_at(alloc, file, run, listener, out, err)
+}
+
+// Serves the room of a file to as many connections as its service says, one after another.
+fn serve_at_address<O: Write, E: Write>(
+    alloc: Global,
+    file: &str,
+    run: &ServiceRun<'_>,
+    out: &mut O,
+    err: &mut E,
+) -> Result<Done, Failure>
+    ensures done { IfOk result (λ done. IsServedBy (O.contents out.old) (O.contents out.new) done
+        false (is_some run.now.journal.now) (terms_of run.now.service.now)) }
+    ensures undone { IfErr result (λ fault. FailsBy (O.contents out.old) (O.contents out.new) fault
+        false (is_some run.now.journal.now) (terms_of run.now.service.now)) }
+{
+    let address = run.service.address;
+    let listener = TcpAddress::new(run.rt, run.explainer, address, waits_of(run.service));
+    serve_at(alloc, file, run, listener, out, err)
+}
+
+// Serves the room of a file to those who call where something listens.
+fn serve_at<L: Listener, O: Write, E: Write>(
+    alloc: Global,
+    file: &str,
+    run: &ServiceRun<'_>,
+    listener: L,
+    out: &mut O,
+    err: &mut E,
+) -> Result<Done, Failure>
+    ensures done { IfOk result (λ done. IsServedAt (O.contents out.old) (O.contents out.new) done
+        L.heard L.told (is_some run.now.journal.now) (terms_of run.now.service.now)) }
+    ensures undone { IfErr result (λ fault. FailsAt (O.contents out.old) (O.contents out.new) fault
+        L.heard L.told (is_some run.now.journal.now) (terms_of run.now.service.now)) }
+{
+    let serving = Serving { run, listener, err };
+    match in_file(
+        run.rt,
+        run.explainer,
+        alloc,
+        RoomFile::Kept(file),
+        serving,
+        out,
+    ) {
+        Ok(served) => Ok(served.done),
+        Err(fault) => Err(fault),
+    }
 }
 
 // The file of a journal, where one is wanted.

@@ -1,8 +1,9 @@
 //! Why a task fails, in words, where what was asked for makes it clear.
 
-use dispatch_room_cli::tasks::Task;
+use dispatch_room_cli::tasks::{Task, Terminals};
 use dispatch_room_exit::exit_status::{Done, Failure};
 use dispatch_room_exit::explainer::Explainer;
+use room_types::asks::Who;
 
 /// Explains why a task failed, where that was not explained where it did.
 pub fn explain(explainer: Explainer<'_>, task: &Task<'_>, done: &Result<Done, Failure>) {
@@ -25,6 +26,22 @@ pub fn explain(explainer: Explainer<'_>, task: &Task<'_>, done: &Result<Done, Fa
             _ => {}
         },
         Task::Replay { file, .. } => explain_replay(explainer, file, fault),
+        Task::Terminals { file, ref wanted } => {
+            explain_unchanged(explainer, file, wanted, fault);
+        }
+        Task::Renew { file, since, .. } if fault == Failure::Day => {
+            explainer.explain(format_args!(
+                "\"{since}\" is no day from 1970-01-01 to 2099-12-31, or begins less than two days \
+                 before the last moment of {file}"
+            ));
+        }
+        Task::Verify { list } => {
+            if let Failure::Record(number) = fault {
+                explainer.explain(format_args!(
+                    "{list}: record {number} is none of a journal, or not the one that was written"
+                ));
+            }
+        }
         Task::Board { .. } if fault == Failure::Input => {
             explainer.explain("TOKEN is not 8 to 32 of A-Z, a-z and 0-9");
         }
@@ -43,6 +60,38 @@ fn explain_replay(explainer: Explainer<'_>, file: &str, fault: Failure) {
         Failure::Differs(number) => explainer.explain(format_args!(
             "standard input: record {number} has another status than {file} answers with"
         )),
+        _ => {}
+    }
+}
+
+// Explains why the terminals of one were not changed.
+fn explain_unchanged(explainer: Explainer<'_>, file: &str, wanted: &Terminals, fault: Failure) {
+    match wanted {
+        Terminals::List => {}
+        Terminals::New(who) => explain_none(explainer, file, who, fault),
+        Terminals::Revoke(who) => explain_none(explainer, file, who, fault),
+    }
+}
+
+// Explains that a room knows nobody of this name, or that one has no terminal in it.
+fn explain_none(explainer: Explainer<'_>, file: &str, who: &Who, fault: Failure) {
+    match who {
+        Who::Desk(division) => {
+            let division = division.get();
+            if fault == Failure::Division {
+                explainer.explain(format_args!("no division {division} in the plan of {file}"));
+            } else if fault == Failure::Input {
+                explainer.explain(format_args!("desk {division} has no terminal in {file}"));
+            }
+        }
+        Who::Position(position) if fault == Failure::Input => {
+            let position = position.get();
+            explainer.explain(format_args!("position {position} has no terminal in {file}"));
+        }
+        Who::Crew(callsign) if fault == Failure::Input => {
+            let name = callsign.as_str();
+            explainer.explain(format_args!("no vehicle {name} in {file}"));
+        }
         _ => {}
     }
 }

@@ -1,2 +1,7 @@
 mod StreamLaws
 mod PartingLaws
+mod PieceLaws
+pub mod SweepLaws
+mod LeaverLaws
+mod HistoryLaws
+mod LookaheadLaws

@@ -2,3 +2,17 @@
 pub mod Discards
 -- how a peer is parted from
 pub mod LingeringClose
+-- what is known grows
+pub mod Growths
+-- what becomes of one that was looked at
+pub mod Verdicts
+-- what one look at all who are kept does
+pub mod Sweeps
+-- a stream that is served in pieces
+pub mod Pieces
+-- what has become of all who came
+pub mod CallerHistories
+-- one round of looks
+pub mod Rounds
+-- what stands ahead in a stream
+pub mod Lookaheads

@@ -4,9 +4,19 @@
 
 pub mod client;
 pub mod connection_halves;
+pub mod doors;
+pub mod entrances;
+pub mod kept_callers;
+pub mod laws;
+mod leavers;
+mod lines;
 pub mod lingering_close;
+pub mod lookaheads;
+pub mod pieces;
 mod read_deadlines;
+pub mod readiness;
 mod retries;
 pub mod socket_readers;
 pub mod socket_writers;
 pub mod timeouts;
+pub mod waiting_callers;

@@ -14,3 +14,11 @@ pub mod Enrolment
 pub mod TimesReport
 -- what is reported of a file that is checked
 pub mod Examination
+-- who has a terminal in a room
+pub mod ListedTerminals
+-- the terminals of one that were changed
+pub mod ChangedTerminals
+-- the letters of random bytes
+pub mod RandomTokens
+-- what a room leaves to a new one, and the new one
+pub mod Renewal

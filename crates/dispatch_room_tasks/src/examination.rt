@@ -81,7 +81,7 @@ fn tell_wrong<O: Write>(wrong: Wrong, out: &mut O) -> Result<Done, Failure>
 }
 
 // How a program fails by what is wrong with its file.
-fn failure_of(wrong: Wrong) -> Failure
+pub(crate) fn failure_of(wrong: Wrong) -> Failure
     ensures { result ≡ failure_of wrong }
 {
     match wrong {

@@ -83,7 +83,7 @@ fn report_of<S: Alter>(
 }
 
 // The second at which a day begins, and that at which the next one does.
-fn span(zone: &Zone, day: &str) -> Option<(i64, i64)>
+pub(crate) fn span(zone: &Zone, day: &str) -> Option<(i64, i64)>
     ensures found { IsSome result ↔ IsSome (day_of day.now) }
     ensures span { IfSome result (IsSpanOf (zone_of zone.now) day.now) }
 {

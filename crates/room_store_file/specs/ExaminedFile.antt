@@ -29,6 +29,7 @@ use Rattle.room_store_file.specs.declared.room_in_tables.Tables.TheVariants.{Uni
 use Rattle.room_store_check_tables.specs.HeldRooms.{HasNoPlan, WritesNothing}
 use Rattle.room_store_file.specs.declared.examined_file.Wrong.{Wrong}
 use Rattle.room_store_file.specs.declared.examined_file.Wrong.TheVariants as wrong
+use Rattle.room_store_check_tables.specs.declared.whole_file.ReadFile.{ReadFile}
 use Rattle.room_store_check_tables.specs.declared.file_faults.FileFault.{FileFault}
 use Rattle.room_store_check_tables.specs.declared.file_faults.FileFault.TheVariants as fault
 
@@ -56,6 +57,12 @@ IsAmount plan summary rows terminals =
 -- The tables hold a room of this plan that has so much.
 abbrev pub IsSummaryOf : Trees → Layout → Summary → Type 0
 IsSummaryOf trees plan summary = HoldsRows trees plan (IsAmount plan.areas summary)
+
+-- They stand for all that was read, which is a room that has so much.
+pub record HoldsAll (trees : Trees) (read : ReadFile) (summary : Summary) : Type 0 where
+  pub stands : Stands trees (config_of read.config.plan read.config.terminals.items)
+      (room_of read.config.plan.areas read.rows)
+  pub amount : IsAmount read.config.plan.areas summary read.rows read.config.terminals.items
 
 -- they disagree in this, and in nothing before it
 abbrev pub DisagreeIn : List Area → DivisionRows → Disagreement → Type 0

@@ -6,7 +6,7 @@ ghost use Rattle.room_store_file.specs.OpeningCauses.{FailsInside};
 ghost use Rattle.room_store_file.specs.OpenedFile.{schema_of};
 ghost use Rattle.room_store_check_tables.specs.HeldRooms.{WritesNothing};
 ghost use Rattle.room_store_file.specs.declared.room_in_tables.Tables.TheVariants.{Unindexed, Whole};
-ghost use Rattle.room_store_file.specs.ExaminedFile.{Explains, ExplainsFile, FailsToReadTables, HasCause, IsAmount, IsSummaryOf, Weighs};
+ghost use Rattle.room_store_file.specs.ExaminedFile.{Explains, ExplainsFile, FailsToReadTables, HasCause, HoldsAll, IsAmount, IsSummaryOf, Weighs};
 ghost use Rattle.room_store_file.specs.declared.examined_file.Wrong.TheVariants.{Storage};
 
 use crate::opened_file::{is_room_of, room_tables_of};
@@ -87,21 +87,47 @@ pub fn examine<S: Alter>(alloc: Global, conn: &mut Connection<S>) -> Result<(Pla
     ensures nothing { WritesNothing (state S.Store conn.old) (state S.Store conn.new) }
     ensures ended { conn.new.in_transaction ≡ false }
 {
+    match read_room(alloc, conn) {
+        Ok((whole, summary)) => {
+            let ReadFile { config, rows } = whole;
+            drop(rows);
+            Ok((config.plan, summary))
+        }
+        Err(wrong) => Err(wrong),
+    }
+}
+
+/// All of the room that the file holds, and how much it is; or what is wrong with it first. The
+/// file stays as it is, also where it lacks the indexes of its tables.
+pub fn read_room<S: Alter>(
+    alloc: Global,
+    conn: &mut Connection<S>,
+) -> Result<(ReadFile, Summary), Wrong>
+    requires outside { conn.old.in_transaction ≡ false }
+    ensures room { HasCleanDisk (state S.Store conn.new)
+        → IfOk result (λ x. HoldsAll (state S.Store conn.old).now.trees x.0 x.1) }
+    ensures wrong { HasCleanDisk (state S.Store conn.new)
+        → IfErr result (ExplainsFile (state S.Store conn.old) (state S.Store conn.new)) }
+    ensures why { HasCleanDisk (state S.Store conn.new)
+        → IfErr result (HasCause S.Store conn.old conn.new) }
+    ensures nothing { WritesNothing (state S.Store conn.old) (state S.Store conn.new) }
+    ensures ended { conn.new.in_transaction ≡ false }
+{
     match is_room_of(conn, FIRST_VERSION) {
         Ok(true) => Err(Wrong::OldRoom),
-        Ok(false) => examine_tables(alloc, conn),
+        Ok(false) => read_tables(alloc, conn),
         Err(fault) => Err(Wrong::from(FileFault::from(fault))),
     }
 }
 
 // The same of a file that holds no room of the first version.
-fn examine_tables<S: Alter>(
+fn read_tables<S: Alter>(
     alloc: Global,
     conn: &mut Connection<S>,
-) -> Result<(Plan, Summary), Wrong>
+) -> Result<(ReadFile, Summary), Wrong>
     requires outside { conn.old.in_transaction ≡ false }
     ensures room { HasCleanDisk (state S.Store conn.new)
-        → IfOk result (λ x. IsSummaryOf (state S.Store conn.old).now.trees x.0 x.1) }
+        → IfOk result (λ x. HoldsAll (state S.Store conn.old).now.trees x.0 x.1) }
     ensures wrong { HasCleanDisk (state S.Store conn.new)
         → IfErr result (Explains (state S.Store conn.old).now) }
     ensures why { HasCleanDisk (state S.Store conn.new)
@@ -112,24 +138,24 @@ fn examine_tables<S: Alter>(
     // Outside a transaction the tables are as they were committed.
     let _ = conn.is_autocommit();
     match room_tables_of(conn.schema()) {
-        Some(tables) => examine_room(alloc, conn, tables),
+        Some(tables) => read_sound(alloc, conn, tables),
         None => Err(Wrong::Tables),
     }
 }
 
 // The same of a file that has a room's tables, with their indexes or without.
-fn examine_room<S: Alter>(
+fn read_sound<S: Alter>(
     alloc: Global,
     conn: &mut Connection<S>,
     tables: Tables,
-) -> Result<(Plan, Summary), Wrong>
+) -> Result<(ReadFile, Summary), Wrong>
     requires tables { (state S.Store conn.old).now.schema ≡ schema_of tables }
     requires new { (tables ≡ Whole) ⊎ (tables ≡ Unindexed) }
     requires outside { conn.old.in_transaction ≡ false }
     requires committed { IsTrue (state S.Store conn.old).is_open
         → (state S.Store conn.old).now ≡ (state S.Store conn.old).committed }
     ensures room { HasCleanDisk (state S.Store conn.new)
-        → IfOk result (λ x. IsSummaryOf (state S.Store conn.old).now.trees x.0 x.1) }
+        → IfOk result (λ x. HoldsAll (state S.Store conn.old).now.trees x.0 x.1) }
     ensures wrong { HasCleanDisk (state S.Store conn.new)
         → IfErr result (Explains (state S.Store conn.old).now) }
     ensures why { HasCleanDisk (state S.Store conn.new)
@@ -143,18 +169,15 @@ fn examine_room<S: Alter>(
     }
 }
 
-// The plan of a file and how much its room has, or what is wrong with its rows and terminals.
-fn judge(alloc: Global, whole: ReadFile) -> Result<(Plan, Summary), Wrong>
-    ensures sound { IfOk result (λ x. (x.0 ≡ whole.config.plan)
+// What was read of a file and how much its room has, or what is wrong with its rows and terminals.
+fn judge(alloc: Global, whole: ReadFile) -> Result<(ReadFile, Summary), Wrong>
+    ensures sound { IfOk result (λ x. (x.0 ≡ whole)
         × IsAmount whole.config.plan.areas x.1 whole.rows whole.config.terminals.items) }
     ensures wrong { IfErr result
         (Weighs whole.config.plan.areas whole.rows whole.config.terminals.items) }
 {
-    let weighed = weigh(alloc, &whole);
-    let ReadFile { config, rows } = whole;
-    drop(rows);
-    match weighed {
-        Ok(summary) => Ok((config.plan, summary)),
+    match weigh(alloc, &whole) {
+        Ok(summary) => Ok((whole, summary)),
         Err(wrong) => Err(wrong),
     }
 }

@@ -7,10 +7,11 @@ use Rattle.sqlite_trees.specs.declared.store.Store.{Ghosts}
 use Rattle.room_place.specs.Plans.{Layout, has_division}
 use Rattle.room_place.specs.declared.plans.Area.{Area}
 use Rattle.room_types_keyed.specs.Keyed.{put_row}
+use Rattle.room_types.specs.declared.changes.Change.{Change}
 use Rattle.room_types.specs.declared.fleet.Terminal.{Terminal}
 use Rattle.room_types.specs.declared.tables.Division.{Division}
 use Rattle.room_model.specs.Enrol.{terminal_key, token_cmp}
-use Rattle.room_model.specs.Room.{Room}
+use Rattle.room_model.specs.Room.{Room, apply}
 use Rattle.room_tables_schema.specs.Schema.{room_schema}
 use Rattle.room_tables_schema.specs.declared.database_faults.Fault.{Fault}
 use Rattle.room_tables_schema.specs.declared.database_faults.Fault.TheVariants as fault
@@ -52,3 +53,15 @@ pub record Begins {S : Type 0} (g : Ghosts S) (conn : Held S) (plan : Layout)
   pub settled : IsSettled (state g conn)
   pub schema : (state g conn).now.schema ≡ room_schema
   pub stands : StandsNew plan ts (state g conn).now.trees
+
+-- the tables stand for the room that changes make of the new one, with these terminals
+abbrev pub StandsWith : Layout → List Terminal → List Change → Trees → Type 0
+StandsWith plan ts changes trees =
+    Stands trees (config_of plan (in_order ts)) (apply (new_room plan) changes)
+
+-- The tables of an open connection are that room's, and this is committed.
+pub record BeginsWith {S : Type 0} (g : Ghosts S) (conn : Held S) (plan : Layout)
+    (ts : List Terminal) (changes : List Change) : Type 0 where
+  pub settled : IsSettled (state g conn)
+  pub schema : (state g conn).now.schema ≡ room_schema
+  pub stands : StandsWith plan ts changes (state g conn).now.trees

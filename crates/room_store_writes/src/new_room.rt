@@ -13,9 +13,9 @@ ghost use Rattle.room_tables_schema.specs.Schema.{no_schema, room_schema};
 ghost use Rattle.room_tables_schema.specs.FileConnections.{MayWrite};
 ghost use Rattle.room_tables.specs.Stands.{Configuration, Stands};
 ghost use Rattle.room_store_writes.specs.Transactions.{Leaves};
-ghost use Rattle.room_store_writes.specs.NewRoom.{Begins, StandsNew, new_division, new_divisions, put_all};
+ghost use Rattle.room_store_writes.specs.NewRoom.{Begins, BeginsWith, StandsNew, StandsWith, new_division, new_divisions, put_all};
 
-use crate::transactions::end;
+use crate::transactions::{end, put_each};
 use room_place::plans::{Area, DivisionNumber, Plan};
 use room_tables::area_table::put_area;
 use room_tables::meta_table::put_meta;
@@ -23,6 +23,7 @@ use room_tables::row_changes::put;
 use room_tables::terminal_table::put_terminal;
 use room_tables_schema::database_faults::Fault;
 use room_tables_schema::table_creation::make;
+use room_types::changes::Change;
 use room_types::fleet::Terminal;
 use room_types::numbers::LastNumber;
 use room_types::tables::Division;
@@ -49,6 +50,54 @@ pub fn create_in<S: Alter>(
     let mut tx = conn.transaction();
     let done = fill(&mut tx, plan, terminals);
     end(tx, done)
+}
+
+/// Makes the room and these changes in it in one transaction, or leaves the file as it was. So a
+/// stop leaves no room that has less.
+pub fn create_with<S: Alter>(
+    conn: &mut Connection<S>,
+    plan: &Plan,
+    terminals: &[Terminal],
+    changes: &[Change],
+) -> Result<(), Fault>
+    requires empty { (state S.Store conn.old).now.schema ≡ no_schema }
+    requires outside { conn.old.in_transaction ≡ false }
+    requires committed { IsTrue (state S.Store conn.old).is_open
+        → (state S.Store conn.old).now ≡ (state S.Store conn.old).committed }
+    ensures ok { HasCleanDisk (state S.Store conn.new)
+        → OnOk result (BeginsWith S.Store conn.new plan.now terminals.now changes.now) }
+    ensures err { HasCleanDisk (state S.Store conn.new)
+        → OnErr result (Leaves (state S.Store conn.old) (state S.Store conn.new)) }
+    ensures ended { conn.new.in_transaction ≡ false }
+    ensures survives { Survives (state S.Store conn.old) (state S.Store conn.new)
+        (StandsWith plan.now terminals.now changes.now) }
+{
+    let mut tx = conn.transaction();
+    let done = fill_with(&mut tx, plan, terminals, changes);
+    end(tx, done)
+}
+
+// Makes the tables of a new room, puts its rows in them, and makes the changes.
+fn fill_with<S: Alter>(
+    tx: &mut Transaction<'_, S>,
+    plan: &Plan,
+    terminals: &[Terminal],
+    changes: &[Change],
+) -> Result<(), Fault>
+    requires empty { HasCleanDisk (state S.Store tx.old.conn.now)
+        → (state S.Store tx.old.conn.now).now.schema ≡ no_schema }
+    requires inside { HasCleanDisk (state S.Store tx.old.conn.now)
+        → IsTrue (state S.Store tx.old.conn.now).in_transaction }
+    ensures same_reference { tx.new.conn.ghost_name ≡ tx.old.conn.ghost_name }
+    ensures ok { HasCleanDisk (state S.Store tx.new.conn.now)
+        → OnOk result (IsTrue (state S.Store tx.new.conn.now).in_transaction
+        × ((state S.Store tx.new.conn.now).now.schema ≡ room_schema)
+        × StandsWith plan.now terminals.now changes.now
+        (state S.Store tx.new.conn.now).now.trees) }
+    ensures commits { CommitsNothing S.Store tx.old.conn.now tx.new.conn.now }
+{
+    fill(tx, plan, terminals)?;
+    put_each(tx, changes)
 }
 
 // Makes the tables of a new room, and puts its rows in them.

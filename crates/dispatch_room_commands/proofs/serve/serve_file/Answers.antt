@@ -1,8 +1,19 @@
-use Rattle.std.proofs.Common.{inr, refl}
+use Rattle.std.proofs.Common.{false, sym, true, ◌∙◌}
+use Rattle.dispatch_room_commands.proofs.ServiceLemmas.{served, unserved}
 use Rattle.dispatch_room_commands.proofs.serve.serve_file.Goals as goal
 
-pub returns-in-Ok-clause-done : goal.returns-in-Ok-clause-done
-returns-in-Ok-clause-done g c = (c.new-listener.result, c.in-Ok.served, rw c.in_ok-journal.ensures.file at c.in-Ok.ensures.done, refl)
+pub returns-then-is_endless-clause-done : goal.returns-then-is_endless-clause-done
+returns-then-is_endless-clause-done g c =
+    served _ _ _ c.args.service true _ (sym c.is_endless.ensures ∙ c.if-is_endless.true) c.in_ok-journal.ensures.file c.serve_at_door.ensures.done
+
+pub returns-then-is_endless-clause-undone : goal.returns-then-is_endless-clause-undone
+returns-then-is_endless-clause-undone g c =
+    unserved _ _ _ c.args.service true _ (sym c.is_endless.ensures ∙ c.if-is_endless.true) c.in_ok-journal.ensures.file c.serve_at_door.ensures.undone
+
+pub returns-clause-done : goal.returns-clause-done
+returns-clause-done g c =
+    served _ _ _ c.args.service false _ (sym c.is_endless.ensures ∙ c.if-is_endless.false) c.in_ok-journal.ensures.file c.serve_at_address.ensures.done
 
 pub returns-clause-undone : goal.returns-clause-undone
-returns-clause-undone g c = inr (c.new-listener.result, rw c.in_ok-journal.ensures.file at c.in-Err.ensures.undone)
+returns-clause-undone g c =
+    unserved _ _ _ c.args.service false _ (sym c.is_endless.ensures ∙ c.if-is_endless.false) c.in_ok-journal.ensures.file c.serve_at_address.ensures.undone

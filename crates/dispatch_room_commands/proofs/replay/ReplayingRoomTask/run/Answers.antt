@@ -11,7 +11,7 @@ returns-clause-done g c =
       opens = c.in_ok-room.ensures.room;
       is_set = record { zone = c.in_ok-room.ensures.zone; history = refl };
       list = None;
-      read_failed = c.replay_in-done.new.list.failed;
+      read_failed = c.replay_in-done.new.list.reader.failed;
       replayed = said.replayed;
       answered = said.answered;
       closed = c.close.ensures;

@@ -1,0 +1,9 @@
+pub mod FrontLemmas
+pub mod ChainLemmas
+pub mod SaysLemmas
+pub mod SoundLemmas
+pub mod AgainLemmas
+pub mod StepLemmas
+pub mod TallyLemmas
+pub mod AdvanceLemmas
+pub mod RecordLemmas

@@ -1,0 +1,5 @@
+pub mod Chains
+pub mod Fronts
+pub mod ReelSteps
+pub mod ListTallies
+pub mod Laws

@@ -1,0 +1,5 @@
+use Rattle.dispatch_room_commands.proofs.WorkLemmas.{both}
+use Rattle.dispatch_room_commands.proofs.renew.BeginningRoomTask.run.Goals as goal
+
+pub returns-clause-done : goal.returns-clause-done
+returns-clause-done g c = both c.begin_in.result _ _ c.begin_in.ensures.begun c.begin_in.ensures.told

@@ -1,0 +1,152 @@
+//! A door at which nobody waits for who has not spoken: each connection is served in pieces, and
+//! between two of them it waits among the others.
+ghost use Rattle.std.specs.Prelude.{◌≡◌, IfErr, None, false, is_some};
+ghost use Rattle.dispatch_room_exit.specs.declared.exit_status.Failure.TheVariants.{Network};
+
+use crate::listeners::{Listener, bound};
+use dispatch_room_exit::exit_status::Failure;
+use dispatch_room_exit::explainer::Explainer;
+use dispatch_room_sockets::doors::Door;
+use dispatch_room_sockets::lingering_close::Parting;
+use dispatch_room_sockets::pieces::{PieceReader, PieceWriter, next_piece, take_back};
+use dispatch_room_sockets::waiting_callers::Waiting;
+use std::alloc::Global;
+use std::net::{SocketAddr, TcpListener};
+use std::time::Duration;
+
+/// A door at an address of TCP.
+#[derive(Drop)]
+pub struct TcpDoor<'a> {
+    rt: &'a HostRuntime,
+    explainer: Explainer<'a>,
+    alloc: Global,
+    address: SocketAddr,
+    // How long a connection may be silent.
+    keep: Duration,
+    // How long a request may take to come, and its answer to be taken.
+    patience: Duration,
+    waiting: Option<Waiting<Door<'a>>>,
+}
+
+impl<'a> TcpDoor<'a> {
+    /// A door at which nobody waits yet. Where nobody can listen there, it is explained why.
+    pub fn new(
+        rt: &'a HostRuntime,
+        explainer: Explainer<'a>,
+        alloc: Global,
+        address: SocketAddr,
+        keep: Duration,
+        patience: Duration,
+    ) -> TcpDoor<'a>
+        ensures { (result.address ≡ address) × (result.keep ≡ keep)
+            × (result.patience ≡ patience) }
+    {
+        TcpDoor {
+            rt,
+            explainer,
+            alloc,
+            address,
+            keep,
+            patience,
+            waiting: None,
+        }
+    }
+
+    // Those who wait where this listens. A failure is the network's.
+    fn opened(&self, listener: TcpListener) -> Result<Waiting<Door<'a>>, Failure>
+        ensures fault { IfErr result (λ fault. fault ≡ Network) }
+    {
+        let door = match Door::new(self.rt, self.alloc, listener) {
+            Ok(door) => door,
+            Err(error) => {
+                let address = self.address;
+                self.explainer.explain(format_args!("{address}: {error}"));
+                return Err(Failure::Network);
+            }
+        };
+        match Waiting::new(self.alloc, door, self.keep, self.patience) {
+            Ok(waiting) => Ok(waiting),
+            Err(_) => Err(Failure::Network),
+        }
+    }
+}
+
+/// The peer of a piece that was served. It isn't parted from here, but among the others.
+#[derive(Drop)]
+pub struct PiecePeer<'a> {
+    reader: PieceReader<'a>,
+    writer: PieceWriter<'a>,
+}
+
+// What was done with a socket no contract can say.
+impl<'a> Parting for PiecePeer<'a> {
+    ghost left = { λ _. None };
+
+    ghost done = { λ _. None };
+
+    ghost is_open = { λ _. false };
+
+    ghost answered = { λ _. None };
+
+    fn is_open(&self) -> bool {
+        false
+    }
+
+    fn answered(&self) -> Option<Duration> {
+        None
+    }
+
+    fn shut(&mut self) -> bool {
+        false
+    }
+
+    fn throw_away(&mut self, _moment: Duration) -> bool {
+        false
+    }
+}
+
+// What is said on a socket no contract can say.
+impl<'a> Listener for TcpDoor<'a> {
+    type Reader = PieceReader<'a>;
+
+    type Writer = PieceWriter<'a>;
+
+    type Peer = PiecePeer<'a>;
+
+    ghost heard = { λ _. None };
+
+    ghost told = { λ _. None };
+
+    ghost is_listening = { λ it. is_some it.waiting };
+
+    ghost parted = { λ _. None };
+
+    ghost peer_of = { λ reader writer. record { reader = reader; writer = writer } };
+
+    fn listen(&mut self) -> Result<(), Failure> {
+        match bound(self.rt, self.explainer, self.address) {
+            Ok(listener) => match self.opened(listener) {
+                Ok(waiting) => {
+                    self.waiting = Some(waiting);
+                    Ok(())
+                }
+                Err(fault) => Err(fault),
+            },
+            Err(fault) => Err(fault),
+        }
+    }
+
+    fn accept(&mut self) -> Option<(Self::Reader, Self::Writer)> {
+        next_piece(self.rt, self.waiting.as_mut()?, self.patience)
+    }
+
+    fn peer(&mut self, reader: Self::Reader, writer: Self::Writer) -> Self::Peer {
+        PiecePeer { reader, writer }
+    }
+
+    fn let_go(&mut self, peer: Self::Peer) {
+        if let Some(waiting) = &mut self.waiting {
+            take_back(waiting, peer.reader, peer.writer);
+        }
+    }
+}

@@ -1,0 +1,112 @@
+//! `verify`: how much a list holds, or at which record it is none.
+ghost use Rattle.std.specs.Prelude.{◌≡◌, ◌⊎◌, ℕ, List, Some, false, IfErr, IfOk, OnErr, OnOk};
+ghost use Rattle.std.specs.Io.KnownBytes.{Appends};
+ghost use Rattle.dispatch_room_chain.specs.ListTallies.{IsVerified};
+ghost use Rattle.dispatch_room_exit.specs.declared.exit_status.Done.TheVariants.{Whole};
+ghost use Rattle.dispatch_room_exit.specs.declared.exit_status.Failure.TheVariants.{Network};
+ghost use Rattle.dispatch_room_commands.specs.DoneTasks.{FailsVerify, IsVerify};
+ghost use Rattle.dispatch_room_commands.specs.Verified.{IsUnverified, span_text, tally_text};
+
+use dispatch_room_chain::list_tallies::{Flaw, Span, Tally};
+use dispatch_room_chain::unchained::Unchained;
+use dispatch_room_chain::verification::verify;
+use dispatch_room_exit::exit_status::{Done, Failure};
+use dispatch_room_exit::explainer::Explainer;
+use dispatch_room_journal::entry_reader::EntryFault;
+use dispatch_room_journal::journal_inbox::JournalInbox;
+use room_http_messages::sources::Source;
+use room_http_messages::standard_wires::Wire;
+use std::alloc::Global;
+use std::fs::File;
+use std::io::{ErrorKind, Write};
+
+/// Prints how many messages a list has, when the first came and the last, and whether the list ended
+/// well; or fails at the record at which it is none.
+pub fn verify_list<O: Write>(
+    rt: &HostRuntime,
+    explainer: Explainer<'_>,
+    alloc: Global,
+    path: &str,
+    out: &mut O,
+) -> Result<Done, Failure>
+    ensures done { IfOk result (IsVerify (O.contents out.old) (O.contents out.new)) }
+    ensures undone { IfErr result (FailsVerify (O.contents out.old) (O.contents out.new)) }
+{
+    let file = opened(rt, explainer, path)?;
+    verify_in(alloc, Unchained::new(Wire::new(&file)), out)
+}
+
+// The file of a list.
+fn opened(rt: &HostRuntime, explainer: Explainer<'_>, path: &str) -> Result<File, Failure>
+    ensures { IfErr result IsUnverified }
+{
+    match File::open(rt, path) {
+        Ok(file) => Ok(file),
+        Err(error) if error.kind() == ErrorKind::OutOfMemory => Err(Failure::Memory),
+        Err(error) => {
+            explainer.explain(format_args!("{path}: {error}"));
+            Err(Failure::Input)
+        }
+    }
+}
+
+// Prints what a list holds that is read.
+fn verify_in<R: Source + Drop, O: Write>(
+    alloc: Global,
+    mut list: Unchained<R>,
+    out: &mut O,
+) -> Result<Done, Failure>
+    requires { R.has_failed list.reader ≡ false }
+    ensures done { IfOk result (IsVerify (O.contents out.old) (O.contents out.new)) }
+    ensures undone { IfErr result (FailsVerify (O.contents out.old) (O.contents out.new)) }
+{
+    let Ok(mut inbox) = JournalInbox::new(alloc) else {
+        return Err(Failure::Memory);
+    };
+    match verify(&mut inbox, &mut list) {
+        Ok(tally) => tell(&tally, list.ended_well(), out),
+        Err(flaw) => Err(failure_of(&flaw)),
+    }
+}
+
+// Why a list is none, as the program reports it.
+fn failure_of(flaw: &Flaw) -> Failure
+    ensures { IsUnverified result }
+{
+    match flaw.fault {
+        EntryFault::Cut | EntryFault::Foreign => Failure::Record(flaw.number),
+        EntryFault::Read => Failure::Network,
+    }
+}
+
+// Prints what a list holds.
+fn tell<O: Write>(tally: &Tally, has_ended: bool, out: &mut O) -> Result<Done, Failure>
+    ensures told { OnOk result (Appends (O.contents out.old) (O.contents out.new)
+        (tally_text tally.now has_ended)) }
+    ensures whole { IfOk result (λ done. done ≡ Whole) }
+    ensures failed { IfErr result (λ fault. fault ≡ Network) }
+{
+    if writeln!(out, "verified {}", tally.records).is_err() {
+        return Err(Failure::Network);
+    }
+    if let Some(span) = tally.span {
+        tell_span(&span, out)?;
+    }
+    let end = if has_ended { "ended\n" } else { "not ended\n" };
+    match out.write_all(end.as_bytes()) {
+        Ok(()) => Ok(Done::Whole),
+        Err(_) => Err(Failure::Network),
+    }
+}
+
+// Prints when the messages of a list came.
+fn tell_span<O: Write>(span: &Span, out: &mut O) -> Result<(), Failure>
+    ensures told { OnOk result
+        (Appends (O.contents out.old) (O.contents out.new) (span_text (Some span.now))) }
+    ensures failed { IfErr result (λ fault. fault ≡ Network) }
+{
+    match writeln!(out, "from {} to {}", span.first.get(), span.last.get()) {
+        Ok(()) => Ok(()),
+        Err(_) => Err(Failure::Network),
+    }
+}

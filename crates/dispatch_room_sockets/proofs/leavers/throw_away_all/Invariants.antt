@@ -1,0 +1,14 @@
+use Rattle.std.proofs.Common.{◌≡◌, ◌-◌, ◌≤◌, ◌<◌, ◌++◌, List, All, length}
+use Rattle.std.specs.Duration.{as_nanos}
+use Rattle.std.specs.VecDeque.{deque_capacity, deque_len}
+use Rattle.dispatch_room_sockets.proofs.LeaverLaws.{AreInTime}
+use Rattle.dispatch_room_sockets.proofs.leavers.throw_away_all.Given as goal
+
+abbrev pub invariant-loop-leaver : goal.invariant-loop-leaver
+invariant-loop-leaver g l = record {
+  in_time : AreInTime l.now (l._leaver-end - l._leaver) l.leavers.items;
+  came : g.E.Entrance.came l.entrance ≡ g.E.Entrance.came l.initial.entrance;
+  heard : g.E.Entrance.heard l.entrance ≡ g.E.Entrance.heard l.initial.entrance;
+  bound : deque_len l.leavers ≤ deque_len l.initial.leavers;
+  capacity : deque_capacity l.leavers ≡ deque_capacity l.initial.leavers;
+}

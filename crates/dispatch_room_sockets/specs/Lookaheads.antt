@@ -1,0 +1,33 @@
+-- What stands ahead in a stream.
+use Rattle.std.specs.Prelude.{◌≡◌, ◌⊎◌, ℕ, List, ◌++◌, Bool, true, false}
+use Rattle.room_types.specs.declared.refusals.Refusal.{Refusal}
+use Rattle.room_http_messages.specs.declared.messages.Layout.{Layout}
+use Rattle.room_http_messages.specs.Layouts.{IsWhole}
+use Rattle.room_http_messages.specs.Messages.{IsPart, IsRefused}
+use Rattle.dispatch_room_sockets.specs.declared.lookaheads.Lookahead.{Lookahead}
+use Rattle.dispatch_room_sockets.specs.declared.lookaheads.Lookahead.TheVariants as ahead
+use Rattle.dispatch_room_sockets.specs.declared.kept_callers.Heard.{Heard}
+use Rattle.dispatch_room_sockets.specs.declared.kept_callers.Heard.TheVariants as heard
+
+-- these bytes are refused, whatever follows
+abbrev pub AreRefused : List ℕ → Type 0
+AreRefused bytes = (refusal : Refusal) × (head_only : Bool)
+    × ((more : List ℕ) → IsRefused (bytes ++ more) refusal head_only)
+
+-- What the bytes at the front of a stream are that has ended after them, or may go on: a request
+-- that is whole and so many bytes long, what is refused or can't be whole any more, or a part.
+abbrev pub LookaheadIs : List ℕ → Bool → Lookahead → Type 0
+LookaheadIs bytes has_ended (ahead.Whole size) =
+    (layout : Layout) × IsWhole bytes layout × (size ≡ layout.body.end)
+LookaheadIs bytes has_ended ahead.Last = AreRefused bytes ⊎ ((has_ended ≡ true) × IsPart bytes)
+LookaheadIs bytes has_ended ahead.Part = (has_ended ≡ false) × IsPart bytes
+LookaheadIs bytes has_ended ahead.Nothing = ⊥
+LookaheadIs bytes has_ended ahead.End = ⊥
+
+-- what is heard of one in whose stream this stands ahead
+abbrev pub heard_of : Lookahead → Heard
+heard_of ahead.Nothing = heard.Nothing
+heard_of ahead.Part = heard.Part
+heard_of (ahead.Whole size) = heard.Whole
+heard_of ahead.Last = heard.Whole
+heard_of ahead.End = heard.Gone

@@ -1,0 +1,283 @@
+//! The door of a room: its sockets, and the system's set of those that move.
+
+use crate::entrances::Entrance;
+use crate::kept_callers::{Heard, is_over};
+use crate::lookaheads::{Lookahead, look_ahead};
+use crate::readiness::ready_now;
+use crate::timeouts::earlier;
+use libc::types::rlimit;
+use libc::{RLIMIT_NOFILE, getrlimit};
+use mio::event::Events;
+use mio::unix::SourceFd;
+use mio::{Interest, Poll, Token};
+use std::alloc::Global;
+use std::io::{Error, ErrorKind, Read};
+use std::net::{TcpListener, TcpStream};
+use std::os::fd::{AsRawFd, RawFd};
+use std::time::{Clock, Duration};
+use std::{io, thread};
+
+// In how many slots it is noted who has moved. Of two that share one, each is looked at where
+// either has moved.
+const SLOTS: usize = 4096;
+
+// How many of those that move are reported by one wait.
+const MOST_EVENTS: usize = 1100;
+
+// How many milliseconds nobody is accepted after a connection that the system could not give, as
+// where too many files are open: it would say the same again at once.
+pub(crate) const PAUSE: u64 = 100;
+
+// How many descriptors are left to the room itself: its files, and the second one of who is served.
+const SPARE: u64 = 8;
+
+// How many bytes are thrown away by one read, and by how many reads in one look: who sends more
+// than that meanwhile is let go.
+const PIECE: usize = 4096;
+
+const MOST_PIECES: u32 = 4096;
+
+/// A connection of one who called.
+#[derive(Drop)]
+pub struct Client {
+    pub(crate) stream: TcpStream,
+    // What stood ahead when it was looked at last.
+    pub(crate) ahead: Lookahead,
+    slot: usize,
+    // Whether it is looked at whoever has moved.
+    is_fresh: bool,
+    // Whether it is in the set of those whose moves are reported.
+    is_watched: bool,
+}
+
+impl Client {
+    // A connection that was not looked at yet.
+    fn new(stream: TcpStream, slot: usize) -> Client {
+        Client {
+            stream,
+            ahead: Lookahead::Nothing,
+            slot,
+            is_fresh: true,
+            is_watched: false,
+        }
+    }
+
+    /// From now on it is looked at anew.
+    pub(crate) fn refresh(&mut self) {
+        self.is_fresh = true;
+    }
+}
+
+// The first of the descriptors that are left to the room itself: the system gives the lowest that is
+// free. Where it can't be known how many there are, the system says when there are no more.
+fn first_spare() -> RawFd {
+    let mut limit = rlimit {
+        rlim_cur: 0,
+        rlim_max: 0,
+    };
+    if getrlimit(RLIMIT_NOFILE, &mut limit) != 0 {
+        return RawFd::MAX;
+    }
+    RawFd::try_from(limit.rlim_cur.saturating_sub(SPARE)).unwrap_or(RawFd::MAX)
+}
+
+/// A door at which those who call are accepted.
+#[derive(Drop)]
+pub struct Door<'a> {
+    rt: &'a HostRuntime,
+    listener: TcpListener,
+    poll: Poll,
+    events: Events<Global>,
+    // Which wait reported last that something moved in a slot.
+    moved: Vec<u64>,
+    wait: u64,
+    // The slot of the next who calls.
+    slot: usize,
+    // Whether someone may be calling.
+    is_called: bool,
+    // Until when nobody is accepted.
+    deaf_until: Duration,
+    // Whether the last who was accepted has a descriptor that is to be left to the room itself.
+    is_full: bool,
+}
+
+impl<'a> Door<'a> {
+    /// The door where this listens.
+    pub fn new(rt: &'a HostRuntime, alloc: Global, listener: TcpListener) -> io::Result<Door<'a>> {
+        listener.set_nonblocking(true)?;
+        let poll = Poll::new(rt)?;
+        let fd = listener.as_raw_fd();
+        poll.registry()
+            .register(&mut SourceFd(&fd), Token(SLOTS), Interest::READABLE)?;
+        Ok(Door {
+            rt,
+            listener,
+            poll,
+            events: Events::with_capacity(alloc, MOST_EVENTS)?,
+            moved: vec![in alloc; 0; SLOTS]?,
+            wait: 0,
+            slot: 0,
+            is_called: true,
+            deaf_until: Duration::ZERO,
+            is_full: false,
+        })
+    }
+
+    /// What can be read from once someone moves who is watched, or calls.
+    pub(crate) fn set(&self) -> RawFd {
+        self.poll.as_raw_fd()
+    }
+
+    // Whether the last wait reported that something moved in this slot.
+    fn has_moved(&self, slot: usize) -> bool {
+        match self.moved.get(slot) {
+            Some(wait) => *wait == self.wait,
+            None => true,
+        }
+    }
+
+    // Lets the moves of one be reported. Where that can't be, it is looked at whoever has moved.
+    fn watch(&self, client: &mut Client) {
+        if client.is_watched {
+            return;
+        }
+        let fd = client.stream.as_raw_fd();
+        let registered = self
+            .poll
+            .registry()
+            .register(&mut SourceFd(&fd), Token(client.slot), Interest::READABLE);
+        client.is_watched = registered.is_ok();
+        client.is_fresh = registered.is_err();
+    }
+
+    /// Lets the moves of one not be reported any longer.
+    pub(crate) fn release(&self, client: &mut Client) {
+        if client.is_watched {
+            let fd = client.stream.as_raw_fd();
+            let _ = self.poll.registry().deregister(&mut SourceFd(&fd));
+            client.is_watched = false;
+        }
+    }
+
+    // Notes why nobody could be accepted.
+    fn note(&mut self, error: &Error) {
+        match error.kind() {
+            ErrorKind::WouldBlock => self.is_called = false,
+            ErrorKind::ConnectionAborted => {}
+            _ => self.pause(),
+        }
+    }
+
+    // Accepts nobody for a while.
+    fn pause(&mut self) {
+        if let Ok(now) = self.rt.monotonic() {
+            self.deaf_until = now.saturating_add(Duration::from_millis(PAUSE));
+        }
+    }
+
+    // Whether the next descriptor is one of those that are left to the room itself.
+    fn lacks_descriptors(&self) -> bool {
+        match self.listener.try_clone() {
+            Ok(listener) => listener.as_raw_fd() >= first_spare(),
+            Err(_) => true,
+        }
+    }
+
+    // Whether nobody is accepted for a while.
+    fn is_deaf(&self) -> bool {
+        match self.rt.monotonic() {
+            Ok(now) => !is_over(now, self.deaf_until),
+            Err(_) => true,
+        }
+    }
+}
+
+// What is said on a socket no contract can say.
+impl<'a> Entrance for Door<'a> {
+    type Caller = Client;
+
+    ghost use Rattle.std.specs.Prelude.{None};
+
+    ghost came = { λ _. None };
+
+    ghost heard = { λ _. None };
+
+    fn accept(&mut self) -> Option<Client> {
+        if !self.is_called || self.is_deaf() {
+            return None;
+        }
+        if self.is_full && self.lacks_descriptors() {
+            self.pause();
+            return None;
+        }
+        match self.listener.accept() {
+            Ok((stream, _)) => {
+                let _ = stream.set_nodelay(true);
+                self.is_full = stream.as_raw_fd() >= first_spare();
+                let slot = self.slot;
+                let next = slot.saturating_add(1);
+                self.slot = if next < SLOTS { next } else { 0 };
+                Some(Client::new(stream, slot))
+            }
+            Err(error) => {
+                self.note(&error);
+                None
+            }
+        }
+    }
+
+    fn look(&mut self, client: &mut Client) -> Heard {
+        if client.is_fresh || self.has_moved(client.slot) {
+            client.is_fresh = false;
+            client.ahead = look_ahead(&client.stream, ready_now(&client.stream));
+            if matches!(client.ahead, Lookahead::Nothing | Lookahead::Part) {
+                self.watch(client);
+            }
+        }
+        client.ahead.heard()
+    }
+
+    fn throw_away(&mut self, client: &mut Client) -> bool {
+        if !client.is_fresh && !self.has_moved(client.slot) {
+            return true;
+        }
+        client.is_fresh = false;
+        let mut piece = [0; PIECE];
+        for _piece in 0..MOST_PIECES {
+            if !ready_now(&client.stream).is_readable {
+                self.watch(client);
+                return true;
+            }
+            match client.stream.read(&mut piece) {
+                Ok(0) | Err(_) => return false,
+                Ok(_) => {}
+            }
+        }
+        false
+    }
+
+    fn wait(&mut self, most: Duration) {
+        let pause = Duration::from_millis(PAUSE);
+        let most = if self.is_called {
+            earlier(most, pause)
+        } else {
+            most
+        };
+        self.wait = self.wait.saturating_add(1);
+        if self.poll.poll(&mut self.events, Some(most)).is_err() {
+            thread::sleep(self.rt, pause);
+            return;
+        }
+        for event in self.events.iter() {
+            let Token(slot) = event.token();
+            match self.moved.get_mut(slot) {
+                Some(wait) => *wait = self.wait,
+                None => self.is_called = true,
+            }
+        }
+    }
+
+    fn now(&self) -> Option<Duration> {
+        self.rt.monotonic().ok()
+    }
+}

@@ -1,0 +1,42 @@
+//! Where those who call come in, and where they are looked at.
+ghost use Rattle.std.specs.Prelude.{◌≡◌, List, [], ◌∷◌, Option, option_to_list};
+ghost use Rattle.dispatch_room_sockets.specs.Growths.{Grows};
+ghost use Rattle.dispatch_room_sockets.specs.declared.kept_callers.Heard.{Heard as Found};
+
+use crate::kept_callers::Heard;
+use std::time::Duration;
+
+/// Where those who call come in. Nobody is waited for but by `wait`, and then for all of them.
+pub trait Entrance: Drop {
+    /// One who calls.
+    type Caller: Drop;
+
+    // Those who came so far, in their order, where they are known.
+    ghost came: { Self → Option (List Self.Caller) };
+
+    // What each look found so far, where that is known.
+    ghost heard: { Self → Option (List Found) };
+
+    /// The next who calls, where one does.
+    fn accept(&mut self) -> Option<Self::Caller>
+        ensures came { Grows (came self.old) (came self.new) (option_to_list result) }
+        ensures heard { heard self.new ≡ heard self.old };
+
+    /// Looks at what one has said, and takes none of it.
+    fn look(&mut self, caller: &mut Self::Caller) -> Heard
+        ensures came { came self.new ≡ came self.old }
+        ensures heard { Grows (heard self.old) (heard self.new) (result ∷ []) };
+
+    /// Throws away what one still says who is parted from, and says whether more may come.
+    fn throw_away(&mut self, caller: &mut Self::Caller) -> bool
+        ensures came { came self.new ≡ came self.old }
+        ensures heard { heard self.new ≡ heard self.old };
+
+    /// Waits until someone moves, and so long at most.
+    fn wait(&mut self, most: Duration)
+        ensures came { came self.new ≡ came self.old }
+        ensures heard { heard self.new ≡ heard self.old };
+
+    /// The moment that it is: none where the clock can't be read.
+    fn now(&self) -> Option<Duration>;
+}

@@ -1,0 +1,268 @@
+//! A connection is served in pieces: each is whole requests, and between two of them others are
+//! served.
+ghost use Rattle.std.specs.Prelude.{◌≡◌, ◌≤◌, ◌||◌, IfOk, IfSome, None, false, is_err, length};
+ghost use Rattle.room_http_messages.specs.Streams.{found_end, known_count};
+
+use crate::doors::{Client, Door, PAUSE};
+use crate::entrances::Entrance;
+use crate::kept_callers::{Kept, is_over};
+use crate::lookaheads::{Lookahead, look_ahead};
+use crate::readiness::{ready_before, ready_now};
+use crate::socket_writers::SocketWriter;
+use crate::waiting_callers::Waiting;
+use room_http_messages::limits::INBOX_ROOM;
+use room_http_messages::sources::{ReadFailed, Source};
+use std::io::Read;
+use std::net::TcpStream;
+use std::os::fd::RawFd;
+use std::thread;
+use std::time::{Clock, Duration};
+
+// How many milliseconds one who asks without a pause is served while others move.
+const TURN: u64 = 50;
+
+// How many reads a piece has at most.
+const MOST_READS: u32 = 50_000;
+
+/// A piece of a stream, which is read from: it ends where the next request isn't whole, or where
+/// its turn is over. None of the bytes behind a request is taken before that is whole.
+#[derive(Drop)]
+pub struct PieceReader<'a> {
+    rt: &'a HostRuntime,
+    kept: Kept<Client>,
+    // What can be read from once someone else moves.
+    elsewhere: RawFd,
+    // Until when it goes on while nobody else moves.
+    alone_until: Duration,
+    // Until when it goes on all the same.
+    turn_ends: Duration,
+    // How many bytes of a request that is whole are not taken yet.
+    left: usize,
+    // Whether nothing was read yet.
+    is_first: bool,
+    // Whether all that comes is taken: it is refused, or can't be whole any more.
+    is_last: bool,
+    reads: u32,
+    // Whether a read failed.
+    failed: bool,
+    // Whether the end of the piece or of the stream was found.
+    ended: bool,
+    // Whether the piece ended, and the stream may go on.
+    is_paused: bool,
+}
+
+impl<'a> PieceReader<'a> {
+    // The piece that begins with what stands ahead, and whose turn begins now. It goes on so long
+    // while nobody else moves.
+    fn new(
+        rt: &'a HostRuntime,
+        kept: Kept<Client>,
+        elsewhere: RawFd,
+        pause: Duration,
+        now: Duration,
+    ) -> PieceReader<'a>
+        ensures sound { result.failed ≡ false }
+        ensures kept { result.kept ≡ kept }
+    {
+        PieceReader {
+            rt,
+            kept,
+            elsewhere,
+            alone_until: now.saturating_add(pause),
+            turn_ends: now.saturating_add(Duration::from_millis(TURN)),
+            left: 0,
+            is_first: true,
+            is_last: false,
+            reads: 0,
+            failed: false,
+            ended: false,
+            is_paused: false,
+        }
+    }
+
+    // Whether another request begins, or the last of the stream, and how much of it is taken.
+    fn begins(&mut self) -> bool
+        ensures same { (self.new.failed ≡ self.old.failed) × (self.new.ended ≡ self.old.ended)
+            × (self.new.reads ≡ self.old.reads) }
+    {
+        let ahead = if self.is_first {
+            self.kept.caller.ahead
+        } else {
+            self.next()
+        };
+        match ahead {
+            Lookahead::Whole(size) => self.left = size,
+            Lookahead::Last | Lookahead::End => self.is_last = true,
+            // Its time is over, where it was given.
+            Lookahead::Part if self.is_first => self.is_last = true,
+            Lookahead::Part | Lookahead::Nothing => return false,
+        }
+        self.is_first = false;
+        true
+    }
+
+    // What stands ahead after a request. While nobody else moves, it is waited for.
+    fn next(&mut self) -> Lookahead
+        ensures same { (self.new.failed ≡ self.old.failed) × (self.new.ended ≡ self.old.ended)
+            × (self.new.reads ≡ self.old.reads) }
+    {
+        let Ok(now) = self.rt.monotonic() else {
+            return Lookahead::Nothing;
+        };
+        let most = self.alone_until.saturating_sub(now);
+        let (ready, is_elsewhere) = ready_before(&self.kept.caller.stream, self.elsewhere, most);
+        if is_elsewhere {
+            self.alone_until = now;
+        }
+        if self.has_had_its_turn() {
+            return Lookahead::Nothing;
+        }
+        look_ahead(&self.kept.caller.stream, ready)
+    }
+
+    // Whether others are served before it goes on.
+    fn has_had_its_turn(&self) -> bool {
+        match self.rt.monotonic() {
+            Ok(now) => {
+                self.reads > MOST_READS
+                    || is_over(now, self.alone_until) && is_over(now, self.turn_ends)
+            }
+            Err(_) => true,
+        }
+    }
+
+    // Takes what comes next, of a request that is whole no more than its bytes. Nobody is waited
+    // for.
+    fn take(&mut self, buf: &mut [u8]) -> Result<usize, ReadFailed>
+        ensures bound { IfOk result (λ n. n ≤ length buf.new) }
+        ensures same { (self.new.failed ≡ self.old.failed) × (self.new.ended ≡ self.old.ended)
+            × (self.new.reads ≡ self.old.reads) }
+    {
+        let most = if self.is_last {
+            buf.len()
+        } else {
+            buf.len().min(self.left)
+        };
+        let stream = &mut self.kept.caller.stream;
+        if self.is_last && !ready_now(stream).is_readable {
+            return Err(ReadFailed);
+        }
+        match stream.read(&mut buf[..most]) {
+            Ok(count) => {
+                self.left = self.left.saturating_sub(count);
+                Ok(count)
+            }
+            Err(_) => Err(ReadFailed),
+        }
+    }
+
+    // Gives what comes next: nothing where the piece has ended.
+    fn give(&mut self, buf: &mut [u8]) -> Result<usize, ReadFailed>
+        ensures bound { IfOk result (λ n. n ≤ length buf.new) }
+        ensures same { (self.new.failed ≡ self.old.failed) × (self.new.ended ≡ self.old.ended)
+            × (self.new.reads ≡ self.old.reads) }
+    {
+        if buf.len() == INBOX_ROOM && !self.begins() {
+            self.is_paused = true;
+            return Ok(0);
+        }
+        self.take(buf)
+    }
+
+    // Notes what a read gave that had so much room.
+    fn note(&mut self, given: Result<usize, ReadFailed>, room: usize)
+        ensures failed { self.new.failed ≡ (self.old.failed || is_err given) }
+        ensures ended { self.new.ended ≡ (self.old.ended || found_end given room) }
+        ensures same { self.new.reads ≡ self.old.reads }
+    {
+        match given {
+            Ok(count) => {
+                if count == 0 && room != 0 {
+                    self.ended = true;
+                }
+            }
+            Err(_) => self.failed = true,
+        }
+    }
+
+    // Whether the peer may still be written to, and may say more.
+    fn is_open(&self) -> bool {
+        !self.failed && !self.ended
+    }
+}
+
+impl<'a> Source for PieceReader<'a> {
+    ghost left = { λ _. None };
+
+    ghost reads = { λ r. known_count r.reads };
+
+    ghost has_failed = { λ r. r.failed };
+
+    ghost has_ended = { λ r. r.ended };
+
+    fn read(&mut self, buf: &mut [u8]) -> Result<usize, ReadFailed> {
+        self.reads = self.reads.saturating_add(1);
+        let given = self.give(buf);
+        self.note(given, buf.len());
+        given
+    }
+}
+
+/// What is written to on a connection.
+pub type PieceWriter<'a> = SocketWriter<'a, TcpStream, HostRuntime>;
+
+/// The two sides of the next piece, where someone is to be served.
+pub fn next_piece<'a>(
+    rt: &'a HostRuntime,
+    waiting: &mut Waiting<Door<'a>>,
+    patience: Duration,
+) -> Option<(PieceReader<'a>, PieceWriter<'a>)>
+    ensures reader { IfSome result (λ sides. sides.0.failed ≡ false) }
+    ensures writer { IfSome result (λ sides. sides.1.failed ≡ false) }
+{
+    let mut kept = waiting.next()?;
+    let now = rt.monotonic().ok()?;
+    let pause = if waiting.is_awaited() {
+        Duration::ZERO
+    } else {
+        waiting.pause(now)
+    };
+    let door = waiting.entrance();
+    door.release(&mut kept.caller);
+    let elsewhere = door.set();
+    let Ok(stream) = kept.caller.stream.try_clone() else {
+        // Without a descriptor nobody can be served.
+        thread::sleep(rt, Duration::from_millis(PAUSE));
+        kept.caller.refresh();
+        waiting.take_back(kept);
+        return None;
+    };
+    // Each answer has its patience: there is no last moment for all of them.
+    let last = Duration::from_secs(u64::MAX);
+    let writer = SocketWriter::new(stream, rt, patience, last);
+    Some((PieceReader::new(rt, kept, elsewhere, pause, now), writer))
+}
+
+/// Takes the sides of a piece back that was served. Where the stream may go on, its next request is
+/// waited for among the others; else it is parted from.
+pub fn take_back<'a>(
+    waiting: &mut Waiting<Door<'a>>,
+    reader: PieceReader<'a>,
+    writer: PieceWriter<'a>,
+) {
+    let Some(until) = writer.answered() else {
+        return;
+    };
+    let is_open = reader.is_open();
+    let PieceReader {
+        mut kept,
+        is_paused,
+        ..
+    } = reader;
+    kept.caller.refresh();
+    if is_paused {
+        waiting.take_back(kept);
+    } else if is_open && writer.shut() {
+        waiting.part(kept, until);
+    }
+}

@@ -1,0 +1,207 @@
+//! Those who wait: each is kept until a request of theirs is whole, and is then given in that
+//! order, so that nobody waits for who has not spoken.
+ghost use Rattle.std.specs.Prelude.{◌≡◌, ◌+◌, ◌≤◌, IfOk};
+ghost use Rattle.std.specs.VecDeque.{deque_len, deque_capacity};
+
+use crate::entrances::Entrance;
+use crate::kept_callers::Kept;
+use crate::leavers::{Leaver, throw_away_all};
+use crate::lines::{admit, look_at_all};
+use crate::timeouts::earlier;
+use std::alloc::{AllocError, Global};
+use std::collections::VecDeque;
+use std::time::Duration;
+
+// How many are kept at most, those who are parted from among them. More wait in the system's queue.
+const MOST_KEPT: usize = 1024;
+
+// How many seconds it is waited at most for someone to move.
+const LONGEST_PAUSE: u64 = 1;
+
+/// Those who wait, and where they come in.
+#[derive(Drop)]
+pub struct Waiting<E: Entrance> {
+    entrance: E,
+    // Those who are looked at, in the order in which they came or came back.
+    line: VecDeque<Kept<E::Caller>>,
+    // Those who are to be served, in the order in which a look found that.
+    ready: VecDeque<Kept<E::Caller>>,
+    leavers: VecDeque<Leaver<E::Caller>>,
+    // The number of the next who calls.
+    next: u64,
+    // How long one may be silent.
+    keep: Duration,
+    // How long a request may take.
+    patience: Duration,
+    ghost line_room: { 1024 ≤ deque_capacity line },
+    ghost ready_room: { 1024 ≤ deque_capacity ready },
+    ghost leavers_room: { 1024 ≤ deque_capacity leavers },
+    ghost few: { deque_len line + deque_len ready ≤ 1024 },
+    ghost few_leave: { deque_len leavers ≤ 1024 },
+}
+
+impl<E: Entrance> Waiting<E> {
+    ghost use Rattle.dispatch_room_sockets.specs.CallerHistories.{AreInTime, ComesBack, GivesNext};
+    ghost use Rattle.dispatch_room_sockets.specs.Rounds.{IsRound};
+    ghost use Rattle.std.specs.Prelude.{[], None, ◌<◌};
+    ghost use Rattle.std.specs.Duration.{as_nanos};
+
+    /// Nobody waits yet where they come in. Each may be silent so long, and a request may take so
+    /// long.
+    pub fn new(
+        alloc: Global,
+        entrance: E,
+        keep: Duration,
+        patience: Duration,
+    ) -> Result<Waiting<E>, AllocError>
+        ensures entrance { IfOk result (λ it. it.entrance ≡ entrance) }
+        ensures empty { IfOk result (λ it. (it.line.items ≡ []) × (it.ready.items ≡ [])
+            × (it.next ≡ 0)) }
+        ensures times { IfOk result (λ it. (it.keep ≡ keep) × (it.patience ≡ patience)) }
+    {
+        Ok(Waiting {
+            entrance,
+            line: VecDeque::with_capacity(alloc, MOST_KEPT)?,
+            ready: VecDeque::with_capacity(alloc, MOST_KEPT)?,
+            leavers: VecDeque::with_capacity(alloc, MOST_KEPT)?,
+            next: 0,
+            keep,
+            patience,
+        })
+    }
+
+    /// The next who is to be served. Where nobody is yet, all are looked at, and then waited for a
+    /// while, and it may be nobody.
+    pub fn next(&mut self) -> Option<Kept<E::Caller>>
+        ensures given { GivesNext self.old.line.items self.old.ready.items self.old.next
+            self.new.line.items self.new.ready.items self.new.next result }
+    {
+        if self.ready.is_empty() {
+            self.look_around();
+        }
+        self.ready.pop_front()
+    }
+
+    // Looks at all as they have moved by now, and where that finds nobody to be served, waits until
+    // someone moves and looks at all again.
+    fn look_around(&mut self)
+        ensures given { GivesNext self.old.line.items self.old.ready.items self.old.next
+            self.new.line.items self.new.ready.items self.new.next None }
+    {
+        self.wait(Duration::ZERO);
+        if self.ready.is_empty() {
+            let pause = self.longest_pause();
+            self.wait(pause);
+        }
+    }
+
+    // Until when nobody's time is over, from now on.
+    fn longest_pause(&self) -> Duration {
+        match self.entrance.now() {
+            Some(now) => self.pause(now),
+            None => Duration::from_secs(LONGEST_PAUSE),
+        }
+    }
+
+    // Waits until someone moves, so long at most, and looks at all.
+    fn wait(&mut self, pause: Duration)
+        ensures given { GivesNext self.old.line.items self.old.ready.items self.old.next
+            self.new.line.items self.new.ready.items self.new.next None }
+    {
+        self.entrance.wait(pause);
+        if let Some(now) = self.entrance.now() {
+            self.look(now);
+        }
+    }
+
+    // Admits those who call now, looks at all, and throws away what those say who are parted from.
+    fn look(&mut self, now: Duration)
+        ensures round { IsRound now self.old.keep self.old.patience self.old.line.items
+            self.new.line.items self.old.ready.items self.new.ready.items self.old.next
+            self.new.next (E.came self.old.entrance) (E.came self.new.entrance)
+            (E.heard self.old.entrance) (E.heard self.new.entrance) }
+        ensures in_time { AreInTime now self.new.line.items }
+        ensures given { GivesNext self.old.line.items self.old.ready.items self.old.next
+            self.new.line.items self.new.ready.items self.new.next None }
+    {
+        let kept = self.line.len() + self.ready.len();
+        let most = MOST_KEPT.saturating_sub(kept + self.leavers.len());
+        let until = now.saturating_add(self.keep);
+        admit(
+            &mut self.entrance,
+            &mut self.line,
+            &mut self.next,
+            most,
+            until,
+        );
+        look_at_all(
+            &mut self.entrance,
+            &mut self.line,
+            &mut self.ready,
+            now,
+            self.patience,
+        );
+        throw_away_all(&mut self.entrance, &mut self.leavers, now);
+    }
+
+    /// Until when nobody's time is over, from now on.
+    pub fn pause(&self, now: Duration) -> Duration
+        ensures { as_nanos result ≤ 1_000_000_000 }
+    {
+        let mut pause = Duration::from_secs(LONGEST_PAUSE);
+        for kept in &self.line {
+            pause = earlier(pause, kept.until.saturating_sub(now));
+        }
+        for leaver in &self.leavers {
+            pause = earlier(pause, leaver.until.saturating_sub(now));
+        }
+        pause
+    }
+
+    /// Where they come in.
+    pub(crate) fn entrance(&self) -> &E
+        ensures { result.now ≡ self.now.entrance }
+    {
+        &self.entrance
+    }
+
+    /// Whether another is to be served.
+    pub fn is_awaited(&self) -> bool {
+        !self.ready.is_empty()
+    }
+
+    /// Takes one back who was served and may say more. It is silent again from now on.
+    pub fn take_back(&mut self, kept: Kept<E::Caller>)
+        ensures back { ComesBack kept.number self.old.line.items self.new.line.items
+            self.old.ready.items self.old.next }
+        ensures same { (self.new.ready.items ≡ self.old.ready.items)
+            × (self.new.next ≡ self.old.next) }
+    {
+        let Some(now) = self.entrance.now() else {
+            return;
+        };
+        if self.line.len() + self.ready.len() < MOST_KEPT {
+            self.line.push_back_reserved(Kept {
+                number: kept.number,
+                caller: kept.caller,
+                has_begun: false,
+                until: now.saturating_add(self.keep),
+            });
+        }
+    }
+
+    /// Parts from one who was served: what they still say is thrown away until a moment.
+    pub fn part(&mut self, kept: Kept<E::Caller>, until: Duration)
+        ensures back { ComesBack kept.number self.old.line.items self.new.line.items
+            self.old.ready.items self.old.next }
+        ensures same { (self.new.line.items ≡ self.old.line.items)
+            × (self.new.ready.items ≡ self.old.ready.items) × (self.new.next ≡ self.old.next) }
+    {
+        if self.leavers.len() < MOST_KEPT {
+            self.leavers.push_back_reserved(Leaver {
+                caller: kept.caller,
+                until,
+            });
+        }
+    }
+}

@@ -1,0 +1,15 @@
+pub mod AskedAlike
+pub mod CallLaws
+pub mod DecidedAlike
+pub mod GoingOn
+pub mod LeftBehind
+pub mod LeftLaws
+pub mod MadeOfRows
+pub mod PastAsked
+pub mod PastLaws
+pub mod PutLaws
+pub mod QueueAlike
+pub mod RenewedAgreements
+pub mod RowsLeft
+pub mod SpareAll
+pub mod SparingChanges

@@ -1,6 +1,0 @@
-use Rattle.std.proofs.lemmas.Result.{IfErr-weaker}
-use Rattle.room_store_file.proofs.examined_file.examine_tables.Goals as goal
-
-pub returns-in-Some-clause-why : goal.returns-in-Some-clause-why
-returns-in-Some-clause-why g c clean =
-    IfErr-weaker c.examine_room.result _ _ (λ e why storage. (c.in-Some.tables, c.in-Some.ensures.tables.1, why storage)) (c.examine_room.ensures.why clean)

@@ -1,0 +1,135 @@
+//! Whether one's terminals may be changed so.
+ghost use Rattle.std.specs.Prelude.{◌≡◌};
+ghost use Rattle.std.specs.List.{list_any};
+ghost use Rattle.room_tables_schema.specs.DatabaseFaults.{fault_of};
+ghost use Rattle.room_store_writes.specs.TerminalChanges.{fault_in, fault_to_give, fault_to_take, nobody, want_of};
+ghost use Rattle.room_store_writes.specs.TerminalHolders.{has_terminal, has_token, may_have, same_who};
+
+use room_place::plans::Plan;
+use room_tables_schema::database_faults::Fault;
+use room_types::asks::Who;
+use room_types::fleet::Terminal;
+use room_types::token::Token;
+use sqlite::Error;
+
+/// What is to become of the terminals of one desk, position or crew.
+#[derive(Clone, Copy)]
+pub struct TokenChange {
+    pub who: Who,
+    /// The one token that names it; none where it is to have no terminal any more.
+    pub token: Option<Token>,
+}
+
+/// Why terminals are not changed.
+#[derive(Clone, Copy, Debug, PartialEq, Eq)]
+pub enum ChangeFault {
+    /// The desk's division is not in the plan.
+    NoDivision,
+    /// No vehicle has the callsign.
+    NoVehicle,
+    /// Who is to have no terminal any more has none.
+    NoTerminal,
+    /// Who is to have no terminal any more is a vehicle's crew, which always has one.
+    CrewsTerminal,
+    /// A terminal has the token.
+    TokenTaken,
+    /// Memory was refused; the same call may succeed later.
+    Memory,
+    /// The database failed for another cause.
+    Storage,
+}
+
+impl From<Fault> for ChangeFault {
+    ghost from_gives = { λ fault why. why ≡ want_of fault };
+
+    fn from(fault: Fault) -> ChangeFault {
+        match fault {
+            Fault::Memory => ChangeFault::Memory,
+            Fault::Storage => ChangeFault::Storage,
+        }
+    }
+}
+
+impl From<Error> for ChangeFault {
+    ghost from_gives = { λ error why. why ≡ want_of (fault_of error) };
+
+    fn from(error: Error) -> ChangeFault {
+        ChangeFault::from(Fault::from(error))
+    }
+}
+
+/// Why who may not have only this token, or none; nothing where it may.
+pub fn fault_in(plan: &Plan, terminals: &[Terminal], change: &TokenChange) -> Option<ChangeFault>
+    ensures { result ≡ fault_in plan.now.areas terminals.now change.now.who change.now.token }
+{
+    match &change.token {
+        Some(token) => fault_to_give(plan, terminals, &change.who, token),
+        None => fault_to_take(terminals, &change.who),
+    }
+}
+
+fn fault_to_give(
+    plan: &Plan,
+    terminals: &[Terminal],
+    who: &Who,
+    token: &Token,
+) -> Option<ChangeFault>
+    ensures { result ≡ fault_to_give plan.now.areas terminals.now who.now token.now }
+{
+    if !may_have(plan, terminals, who) {
+        Some(nobody(who))
+    } else if has_token(terminals, token) {
+        Some(ChangeFault::TokenTaken)
+    } else {
+        None
+    }
+}
+
+fn fault_to_take(terminals: &[Terminal], who: &Who) -> Option<ChangeFault>
+    ensures { result ≡ fault_to_take terminals.now who.now }
+{
+    match who {
+        Who::Crew(_) => Some(ChangeFault::CrewsTerminal),
+        Who::Desk(_) | Who::Position(_) if has_terminal(terminals, who) => None,
+        Who::Desk(_) | Who::Position(_) => Some(ChangeFault::NoTerminal),
+    }
+}
+
+// Why who may have none that may not.
+fn nobody(who: &Who) -> ChangeFault
+    ensures { result ≡ nobody who.now }
+{
+    match who {
+        Who::Desk(_) => ChangeFault::NoDivision,
+        Who::Position(_) | Who::Crew(_) => ChangeFault::NoVehicle,
+    }
+}
+
+// A vehicle that is enrolled has a crew's terminal, and no other crew has one.
+fn may_have(plan: &Plan, terminals: &[Terminal], who: &Who) -> bool
+    ensures { result ≡ may_have plan.now.areas terminals.now who.now }
+{
+    match who {
+        Who::Desk(division) => plan.has(*division),
+        Who::Position(_) => true,
+        Who::Crew(_) => has_terminal(terminals, who),
+    }
+}
+
+fn has_terminal(terminals: &[Terminal], who: &Who) -> bool
+    ensures { result ≡ has_terminal who.now terminals.now }
+{
+    terminals.iter().any(|terminal| is_same(who, &terminal.who))
+}
+
+fn is_same(who: &Who, other: &Who) -> bool
+    ensures { result ≡ same_who who.now other.now }
+{
+    other == who
+}
+
+fn has_token(terminals: &[Terminal], token: &Token) -> bool
+    ensures { result ≡ has_token token.now terminals.now }
+{
+    terminals.iter().any(|terminal| *token == terminal.token)
+}

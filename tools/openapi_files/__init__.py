@@ -1,0 +1,1 @@
+"""What tools/openapi.py is made of."""

@@ -1,0 +1,191 @@
+"""What the crates and docs/HTTP.md say of the interface: paths, parameters, roles, bodies, types,
+refusals, and the examples of the page."""
+import functools
+import json
+import pathlib
+import re
+
+TOP = pathlib.Path(__file__).resolve().parent.parent.parent
+
+
+@functools.cache
+def read(place):
+    return (TOP / place).read_text()
+
+
+def crate(place):
+    return read(f'crates/{place}')
+
+
+def block(text, begin):
+    """What stands in the first braces after a line that begins so, up to the brace that closes
+    them, which is indented as the line."""
+    found = re.search(rf'^( *){begin}\b[^\n]*\{{\n(.*?)^\1\}}', text, re.M | re.S)
+    if not found:
+        raise ValueError(f'there is no {begin!r}')
+    return found[2]
+
+
+def function(text, name):
+    """A function from its name to the brace that closes it."""
+    return re.search(rf'^( *)(?:pub(?:\(crate\))? )?fn {name}\b.*?^\1\}}', text, re.M | re.S)[0]
+
+
+def version():
+    """The version that the program prints."""
+    text = crate('dispatch_room_cli/src/argument_parser.rt')
+    return re.search(r'^pub const VERSION: &str = "(.*)";$', text, re.M)[1]
+
+
+# ---- types
+
+
+def ranges():
+    """The least and the greatest number of each type of bounded numbers."""
+    places = ['room_types/src/numbers.rt', 'room_place/src/plans.rt', 'room_place/src/places.rt']
+    texts = ''.join(map(crate, places))
+    found = re.findall(r'pub type (\w+) = Bounded<(\d+), (\d+)>', texts)
+    return {name: (int(least), int(greatest)) for name, least, greatest in found}
+
+
+def fields(name):
+    """The fields of a struct, and their types."""
+    texts = [crate(f'room_types/src/{it}.rt') for it in ('answers', 'asks', 'tables')]
+    text = next(it for it in texts if f'pub struct {name} {{' in it)
+    return dict(re.findall(r'pub (\w+): ([^\n]+),', block(text, f'pub struct {name}')))
+
+
+def variants(place, name):
+    """The variants of an enum, and the types that each holds."""
+    found = re.findall(r'^    (\w+)(?:\((.*)\))?,$', block(crate(place), f'pub enum {name}'), re.M)
+    return {variant: [it for it in held.split(', ') if it] for variant, held in found}
+
+
+def names_of(kind):
+    """The names by which the values of an enum are sent."""
+    return re.findall(rf'{kind}::\w+ => "(\w+)"', crate('room_types/src/codes.rt'))
+
+
+def numbers_of(kind):
+    """The numbers by which the values of an enum are sent, and what they stand for."""
+    found = re.findall(rf'{kind}::(\w+)(?:\(_\))? => (\d+),', crate('room_types/src/codes.rt'))
+    return {int(number): name for name, number in found}
+
+
+# ---- paths
+
+
+def patterns():
+    """The pattern of each path."""
+    return dict(re.findall(r'Path::(\w+) => "([^"]+)"',
+                           crate('room_http_requests/src/paths.rt')))
+
+
+def methods():
+    """Whether each path takes GET and HEAD, or POST: `GetHead` or `Post`."""
+    text = function(crate('room_http_requests/src/paths.rt'), 'allow')
+    arms = re.findall(r'((?:\|?\s*Path::\w+\s*)+)=> Allow::(\w+)', text)
+    return {path: allow for arm, allow in arms for path in re.findall(r'Path::(\w+)', arm)}
+
+
+def paths_of_history():
+    text = function(crate('room_http_requests/src/paths.rt'), 'is_of_history')
+    return re.findall(r'Path::(\w+)', re.search(r'matches!\((.*)\)', text)[1])
+
+
+def parameters():
+    """The types of the parameters of each path."""
+    return variants('room_http_requests/src/targets.rt', 'Target')
+
+
+def roles(path):
+    """The kinds of terminals that a path is for."""
+    text = crate('room_http_requests/src/roles.rt')
+    arms = re.findall(r'((?:\|?\s*Target::\w+\s*)+|_ )=> Role::(\w+)', function(text, 'of'))
+    role = next(role for arm, role in arms if arm == '_ ' or f'Target::{path} ' in arm)
+    taken = re.search(rf'\(Role::{role}, (.*)\) => true', function(text, 'is_of'))[1]
+    return re.findall(r'Who::(\w+)', taken)
+
+
+# ---- bodies
+
+
+def bodies():
+    """The members of the body of each path that takes one, and their types."""
+    text = crate('room_http_requests/src/bodies.rt')
+    arms = re.findall(r'Target::(\w+)(?:\(.*?\))? => (\w+)\(', function(text, 'ask_with_body'))
+    return {path: {} if name == 'no_fields' else members(function(text, name))
+            for path, name in arms}
+
+
+def members(text):
+    """The members that a function reads, and the types of what it makes of them."""
+    found = re.findall(r'(\w+)(?::| =) \w+\(fields, "(\w+)"\)', text)
+    made = re.search(r'Some\((?:Ask::)?(\w+)(?: \{|\((.*)\)\))', text)
+    if made[2] is None:
+        types = fields(made[1])
+    else:
+        held = variants('room_types/src/asks.rt', 'Ask')[made[1]]
+        types = dict(zip(made[2].split(', '), held, strict=True))
+    return {name: types[variable] for variable, name in found}
+
+
+# ---- refusals
+
+
+def refusals():
+    """Of each refusal its number, its status and what it means."""
+    text = crate('room_types/src/refusals.rt')
+    means = re.findall(r'((?: +/// .*\n)+)    (\w+)(?:\(.*\))?,', block(text, 'pub enum Refusal'))
+    means = {name: ' '.join(re.findall('/// (.*)', lines)) for lines, name in means}
+    found = re.findall(r'Refusal::\w+(?:\(_\))? => \((\d+), (\d+), "(\w+)"\)', text)
+    return {name: (int(number), int(status), means[name]) for number, status, name in found}
+
+
+# ---- docs/HTTP.md
+
+
+def page():
+    """The part of the page that is about the paths."""
+    return read('docs/HTTP.md').split('\n## Paths\n')[1].split('\n## Answers\n')[0]
+
+
+def written(pattern):
+    """How the page writes a path."""
+    for name, letters in {'n': 'N', 'c': 'C', 'day': 'DAY'}.items():
+        pattern = pattern.replace(f'{{{name}}}', letters)
+    return pattern
+
+
+def entries():
+    """What the page says of each request, by its method and path."""
+    found = {}
+    for text in re.findall(r'^(?:\| )?(`(?:GET|POST) /.*(?:\n(?![`|]|    |$).*)*)', page(), re.M):
+        head = re.split(r':| \| ', text)[0]
+        for asked in re.findall(r'`((?:GET|POST) /[^`]*)`', head):
+            found[asked] = text
+    return found
+
+
+def refusals_on_page():
+    """The numbers of the refusals that the room has for each request."""
+    return {asked: numbers_in(text) for asked, text in entries().items()}
+
+
+def numbers_in(text):
+    row = re.fullmatch(r'.* \| (.*) \|', text)
+    found = row or re.search(r'Refused: ([^.]*)\.', text)
+    return sorted({int(it) for it in re.findall(r'\d+', found[1] if found else '')})
+
+
+COMMAND = re.compile(r"^    curl (.*) http://localhost:8080(/\S*)(.*)\n(?:    (\{.*\})\n)?", re.M)
+
+
+def examples():
+    """The examples of the page: method, path, body and answer, each of the latter none or JSON."""
+    for before, path, after, answer in COMMAND.findall(page().replace('\\\n      ', '')):
+        words = before + after
+        body = re.search("-d '(.*?)'", words)
+        is_post = body or '-X POST' in words
+        yield ('post' if is_post else 'get', path, body and json.loads(body[1]),
+               json.loads(answer) if answer else None)
