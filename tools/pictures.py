@@ -9,6 +9,7 @@ import sys
 
 from picture_files.drawing import Drawing
 from picture_files.floors import drawing
+from written import write
 
 TOP = pathlib.Path(__file__).resolve().parent.parent
 SOURCES = TOP / 'docs' / 'pictures'
@@ -30,12 +31,5 @@ def files():
         yield f'{name}.svg', Drawing(text).svg()
 
 
-def main(docs):
-    for place, text in files():
-        file = docs / place
-        file.parent.mkdir(parents=True, exist_ok=True)
-        file.write_text(text)
-
-
 if __name__ == '__main__':
-    main(pathlib.Path(sys.argv[1]) if len(sys.argv) > 1 else TOP / 'docs')
+    write(pathlib.Path(sys.argv[1]) if len(sys.argv) > 1 else TOP / 'docs', files())

@@ -15,6 +15,7 @@ from table_files.kept import kept
 from table_files.laws import laws
 from table_files.rows import TABLES
 from table_files.writes import writes
+from written import write
 
 WRITTEN = '(Written by tools/tables.py.)'
 KEPT = "Where only one table changed, the tables stand for the room with that table's rows."
@@ -37,12 +38,5 @@ def files():
         yield f'{folder}/{table.name.capitalize()}Table.antt', text
 
 
-def main(crates):
-    for place, text in files():
-        file = crates / place
-        file.parent.mkdir(parents=True, exist_ok=True)
-        file.write_text(text)
-
-
 if __name__ == '__main__':
-    main(pathlib.Path(sys.argv[1]) if len(sys.argv) > 1 else kit.TOP / 'crates')
+    write(pathlib.Path(sys.argv[1]) if len(sys.argv) > 1 else kit.TOP / 'crates', files())
