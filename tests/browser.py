@@ -288,6 +288,11 @@ class Line:
         await asyncio.gather(*others, return_exceptions=True)
 
     async def carry(self, near_reader, near):
+        """One connection, both ways, until its end or that of the proxy."""
+        with contextlib.suppress(asyncio.CancelledError):
+            await self.relay(near_reader, near)
+
+    async def relay(self, near_reader, near):
         """One connection, both ways."""
         far = None
         if not self.is_cut:

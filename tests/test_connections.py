@@ -561,7 +561,7 @@ class Addresses(ServedTestCase):
                 status, out, told = run('serve', room, address, '--connections', '1')
                 self.check(f'{address} of {room.name}', (status, out), (2, ''))
                 with self.subTest(address):
-                    self.assertIn('an address of this machine alone', told)
+                    self.assertIn('an address of this machine only', told)
                     self.assertIn('proxy with TLS', told)
         self.check('no file is made', missing.exists(), False)
 

@@ -281,6 +281,11 @@ class Journals(ErrorCase):
         self.check('records stand before it', whole > 0, True)
         self.check_list('behind whole records', self.list,
                         f' is no journal: no record begins at byte {whole}')
+        text = bytearray(self.list.read_bytes()[:whole])
+        text[len('list 2\n00000 ')] ^= 1
+        self.list.write_bytes(text)
+        self.check_list('a changed check', self.list, ' is no journal: `dispatch_room verify '
+                        f'{self.list}` says at which record')
 
     def test_in_use(self):
         other = made(self.folder / 'other.db')
@@ -363,7 +368,7 @@ class Disks(PreloadedTestCase):
         words = '--journal', journal, '--journal-sync', 'always', '--explain'
         told = f'{journal}: {os_words(errno.EIO)}\njournal\n'.encode()
         sent = message('deskone1', 'GET /queue')
-        for at in 1, 2, 3, 4:  # the start's, the head's, the message's, and none
+        for at in range(1, 6):  # the start's, the first line's, the head's, the message's, and none
             journal.unlink(missing_ok=True)
             _, *end = self.program.serve(sync_fault(at, journal), room, sent, *words)
-            self.check(f'where sync {at} fails', end, [6, told] if at < 4 else [0, b''])
+            self.check(f'where sync {at} fails', end, [6, told] if at < 5 else [0, b''])

@@ -33,8 +33,21 @@ REPORT = message('crewofa1', 'POST /report',
 QUEUE = message('deskone1', 'GET /queue')
 
 
+def plain(text):
+    """The entries of a list of version 2, as a list of version 1 has them."""
+    check, bodies = b'0' * 64, []
+    for piece in pieces(text):
+        body = piece[71:]
+        check = hashlib.sha256(check + body).hexdigest().encode()
+        assert piece[:71] == b'%05d %s\n' % (len(body), check), piece
+        bodies.append(body)
+    return b''.join(it for it in bodies if it != b'end\n')
+
+
 def entries(text):
     """The entries of a journal: the words of each line, and with a message its bytes."""
+    if text.startswith(b'list 2\n'):
+        text = plain(text)
     found, at = [], 0
     while at < len(text):
         end = text.index(b'\n', at)
@@ -208,16 +221,67 @@ class Cut(JournalTestCase):
         copy = self.copy()
         self.serve([call(1)])
         whole = self.list.read_bytes()
-        for length in [1, 7, 20, 40]:
-            part = whole[whole.index(b'message'):][:length]
+        for length in [1, 7, 71, 72, 90]:
+            part = pieces(whole)[1][:length]
             self.list.write_bytes(whole + part)
             _, told = self.serve([QUEUE])
             self.check(f'{length} bytes: it is told', 'cut off' in told, True)
-            self.check(f'{length} bytes: what stays', self.list.read_bytes()[:len(whole) + 5],
-                       whole + b'room ')
+            self.check(f'{length} bytes: what stays', self.list.read_bytes()[:len(whole)], whole)
+            rest = self.list.read_bytes()[len(whole):]
+            self.check(f'{length} bytes: what follows', rest[71:76], b'room ')
             whole = self.list.read_bytes()
         status, out, err = replay(copy, whole)
-        self.check('it is a list', (status, out, err), (0, b'replayed 5\n', ''))
+        self.check('it is a list', (status, out, err), (0, b'replayed 6\n', ''))
+
+
+class GoneOnWith(JournalTestCase):
+    """A list goes on as it stands there."""
+
+    def test_first_version(self):
+        """A list of version 1 is gone on with as one, and what was cut off is taken away."""
+        copy = self.copy()
+        self.serve([call(1)])
+        whole = plain(self.list.read_bytes())
+        for part in [b'', whole[:7], whole[:40]]:
+            self.list.write_bytes(whole + part)
+            _, told = self.serve([QUEUE])
+            self.check(f'{len(part)} bytes: it is told', 'cut off' in told, part != b'')
+            self.check(f'{len(part)} bytes: what stays', self.list.read_bytes()[:len(whole) + 5],
+                       whole + b'room ')
+            whole = self.list.read_bytes()
+        self.check('it is a list', replay(copy, whole), (0, b'replayed 4\n', ''))
+
+    def test_first_line(self):
+        """The first line of a list that a crash cut off is written anew."""
+        self.serve([QUEUE])
+        for part in [b'', b'l', b'list 2']:
+            self.list.write_bytes(part)
+            self.serve([QUEUE])
+            self.check(f'behind {part}', len(self.entries()), 3)
+
+    def test_end(self):
+        """A service that ends well says so, and the next goes on behind it; one that is killed
+        does not."""
+        self.serve([QUEUE])
+        self.serve([QUEUE])
+        bodies = [it[71:] for it in pieces(self.list.read_bytes())]
+        self.check('its ends', [nth for nth, it in enumerate(bodies) if it == b'end\n'], [3, 7])
+        with serving(self.room, 2, *PATIENT, '--journal', str(self.list)) as (port, process):
+            talk(port, QUEUE)
+            process.kill()
+            process.wait()
+        self.check('killed', pieces(self.list.read_bytes())[-1].endswith(b'\nanswer 200\n'), True)
+
+    def test_changed(self):
+        """A chain that was changed is not gone on with."""
+        self.serve([call(1)])
+        text = bytearray(self.list.read_bytes())
+        text[100] ^= 1
+        self.list.write_bytes(text)
+        told = run('serve', self.room, f'127.0.0.1:{free_port()}', '--connections', 1, '--journal',
+                   self.list)
+        self.check('it is refused', told, (6, '', 'journal\n'))
+        self.check('it stays', self.list.read_bytes(), bytes(text))
 
 
 class Replayed(JournalTestCase):
@@ -227,7 +291,13 @@ class Replayed(JournalTestCase):
         super().setUp()
         self.before = self.copy()
         self.answers, _ = self.serve([call(1), DUTY], [MOBILISE, REPORT, REPORT, QUEUE])
-        self.text = self.list.read_bytes()
+        self.kept = self.list.read_bytes()
+        self.text = plain(self.kept)
+
+    def test_as_it_was_kept(self):
+        room = shutil.copy(self.before, self.folder / 'again.db')
+        self.check('it is replayed', replay(room, self.kept), (0, b'replayed 6\n', ''))
+        self.check('the room', dump(room), dump(self.room))
 
     def test_whole(self):
         room = shutil.copy(self.before, self.folder / 'again.db')
@@ -380,14 +450,8 @@ class Chained(JournalTestCase):
         super().setUp()
         self.before = self.copy()
         self.serve([call(1), DUTY], [QUEUE])
-        self.found = [it for it in self.entries_of(self.list.read_bytes()) if it != ('end',)]
+        self.found = self.entries()
         self.bodies = records(self.found)
-
-    def entries_of(self, text):
-        """The entries of a list of either version."""
-        if text.startswith(b'list 2\n'):
-            text = b''.join(it[71:] for it in pieces(text))
-        return entries(text)
 
     def fresh(self):
         self.again = shutil.copy(self.before, self.folder / 'again.db')
@@ -590,14 +654,15 @@ class Unsynced(PreloadedTestCase):
         self.lists.mkdir()
 
     def test_start(self):
-        """A start makes what stands in the list last, also where messages need not."""
+        """A start makes what stands in the list last, and the first line of a new one, also where
+        messages need not."""
         self.anew()
         self.check('it is served', self.served(QUEUE)[1:], (0, b''))
-        self.check('a new list', self.program.total(), 1)
+        self.check('a new list', self.program.total(), 2)
         self.check('it is served again', self.served(QUEUE)[1:], (0, b''))
         self.check('a list that stands', self.program.total(), 1)
         with self.list.open('ab') as it:
-            it.write(b'message 1')
+            it.write(b'00113 c41e')
         self.check('it is served once more', self.served(QUEUE)[1], 0)
         self.check('a list that is cut', self.program.total(), 2)
 
@@ -615,7 +680,7 @@ class Unsynced(PreloadedTestCase):
         answers, *end = self.served(sent, *words)
         self.check('where none fails', ([it[0] for it in answers], end), ([200] * 3, [0, b'']))
         total = self.program.total()
-        self.check('the start, its head and each message', total, 5)
+        self.check('the start, the first line, the head and each message', total, 6)
         for at in range(1, total + 1):
             self.anew()
             answers, *end = self.served(sent, *words, fails=at)
@@ -623,7 +688,7 @@ class Unsynced(PreloadedTestCase):
             kept = [int(it[1]) for it in entries(self.list.read_bytes()) if it[0] == 'answer']
             self.check(f'where {at} fails: the answers', [it[0] for it in answers],
                        kept[:len(answers)])
-            self.check(f'where {at} fails: each message before', len(kept), max(at - 3, 0))
+            self.check(f'where {at} fails: each message before', len(kept), max(at - 4, 0))
             self.check(f'after {at}', self.served(QUEUE, *words)[1:], (0, b''))
             copy = shutil.copy(self.before, self.folder / 'copy.db')
             status, _, err = replay(copy, self.list.read_bytes())

@@ -41,7 +41,7 @@ NAMED_MISTAKES = [
     (['times', 'a', '01', '2026-01-01'], "invalid value '01' for '<DIVISION>'"),
     (['serve', 'a', 'b', '--connections', '0'], "invalid value '0' for '--connections <N>'"),
     (['serve', 'a', 'b', '--connection', '1'], "unexpected argument '--connection'"),
-    (['serve', 'a', '0.0.0.0:8080'], 'an address of this machine alone'),
+    (['serve', 'a', '0.0.0.0:8080'], 'an address of this machine only'),
 ]
 
 

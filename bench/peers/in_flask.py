@@ -451,6 +451,26 @@ def show_vehicles():
                                **{name: it[name] for name in names}} for it in rows]})
 
 
+SERVED_OF = f'''(SELECT count(*) FROM turns
+ WHERE incident = i.number AND division = i.division AND kind = %d AND {SERVED})'''
+INCIDENTS = f'''
+SELECT *, (SELECT count(*) FROM calls WHERE incident = i.number AND division = i.division) AS calls,
+  {', '.join(f'{SERVED_OF % kind} AS served{kind}' for kind in (1, 2, 3))}
+FROM incidents i WHERE state = 0 AND division = ? ORDER BY number'''
+
+
+@app.get('/incidents')
+def show_incidents():
+    rows, shown = run(INCIDENTS, terminal_of(DESK)['number']), []
+    for it in rows:
+        needs = [it[f'need{kind}'] for kind in (1, 2, 3)]
+        served = [it[f'served{kind}'] for kind in (1, 2, 3)]
+        shown.append({'lack': [max(0, a - b) for a, b in zip(needs, served)], 'needs': needs,
+                      'place': [it['east'], it['north']],
+                      **{name: it[name] for name in ('calls', 'class', 'number', 'opened')}})
+    return told({'incidents': shown})
+
+
 QUEUE = f'''
 SELECT 1 AS rank, opened AS since, number, '' AS vehicle FROM incidents i
 WHERE state = 0 AND division = :division AND opened < :now - 180 AND NOT EXISTS (

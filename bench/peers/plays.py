@@ -115,13 +115,14 @@ def nowhere(count):
 
 
 def with_waiting(waiting, count):
-    """So many of each of five requests to division 1, in which incidents wait."""
+    """So many of each of six requests to division 1, in which incidents wait."""
     for nth in range(count):
         east, north = rooms.spot(1, nth * 97)
         yield call(waiting + nth + 1, (east + 500, north + 500))
         yield at_desk(1, 'vehicles', 'GET', '/vehicles')
         yield at_desk(1, 'propose', 'GET', f'/incidents/{nth * 7 % waiting + 1}/propose')
         yield at_desk(1, 'queue', 'GET', '/queue')
+        yield at_desk(1, 'incidents', 'GET', '/incidents')
         yield report('A20', nth + 1, 'position', 0, rooms.home(1, 'A20'))
 
 
@@ -149,7 +150,8 @@ def refused():
     yield from [close, report('A1', 8, 'home', 0, home), report('A1', 9, 'return', 1, home)]
     yield from [close._replace(path='/incidents/01/close'), close, close]
     for method, path in [('GET', '/incidents/9/propose'), ('GET', '/incidents/1/propose'),
-                         ('GET', '/vehicles'), ('GET', '/queue'), ('POST', '/queue')]:
+                         ('GET', '/vehicles'), ('GET', '/incidents'), ('GET', '/queue'),
+                         ('POST', '/queue')]:
         yield at_desk(1, 'desk', method, path)
 
 
@@ -157,7 +159,7 @@ def still():
     """Questions to a room of which all moments stand in its file."""
     proposals = [f'/incidents/{number}/propose' for number in range(1, 51)]
     return [at_desk(division, 'still', 'GET', path)
-            for division in DESKS for path in ['/queue', '/vehicles', *proposals]]
+            for division in DESKS for path in ['/queue', '/vehicles', '/incidents', *proposals]]
 
 
 def by_chance(seed, count):
@@ -178,7 +180,7 @@ def by_chance(seed, count):
             return order(division, number, chance.choice(vehicles), 'desk')
         return at_desk(division, 'desk', *chance.choice([
             ('POST', f'/incidents/{number}/close'), ('GET', f'/incidents/{number}/propose'),
-            ('GET', '/vehicles'), ('GET', '/queue')]))
+            ('GET', '/vehicles'), ('GET', '/incidents'), ('GET', '/queue')]))
 
     def report_by_chance():
         place = chance.randrange(500000, 590000), chance.randrange(100000, 190000)

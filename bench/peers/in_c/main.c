@@ -88,7 +88,7 @@ static long long read_head(struct slice head, struct request *request)
 
 /* ---- routes */
 
-enum target { CALL, REPORT, QUEUE, VEHICLES, PROPOSE, MOBILISE, CLOSE, NOWHERE };
+enum target { CALL, REPORT, QUEUE, VEHICLES, INCIDENTS, PROPOSE, MOBILISE, CLOSE, NOWHERE };
 
 static const struct {
     const char *method, *path; /* what of it follows an incident's number */
@@ -96,6 +96,7 @@ static const struct {
 } targets[] = {
     [CALL] = {"POST", "/call", POSITION}, [REPORT] = {"POST", "/report", CREW},
     [QUEUE] = {"GET", "/queue", DESK}, [VEHICLES] = {"GET", "/vehicles", DESK},
+    [INCIDENTS] = {"GET", "/incidents", DESK},
     [PROPOSE] = {"GET", "propose", DESK}, [MOBILISE] = {"POST", "mobilise", DESK},
     [CLOSE] = {"POST", "close", DESK}};
 
@@ -137,6 +138,7 @@ static enum refusal ask(enum target target, long long incident, const struct ter
                                         : BAD_BODY;
     case QUEUE: return show_queue(by->number, now, answer);
     case VEHICLES: return show_vehicles(by->number, answer);
+    case INCIDENTS: return show_incidents(by->number, answer);
     case PROPOSE: return propose(by->number, incident, now, answer);
     case CLOSE: return close_incident(by->number, incident, answer);
     default: return NO_PATH;

@@ -15,6 +15,8 @@ enum status { OFF_DUTY, AVAILABLE, MOBILISED, AT_SCENE, LEAVING, AT_HOSPITAL, RE
 
 #define SERVED "(ended IS NULL OR scene IS NOT NULL OR left_at IS NOT NULL" \
     " OR hospital IS NOT NULL)"
+#define SERVED_OF(KIND) ", (SELECT count(*) FROM turns" \
+    " WHERE incident = i.number AND division = i.division AND kind = " KIND " AND " SERVED ")"
 
 enum statement {
     BEGIN, COMMIT, ROLLBACK, TERMINAL,
@@ -22,7 +24,7 @@ enum statement {
     KEPT_REPORT, VEHICLE, OPEN_TURN, DUE_LOAN, PUT_REPORT, COUNT_REPORT, MOVE_VEHICLE, SEND_BACK,
     DROP_LOAN, SET_MOBILE, SET_SCENE, SET_LEFT, SET_HOSPITAL, END_TURN, DROP_ASSIGNMENT,
     INCIDENT, SERVED_BY, LENT, SEND_VEHICLE, FIRST_ORDER, PUT_TURN, PUT_ASSIGNMENT, ATTENDED,
-    CLOSE, ELIGIBLE, VEHICLES, QUEUE, STATEMENTS
+    CLOSE, ELIGIBLE, VEHICLES, INCIDENTS, QUEUE, STATEMENTS
 };
 
 static const char *const texts[STATEMENTS] = {
@@ -91,6 +93,10 @@ static const char *const texts[STATEMENTS] = {
         " ifnull(v.post, 'null'), v.shift_end, v.status, v.callsign"
         " FROM vehicles v LEFT JOIN assignments a ON a.callsign = v.callsign"
         " WHERE v.holder = ?1 ORDER BY v.callsign",
+    [INCIDENTS] = "SELECT number, east, north, class, need1, need2, need3, opened,"
+        " (SELECT count(*) FROM calls WHERE incident = i.number AND division = i.division)"
+        SERVED_OF("1") SERVED_OF("2") SERVED_OF("3")
+        " FROM incidents i WHERE state = 0 AND division = ?1 ORDER BY number",
     [QUEUE] = "SELECT 1 AS rank, opened AS since, number, '' AS callsign FROM incidents i"
         " WHERE state = 0 AND division = ?1 AND opened < ?2 - 180 AND NOT EXISTS ("
         "  SELECT 1 FROM turns WHERE incident = i.number AND division = i.division AND " SERVED ")"
@@ -595,6 +601,28 @@ enum refusal show_vehicles(long long division, struct text *answer)
             before, number_in(row, 0), text_in(row, 1), number_in(row, 2), number_in(row, 3),
             number_in(row, 4), text_in(row, 5), number_in(row, 6), number_in(row, 7),
             text_in(row, 8));
+    add(answer, "]}");
+    return NO_REFUSAL;
+}
+
+enum refusal show_incidents(long long division, struct text *answer)
+{
+    const char *before = "";
+    add(answer, "{\"incidents\":[");
+    for (sqlite3_stmt *row = bound(INCIDENTS, "i", division); next(row); before = ",") {
+        long long needs[3], lack[3];
+        for (int kind = 0; kind < 3; kind++) {
+            long long served = number_in(row, 9 + kind);
+            needs[kind] = number_in(row, 4 + kind);
+            lack[kind] = needs[kind] > served ? needs[kind] - served : 0;
+        }
+        add(answer, "%s{\"calls\":%lld,\"class\":%lld,\"lack\":[%lld,%lld,%lld],"
+                    "\"needs\":[%lld,%lld,%lld],\"number\":%lld,\"opened\":%lld,"
+                    "\"place\":[%lld,%lld]}",
+            before, number_in(row, 8), number_in(row, 3), lack[0], lack[1], lack[2], needs[0],
+            needs[1], needs[2], number_in(row, 0), number_in(row, 7), number_in(row, 1),
+            number_in(row, 2));
+    }
     add(answer, "]}");
     return NO_REFUSAL;
 }

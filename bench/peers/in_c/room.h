@@ -79,6 +79,7 @@ enum refusal mobilise(long long division, long long incident, const char *callsi
 enum refusal close_incident(long long division, long long incident, struct text *answer);
 enum refusal propose(long long division, long long incident, long long now, struct text *answer);
 enum refusal show_vehicles(long long division, struct text *answer);
+enum refusal show_incidents(long long division, struct text *answer);
 enum refusal show_queue(long long division, long long now, struct text *answer);
 
 #endif

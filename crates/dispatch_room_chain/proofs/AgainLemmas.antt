@@ -15,7 +15,7 @@ use Rattle.dispatch_room_chain.proofs.SaysLemmas.{says_none, says_whole}
 use Rattle.dispatch_room_chain.proofs.SoundLemmas.{chain_opened}
 
 -- five digits are the number that they were written for
-five_digits : (n : ℕ) → n ≤ 99999
+pub five_digits : (n : ℕ) → n ≤ 99999
     → (48 + n / 10000 % 10 - 48) * 10000 + (48 + n / 1000 % 10 - 48) * 1000
     + (48 + n / 100 % 10 - 48) * 100 + (48 + n / 10 % 10 - 48) * 10 + (48 + n % 10 - 48) ≡ n
 five_digits n fits = omega (arith, fits)

@@ -7,3 +7,7 @@ pub mod StepLemmas
 pub mod TallyLemmas
 pub mod AdvanceLemmas
 pub mod RecordLemmas
+pub mod PlainLemmas
+pub mod WholeLemmas
+pub mod EntryRecordLemmas
+pub mod FormLemmas

@@ -3,3 +3,5 @@ pub mod Fronts
 pub mod ReelSteps
 pub mod ListTallies
 pub mod Laws
+pub mod PlainTexts
+pub mod WholeRecords

@@ -7,7 +7,7 @@ ghost use Rattle.dispatch_room_chain.specs.Fronts.{number_in, sized_front, whole
 ghost use Rattle.dispatch_room_chain.specs.declared.headers.TheConstants.{HEADER};
 ghost use Rattle.dispatch_room_journal.specs.declared.journal_inbox.TheConstants.{ENTRY_ROOM};
 
-use crate::headers::{CHECK_DIGITS, HEADER, check_after, header_of};
+use crate::headers::{CHECK_DIGITS, FIRST_CHECK, HEADER, check_after, header_of};
 use dispatch_room_journal::journal_inbox::ENTRY_ROOM;
 
 /// What is at the front of the bytes of a chain.
@@ -31,6 +31,12 @@ pub struct Link {
     /// Whether the last record says that the list ended well.
     pub has_ended: bool,
 }
+
+/// Where a chain begins.
+pub const FIRST_LINK: Link = Link {
+    check: FIRST_CHECK,
+    has_ended: false,
+};
 
 /// The line with which a list begins that is a chain.
 pub const OPENING: &[u8] = b"list 2\n";
@@ -74,8 +80,8 @@ fn number_in(bytes: &[u8]) -> usize
         + value(bytes[4])
 }
 
-// The bytes of a record of this size, after its line.
-fn body_of(bytes: &[u8], size: usize) -> &[u8]
+/// The bytes of a record of this size, after its line.
+pub fn body_of(bytes: &[u8], size: usize) -> &[u8]
     requires { HEADER + size ≤ length bytes.now }
     ensures { result.now ≡ body_in size bytes.now }
 {

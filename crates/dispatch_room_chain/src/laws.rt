@@ -1,7 +1,8 @@
 //! What the text of a chain decides. Each law is the contract of a function that does nothing.
 ghost use Rattle.dispatch_room_chain.specs.Laws.{IsOneChain, IsReadAgain, IsWritten};
 
-/// Two lists that end with the same check are the same.
+/// Two lists that end with the same check are the same, unless two texts have one hash, or one has
+/// that of the check before the first record.
 pub fn one_chain()
     ensures { IsOneChain }
 {}

@@ -15,9 +15,11 @@
 //! `put_record` writes a record.
 #![tactic(auto)]
 
+pub mod entry_texts;
 pub mod fronts;
 pub mod headers;
 pub mod laws;
+pub mod list_ends;
 pub mod list_tallies;
 pub mod record_inbox;
 pub mod record_writer;
@@ -25,3 +27,4 @@ pub mod reels;
 pub mod steps;
 pub mod unchained;
 pub mod verification;
+pub mod whole_records;

@@ -22,7 +22,7 @@ pub const VERSION: &str = "2.0";
 const EXPLAIN: &str = "--explain";
 
 // What is said of an address that is not one of this machine only.
-const NOT_LOOPBACK: &str = "a room is served at an address of this machine alone, as \
+const NOT_LOOPBACK: &str = "a room is served at an address of this machine only, as \
      127.0.0.1:8080 or [::1]:8080: it speaks plain HTTP, and a token is all that a terminal shows; \
      terminals on other machines come by a proxy with TLS";
 

@@ -77,8 +77,8 @@ const INIT: CommandForm = CommandForm {
 
 const IMPORT: CommandForm = CommandForm {
     name: "import",
-    about: "Enrols a fleet, and tells what became of each row",
-    end: "Where it says `refused: file`, `check` tells what is wrong.\n\n\
+    about: "Enrols a fleet, and says what became of each row",
+    end: "Where it says `refused: file`, `check` says what is wrong.\n\n\
          Example: dispatch_room import room.db fleet.csv",
     words: &[
         FILE,
@@ -101,7 +101,7 @@ const MIGRATE: CommandForm = CommandForm {
 
 const CHECK: CommandForm = CommandForm {
     name: "check",
-    about: "Tells how much a room has, or what is wrong first with its file",
+    about: "Says how much a room has, or what is wrong first with its file",
     end: "No row is written. Its status is 0 where the file is a well-formed room.\n\n\
          Example: dispatch_room check room.db",
     words: &[FILE, EXPLAIN],
@@ -110,14 +110,14 @@ const CHECK: CommandForm = CommandForm {
 const SERVE: CommandForm = CommandForm {
     name: "serve",
     about: "Serves a room over HTTP",
-    end: "Where it says `refused: file`, `check` tells what is wrong.\n\n\
+    end: "Where it says `refused: file`, `check` says what is wrong.\n\n\
          Example: dispatch_room serve room.db 127.0.0.1:8080",
     words: &[
         FILE,
         Word {
             name: "ADDRESS",
             kind: TEXT,
-            help: "Where to listen: an address of this machine alone, with a port",
+            help: "Where to listen: an address of this machine only, with a port",
         },
         Word {
             name: "connections",
@@ -315,7 +315,7 @@ const RENEW: CommandForm = CommandForm {
 const TIMES: CommandForm = CommandForm {
     name: "times",
     about: "Writes the activation times of a division's day as CSV",
-    end: "Where it says `refused: file`, `check` tells what is wrong.\n\n\
+    end: "Where it says `refused: file`, `check` says what is wrong.\n\n\
          Example: dispatch_room times room.db 1 2026-03-29",
     words: &[
         FILE,

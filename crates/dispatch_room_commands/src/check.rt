@@ -12,7 +12,7 @@ use sqlite::{Alter, Connection};
 use std::alloc::Global;
 use std::io::Write;
 
-/// Tells how much the room of a file has, or what is wrong with the file first. No row is written.
+/// Says how much the room of a file has, or what is wrong with the file first. No row is written.
 pub fn check<O: Write>(
     rt: &HostRuntime,
     explainer: Explainer<'_>,

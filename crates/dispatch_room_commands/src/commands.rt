@@ -106,7 +106,7 @@ fn exit<O: Write, E: Write>(
     }
 }
 
-// Tells where others can read the room's file, or write it.
+// Says where others can read the room's file, or write it.
 fn warn<E: Write>(rt: &HostRuntime, file: &str, err: &mut E) {
     if is_open_to_others(rt, file) {
         let _ = writeln!(
@@ -152,7 +152,7 @@ fn perform<O: Write, E: Write>(
     }
 }
 
-// Tells a mistake in the words, or the help that was asked for, and gives the exit status.
+// Reports a mistake in the words, or prints the help that was asked for, and gives the exit status.
 fn refuse<O: Write, E: Write>(error: &Error, out: &mut O, err: &mut E) -> u8
     ensures { IsWordsStatus (kind_of error.now) result }
 {

@@ -131,7 +131,7 @@ fn answer<R: Source, M: Digested, W: Sink>(
     }
 }
 
-// Tells how much was replayed.
+// Says how much was replayed.
 fn tell<O: Write, E: Write>(replayed: &Replayed, out: &mut O, err: &mut E) -> Result<Done, Failure>
     ensures { IsTold (Ok replayed.now) (O.contents out.old) (O.contents out.new) result }
 {

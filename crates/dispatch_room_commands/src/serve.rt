@@ -17,7 +17,7 @@ use dispatch_room_disk::room_files::{RoomFile, RoomTask, in_file};
 use dispatch_room_exit::exit_status::{Done, Failure};
 use dispatch_room_exit::explainer::Explainer;
 use dispatch_room_serving::callers::Callers;
-use dispatch_room_serving::journal_files::{JournalFile, SystemFile, open_journal};
+use dispatch_room_serving::journal_files::{JournalFile, OpenedList, SystemFile, open_journal};
 use dispatch_room_serving::journals::Journal;
 use dispatch_room_serving::log_observers::LogAndJournal;
 use dispatch_room_serving::logs::Log;
@@ -27,7 +27,6 @@ use dispatch_room_tasks::opened_room::TaskResult;
 use room_http_time::clocks::{Clock, MachineClock};
 use sqlite::{Alter, Connection};
 use std::alloc::Global;
-use std::fs::File;
 use std::io::Write;
 use std::time::Duration;
 
@@ -71,7 +70,7 @@ struct ServiceRun<'a> {
     rt: &'a HostRuntime,
     explainer: Explainer<'a>,
     service: &'a Service<'a>,
-    journal: &'a Option<File>,
+    journal: &'a Option<OpenedList>,
 }
 
 // Whether a service goes on until it is stopped.
@@ -154,7 +153,7 @@ fn journal_file<E: Write>(
     alloc: Global,
     journal: &Option<tasks::Journal<'_>>,
     err: &mut E,
-) -> Result<Option<File>, Failure>
+) -> Result<Option<OpenedList>, Failure>
     ensures file { IfOk result (λ file. is_some file ≡ is_some journal.now) }
     ensures fault { IfErr result (λ fault. (fault ≡ failure.Memory) ⊎ (fault ≡ failure.Journal)) }
 {
@@ -279,14 +278,18 @@ fn serve_room<S: Alter + Drop, P: Callers, C: Clock, E: Write>(
     );
     let journal = journal_of(service, run.explainer, run.journal);
     let mut log_and_journal = LogAndJournal::new(log, journal);
-    serve_in(
+    let (done, conn) = serve_in(
         alloc,
         conn,
         callers,
         clock,
         &mut log_and_journal,
         terms_of(service),
-    )
+    )?;
+    if done.is_ok() {
+        let _ = log_and_journal.end();
+    }
+    Ok((done, conn))
 }
 
 // What is served of a room.
@@ -303,21 +306,21 @@ fn terms_of(service: &Service<'_>) -> Terms
 fn journal_of<'a>(
     service: &Service<'a>,
     explainer: Explainer<'a>,
-    file: &'a Option<File>,
+    list: &'a Option<OpenedList>,
 ) -> Option<Journal<JournalFile<SystemFile<'a>>>>
-    ensures kept { is_some result ≡ is_some file.now }
+    ensures kept { is_some result ≡ is_some list.now }
     ensures synced { IfSome result (λ journal.
         journal.is_synced ≡ is_synced_by service.now.journal) }
     ensures fresh { failed_by result ≡ false }
 {
-    let (list, is_synced) = match service.journal {
+    let (path, is_synced) = match service.journal {
         Some(journal) => (journal.list, journal.is_synced),
         None => ("", false),
     };
-    match file {
-        Some(file) => {
-            let file = SystemFile::new(file, explainer, list);
-            Some(Journal::new(JournalFile::new(file), is_synced))
+    match list {
+        Some(list) => {
+            let file = SystemFile::new(&list.file, explainer, path);
+            Some(Journal::new(JournalFile::new(file, list.end), is_synced))
         }
         None => None,
     }

@@ -79,7 +79,7 @@ impl<'a, L: Listener, O: Write> Callers for Heard<'a, L, O> {
     }
 }
 
-// Tells that a room is served.
+// Says that a room is served.
 fn tell<O: Write>(out: &mut O) -> Result<(), Failure>
     ensures said { OnOk result (Appends (O.contents out.old) (O.contents out.new)
         (codes "serving\n")) }

@@ -59,6 +59,7 @@ pub fn serve_example<R: Source, W: Sink, C: Clock>(
     };
     let end = serve(
         alloc,
+        &mut None,
         reader,
         writer,
         &mut store,

@@ -8,3 +8,5 @@ pub mod StartLaws
 pub mod ListLaws
 -- such a list, replayed
 pub mod ReplayLaws
+-- entries that are kept
+pub mod KeeperLemmas

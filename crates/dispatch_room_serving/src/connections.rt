@@ -8,6 +8,7 @@ use dispatch_room_exit::exit_status::{Done, Failure};
 use room_http::observers::Observer;
 use room_http::session::{ServeEnd, serve};
 use room_http::settings::Setting;
+use room_http_requests::routes::Routes;
 use room_http_time::clocks::Clock;
 use room_store::store::Store;
 use sqlite::Alter;
@@ -51,8 +52,17 @@ pub fn serve_each<S: Alter, P: Callers, C: Clock, N: Observer>(
         })
         connections result }
 {
+    let mut routes = None;
     for _connection in 0..connections {
-        if let Err(fault) = serve_next(alloc, callers, room, setting, clock, observer) {
+        if let Err(fault) = serve_next(
+            alloc,
+            &mut routes,
+            callers,
+            room,
+            setting,
+            clock,
+            observer,
+        ) {
             return Err(fault);
         }
     }
@@ -62,9 +72,11 @@ pub fn serve_each<S: Alter, P: Callers, C: Clock, N: Observer>(
 /// Serves the next call. Where more is served after it, what held after the calls before holds
 /// after one more: so it does after every number of them, however long the room is served. A
 /// connection that ends badly doesn't end the service, but for lack of memory, where the witness
-/// could not keep what it was told, and where the store is not sound any longer.
+/// could not keep what it was told, and where the store is not sound any longer. The routes are
+/// kept from one to the next.
 pub fn serve_next<S: Alter, P: Callers, C: Clock, N: Observer>(
     alloc: Global,
+    routes: &mut Option<Routes>,
     callers: &mut P,
     room: &mut Store<S>,
     setting: &Setting,
@@ -101,6 +113,7 @@ pub fn serve_next<S: Alter, P: Callers, C: Clock, N: Observer>(
     };
     let end = serve(
         alloc,
+        routes,
         &mut reader,
         &mut writer,
         room,

@@ -1,52 +1,188 @@
-//! The file of a journal: what a crash cut off is taken away, and records are appended.
+//! The file of a journal: what a crash cut off is taken away, and entries are put behind the rest.
 ghost use Rattle.std.specs.Prelude.{◌≡◌, ◌⊎◌, ℕ, List, false, if◌then◌else◌, nat_lt};
-ghost use Rattle.std.specs.Prelude.{Option, Some, None, IfErr, IsTrue, MatchResult};
+ghost use Rattle.std.specs.Option.{option_map};
+ghost use Rattle.dispatch_room_chain.specs.Chains.{sha256_digits};
+ghost use Rattle.dispatch_room_chain.specs.PlainTexts.{StandsKnown, plain_of};
+ghost use Rattle.dispatch_room_chain.specs.declared.list_ends.ListEnd.{ListEnd};
+ghost use Rattle.std.specs.Prelude.{Bool, Option, Some, None, IfErr, IsTrue, MatchResult, is_some, refl};
 ghost use Rattle.dispatch_room_exit.specs.declared.exit_status.Failure.TheVariants as failure;
 ghost use Rattle.dispatch_room_journal.specs.WholeEntries.{EndsWhole};
 ghost use Rattle.dispatch_room_serving.specs.Journals.{IsUnread};
+ghost use Rattle.dispatch_room_serving.specs.declared.journal_files.WrittenFile.{WrittenFile};
 
-use crate::journals::Synced;
+use crate::journals::Keeper;
+use dispatch_room_chain::fronts::{FIRST_LINK, OPENING};
+use dispatch_room_chain::headers::HEADER;
+use dispatch_room_chain::list_ends::{ListEnd, put_end, put_entry};
+use dispatch_room_chain::record_inbox::RecordInbox;
+use dispatch_room_chain::record_writer::put_opening;
+use dispatch_room_chain::whole_records::{ListForm, WholeChain, look_through};
 use dispatch_room_exit::exit_status::Failure;
 use dispatch_room_exit::explainer::Explainer;
 use dispatch_room_journal::entry_reader::EntryFault;
 use dispatch_room_journal::journal_inbox::JournalInbox;
 use dispatch_room_journal::whole_entries::whole_bytes;
+use room_http::observers::Unkept;
 use room_http_messages::sinks::{Sink, WriteFailed};
 use room_http_messages::sources::Source;
 use room_http_messages::standard_wires::Wire;
 use std::alloc::Global;
 use std::fs;
 use std::fs::{File, OpenOptions, TryLockError};
-use std::io::{Error, ErrorKind, Write};
+use std::io::{Error, ErrorKind, Read, Seek, SeekFrom, Write};
+use std::marker::Model;
 use std::os::fd::AsRawFd;
 use std::os::unix::fs::OpenOptionsExt;
 
+/// The file of a journal that was opened, and how its list goes on.
+#[derive(Drop)]
+pub struct OpenedList {
+    pub file: File,
+    pub end: ListEnd,
+}
+
 /// Opens the file of a journal behind its last whole record, and keeps others from writing it. One
-/// that is not there is made, for its owner only. What a crash cut off is taken away, and reported.
-/// What stands in the file then lasts, and so does its name. Where the file can't be opened, or is no
-/// journal, it is explained why.
+/// that is not there is made, for its owner only, and an empty one begins as a chain. What a crash
+/// cut off is taken away, and reported. What stands in the file then lasts, and so does its name.
+/// Where the file can't be opened, or is no journal, it is explained why.
 pub fn open_journal<E: Write>(
     rt: &HostRuntime,
     explainer: Explainer<'_>,
     alloc: Global,
     path: &str,
     err: &mut E,
-) -> Result<File, Failure>
+) -> Result<OpenedList, Failure>
     ensures { IfErr result (λ fault. (fault ≡ failure.Memory) ⊎ (fault ≡ failure.Journal)) }
 {
     let file = opened(rt, explainer, path)?;
     if let Err(error) = settle(rt, path, &file) {
         return Err(fault_of(explainer, path, &error));
     }
-    let whole = whole_in(alloc, explainer, path, &mut Wire::new(&file))?;
-    match cut(&file, whole) {
+    let list = whole_list(alloc, explainer, path, &file)?;
+    match cut(&file, list.whole) {
         Ok(false) => {}
         Ok(true) => {
             let _ = writeln!(err, "journal: a record that was cut off is taken away");
         }
         Err(error) => return Err(fault_of(explainer, path, &error)),
     }
-    Ok(file)
+    let end = match list.end {
+        Some(end) if list.whole > 0 => end,
+        _ => begin_chain(explainer, path, &file)?,
+    };
+    Ok(OpenedList { file, end })
+}
+
+// Writes the line with which a chain begins, and makes it last.
+fn begin_chain(explainer: Explainer<'_>, path: &str, file: &File) -> Result<ListEnd, Failure>
+    ensures { IfErr result (λ fault. (fault ≡ failure.Memory) ⊎ (fault ≡ failure.Journal)) }
+{
+    let mut out = WrittenFile {
+        file: SystemFile::new(file, explainer, path),
+        failed: false,
+    };
+    if put_opening(&mut out).is_err() {
+        return Err(Failure::Journal);
+    }
+    match file.sync_all() {
+        Ok(()) => Ok(ListEnd::Chain(FIRST_LINK)),
+        Err(error) => Err(fault_of(explainer, path, &error)),
+    }
+}
+
+// What of a file is whole records, and how its list goes on: none where none is begun.
+#[derive(Clone, Copy)]
+struct WholeList {
+    whole: u64,
+    end: Option<ListEnd>,
+}
+
+// What of a file is whole records, or it is explained why that is unknown.
+fn whole_list(
+    alloc: Global,
+    explainer: Explainer<'_>,
+    path: &str,
+    file: &File,
+) -> Result<WholeList, Failure>
+    ensures { IfErr result (λ fault. (fault ≡ failure.Memory) ⊎ (fault ≡ failure.Journal)) }
+{
+    let mut inbox = RecordInbox::new();
+    match look_through(&mut inbox, &mut Wire::new(file)) {
+        Ok(ListForm::New) => Ok(WholeList {
+            whole: 0,
+            end: None,
+        }),
+        Ok(ListForm::Chain(chain)) => whole_chain(explainer, path, file, &chain),
+        Ok(ListForm::Plain) => {
+            let mut begin = file;
+            if let Err(error) = begin.seek(SeekFrom::Start(0)) {
+                return Err(fault_of(explainer, path, &error));
+            }
+            let whole = whole_in(alloc, explainer, path, &mut Wire::new(file))?;
+            Ok(WholeList {
+                whole,
+                end: Some(ListEnd::Plain),
+            })
+        }
+        Err(EntryFault::Read) => {
+            explainer.explain(format_args!("{path} can't be read"));
+            Err(Failure::Journal)
+        }
+        Err(_) => {
+            explainer.explain(format_args!(
+                "{path} is no journal: `dispatch_room verify {path}` says at which record"
+            ));
+            Err(Failure::Journal)
+        }
+    }
+}
+
+// What of a chain is whole records, where what follows them may be left of one.
+fn whole_chain(
+    explainer: Explainer<'_>,
+    path: &str,
+    file: &File,
+    chain: &WholeChain,
+) -> Result<WholeList, Failure>
+    ensures { IfErr result (λ fault. (fault ≡ failure.Memory) ⊎ (fault ≡ failure.Journal)) }
+{
+    let whole = chain.bytes.saturating_add(OPENING.len() as u64);
+    match may_be_cut(file, whole) {
+        Ok(true) => Ok(WholeList {
+            whole,
+            end: Some(ListEnd::Chain(chain.link)),
+        }),
+        Ok(false) => {
+            explain_unread(explainer, path, EntryFault::Foreign, whole);
+            Err(Failure::Journal)
+        }
+        Err(error) => Err(fault_of(explainer, path, &error)),
+    }
+}
+
+// Whether what follows so many bytes of a chain may be left of a record.
+fn may_be_cut(file: &File, whole: u64) -> Result<bool, Error> {
+    let mut reader = file;
+    reader.seek(SeekFrom::Start(whole))?;
+    let mut line = [0; HEADER];
+    let count = reader.read(&mut line)?;
+    for at in 0..count.min(HEADER) {
+        if !may_stand(at, line[at]) {
+            return Ok(false);
+        }
+    }
+    Ok(true)
+}
+
+// Whether a byte may stand at a place of the line before a record: the digits of a size, a space,
+// the digits of a check, and a line end.
+fn may_stand(at: usize, byte: u8) -> bool {
+    match at {
+        0..=4 => byte.is_ascii_digit(),
+        5 => byte == b' ',
+        70 => byte == b'\n',
+        _ => byte.is_ascii_digit() || (b'a'..=b'f').contains(&byte),
+    }
 }
 
 // The file of a journal, which nobody else has open for the same.
@@ -164,10 +300,15 @@ pub trait Lasting: Write {
     // What it holds wherever the machine stops, where that is known.
     ghost lasting: { Self → Option (List ℕ) };
 
+    // Whether what it holds is known, of each of these or of none.
+    ghost is_known: { Bool };
+
     /// Makes all that was written last, and says whether it could.
     fn make_last(&mut self) -> bool
         ensures held { Self.contents self.new ≡ Self.contents self.old }
         ensures lasts { IsTrue result → lasting self.new ≡ Self.contents self.new };
+
+    ghost known: { (file : Self) → is_some (Self.contents file) ≡ is_known };
 }
 
 /// A file of the system. Where it can't be written, it is explained why.
@@ -213,6 +354,8 @@ impl<'a> Write for SystemFile<'a> {
 impl<'a> Lasting for SystemFile<'a> {
     ghost lasting = { λ _. None };
 
+    ghost is_known = { false };
+
     fn make_last(&mut self) -> bool {
         match self.file.sync_data() {
             Ok(()) => true,
@@ -222,31 +365,21 @@ impl<'a> Lasting for SystemFile<'a> {
             }
         }
     }
+
+    ghost known = { λ _. refl };
 }
 
-/// The file of a journal, to which records are appended.
+/// A file that is written to, and whether a write failed.
 #[derive(Drop)]
-pub struct JournalFile<F> {
+pub struct WrittenFile<F> {
     file: F,
     failed: bool,
 }
 
-impl<F: Lasting> JournalFile<F> {
-    /// A file that was opened.
-    pub fn new(file: F) -> JournalFile<F>
-        ensures { result ≡ record { file = file; failed = false } }
-    {
-        JournalFile {
-            file,
-            failed: false,
-        }
-    }
-}
+impl<F: Lasting> Sink for WrittenFile<F> {
+    ghost held = { λ written. F.contents written.file };
 
-impl<F: Lasting> Sink for JournalFile<F> {
-    ghost held = { λ journal. F.contents journal.file };
-
-    ghost has_failed = { λ journal. journal.failed };
+    ghost has_failed = { λ written. written.failed };
 
     fn write(&mut self, buf: &[u8]) -> Result<usize, WriteFailed> {
         match self.file.write(buf) {
@@ -264,14 +397,67 @@ impl<F: Lasting> Sink for JournalFile<F> {
     }
 }
 
-impl<F: Lasting> Synced for JournalFile<F> {
-    ghost lasting = { λ journal. F.lasting journal.file };
+/// The file of a journal, behind which entries are put as its list goes on. Once one could not be
+/// put, none is.
+#[derive(Drop)]
+pub struct JournalFile<F: Lasting> {
+    out: WrittenFile<F>,
+    end: ListEnd,
+}
 
-    fn is_sound(&self) -> bool {
-        !self.failed
+// Where no write failed, the list goes on at the file's end.
+impl<F: Lasting> Model for JournalFile<F> {
+    ghost Value = { WrittenFile F × ListEnd };
+
+    ghost view = { λ journal. (journal.out, journal.end) };
+
+    ghost invariant = { λ journal. journal.out.failed ≡ false
+        → StandsKnown journal.end (F.contents journal.out.file) };
+}
+
+impl<F: Lasting> JournalFile<F> {
+    /// A file that was opened, and whose list goes on from here.
+    pub fn new(file: F, end: ListEnd) -> JournalFile<F>
+        requires { StandsKnown end (F.contents file) }
+        ensures { result ≡ (record { file = file; failed = false }, end) }
+    {
+        JournalFile {
+            out: WrittenFile {
+                file,
+                failed: false,
+            },
+            end,
+        }
+    }
+}
+
+// The entries are those that the list stands for, in whichever form.
+impl<F: Lasting> Keeper for JournalFile<F> {
+    ghost held = { λ journal. option_map (plain_of sha256_digits) (F.contents journal.0.file) };
+
+    ghost lasting = { λ journal. option_map (plain_of sha256_digits) (F.lasting journal.0.file) };
+
+    fn keep(&mut self, entry: &[u8]) -> Result<(), Unkept> {
+        if self.out.failed {
+            return Err(Unkept);
+        }
+        match put_entry(&mut self.out, &mut self.end, entry) {
+            Ok(()) => Ok(()),
+            Err(_) => Err(Unkept),
+        }
+    }
+
+    fn end(&mut self) -> Result<(), Unkept> {
+        if self.out.failed {
+            return Err(Unkept);
+        }
+        match put_end(&mut self.out, &mut self.end) {
+            Ok(()) => Ok(()),
+            Err(_) => Err(Unkept),
+        }
     }
 
     fn sync(&mut self) -> bool {
-        self.file.make_last()
+        self.out.file.make_last()
     }
 }

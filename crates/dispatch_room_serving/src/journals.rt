@@ -1,33 +1,41 @@
 //! A journal of what is served: each message before the room acts on it, and its answer's status
 //! before the answer is written.
-ghost use Rattle.std.specs.Prelude.{◌≡◌, ◌&&◌, ◌||◌, ℕ, List, false, is_err, not, Option, IsTrue, OnOk};
+ghost use Rattle.std.specs.Prelude.{◌≡◌, ◌&&◌, ◌||◌, ℕ, List, [], false, is_err, Option, IsTrue, OnOk};
 ghost use Rattle.room_http.specs.Arrivals.{IsBounded};
 ghost use Rattle.room_http.specs.Kept.{KeepsAll, came_of, told_of};
-ghost use Rattle.dispatch_room_journal.specs.Entries.{IsDigest, IsEntry, message};
+ghost use Rattle.dispatch_room_journal.specs.Entries.{Entry, IsDigest, IsEntry, message, text_of};
 ghost use Rattle.dispatch_room_journal.specs.JournalRecords.{answer_text, message_text, room_text};
 ghost use Rattle.dispatch_room_serving.specs.Journals.{FailsForGood, Lasts, is_message};
 
+use dispatch_room_chain::entry_texts::EntryText;
 use dispatch_room_journal::entry_writer::{put_answer, put_message, put_room};
 use dispatch_room_journal::statuses::status_of;
 use room_http::arrivals::Arrived;
 use room_http::observers::{Asked, Observer, Unkept};
-use room_http_messages::sinks::Sink;
 use room_model::digests::Head;
 use room_types::numbers::Moment;
 
-/// Where a journal is written.
-pub trait Synced: Sink {
-    // What it holds wherever the machine stops, where that is known.
+/// Where the entries of a journal are kept.
+pub trait Keeper {
+    // The text of the entries that it keeps, where that is known.
+    ghost held: { Self → Option (List ℕ) };
+
+    // The text of those that it keeps wherever the machine stops, where that is known.
     ghost lasting: { Self → Option (List ℕ) };
 
-    /// Whether no write has failed so far.
-    fn is_sound(&self) -> bool
-        ensures { result ≡ not (Self.has_failed self.now) };
+    /// Keeps one entry more.
+    fn keep(&mut self, entry: &[u8]) -> Result<(), Unkept>
+        requires is_one { (e : Entry) × IsEntry e × (entry.now ≡ text_of e) }
+        ensures kept { KeepsAll (held self.old) (held self.new) entry.now result };
 
-    /// Makes all that was written last, and says whether it could.
+    /// Keeps that the journal ended well, where it can say so.
+    fn end(&mut self) -> Result<(), Unkept>
+        ensures held { KeepsAll (held self.old) (held self.new) [] result };
+
+    /// Makes all that was kept last, and says whether it could.
     fn sync(&mut self) -> bool
-        ensures held { Self.held self.new ≡ Self.held self.old }
-        ensures lasts { IsTrue result → lasting self.new ≡ Self.held self.new };
+        ensures held { held self.new ≡ held self.old }
+        ensures lasts { IsTrue result → lasting self.new ≡ held self.new };
 }
 
 /// A journal: each message at its moment, as it came, and the status of its answer. What is refused
@@ -40,7 +48,7 @@ pub struct Journal<W> {
     has_failed: bool,
 }
 
-impl<W: Synced> Journal<W> {
+impl<W: Keeper> Journal<W> {
     /// A journal that goes on where its writer is. Its messages last before the room acts on them,
     /// or the system writes them when it likes.
     pub fn new(out: W, is_synced: bool) -> Journal<W>
@@ -70,6 +78,19 @@ impl<W: Synced> Journal<W> {
         self.told(kept)
     }
 
+    /// The journal ended well, where nothing failed.
+    pub fn end(&mut self) -> Result<(), Unkept>
+        ensures kept { KeepsAll (W.held self.old.out) (W.held self.new.out) [] result }
+        ensures failed { self.new.has_failed ≡ (self.old.has_failed || is_err result) }
+        ensures for_good { FailsForGood self.old self.new result }
+    {
+        if self.has_failed {
+            return Err(Unkept);
+        }
+        let kept = self.out.end();
+        self.told(kept)
+    }
+
     // What could not be kept, for whatever cause, makes the journal one that has failed.
     fn told(&mut self, kept: Result<(), Unkept>) -> Result<(), Unkept>
         requires { self.old.has_failed ≡ false }
@@ -83,7 +104,7 @@ impl<W: Synced> Journal<W> {
     }
 }
 
-impl<W: Synced> Observer for Journal<W> {
+impl<W: Keeper> Observer for Journal<W> {
     ghost held = { λ journal. W.held journal.out };
 
     ghost has_failed = { λ journal. journal.has_failed };
@@ -133,22 +154,20 @@ impl<W: Synced> Observer for Journal<W> {
 }
 
 // Keeps the head with which a part begins, and makes it last, where that is wanted.
-fn keep_room<W: Synced>(out: &mut W, is_synced: bool, head: &Head) -> Result<(), Unkept>
+fn keep_room<W: Keeper>(out: &mut W, is_synced: bool, head: &Head) -> Result<(), Unkept>
     requires { IsDigest head.now.digits }
     ensures kept { KeepsAll (W.held out.old) (W.held out.new) (room_text head.now) result }
     ensures lasts { OnOk result (Lasts is_synced (W.lasting out.new) (W.held out.new)) }
 {
-    if !out.is_sound() {
-        return Err(Unkept);
-    }
-    match put_room(out, head) {
-        Ok(()) if !is_synced || out.sync() => Ok(()),
-        _ => Err(Unkept),
+    let mut entry = EntryText::new();
+    match put_room(&mut entry, head) {
+        Ok(()) => keep_entry(out, is_synced, &entry),
+        Err(_) => Err(Unkept),
     }
 }
 
 // Keeps a message, and makes it last, where that is wanted.
-fn keep_message<W: Synced>(
+fn keep_message<W: Keeper>(
     out: &mut W,
     is_synced: bool,
     at: Moment,
@@ -158,27 +177,42 @@ fn keep_message<W: Synced>(
     ensures kept { KeepsAll (W.held out.old) (W.held out.new) (message_text at bytes.now) result }
     ensures lasts { OnOk result (Lasts is_synced (W.lasting out.new) (W.held out.new)) }
 {
-    if !out.is_sound() {
-        return Err(Unkept);
-    }
-    match put_message(out, at, bytes) {
-        Ok(()) if !is_synced || out.sync() => Ok(()),
-        _ => Err(Unkept),
+    let mut entry = EntryText::new();
+    match put_message(&mut entry, at, bytes) {
+        Ok(()) => keep_entry(out, is_synced, &entry),
+        Err(_) => Err(Unkept),
     }
 }
 
 // Keeps an answer's status.
-fn keep_answer<W: Synced>(out: &mut W, answer: &[u8]) -> Result<(), Unkept>
+fn keep_answer<W: Keeper>(out: &mut W, answer: &[u8]) -> Result<(), Unkept>
     ensures { KeepsAll (W.held out.old) (W.held out.new) (answer_text answer.now) result }
 {
     let Some(status) = status_of(answer) else {
         return Err(Unkept);
     };
-    if !out.is_sound() {
-        return Err(Unkept);
-    }
-    match put_answer(out, status) {
-        Ok(()) => Ok(()),
+    let mut entry = EntryText::new();
+    match put_answer(&mut entry, status) {
+        Ok(()) => out.keep(entry.bytes()),
         Err(_) => Err(Unkept),
     }
+}
+
+// Keeps an entry, and makes it last, where that is wanted.
+fn keep_entry<W: Keeper>(out: &mut W, is_synced: bool, entry: &EntryText) -> Result<(), Unkept>
+    requires { (e : Entry) × IsEntry e × (entry.now.text.items ≡ text_of e) }
+    ensures kept { KeepsAll (W.held out.old) (W.held out.new) entry.now.text.items result }
+    ensures lasts { OnOk result (Lasts is_synced (W.lasting out.new) (W.held out.new)) }
+{
+    match out.keep(entry.bytes()) {
+        Ok(()) => {}
+        Err(unkept) => return Err(unkept),
+    }
+    if !is_synced {
+        return Ok(());
+    }
+    if !out.sync() {
+        return Err(Unkept);
+    }
+    Ok(())
 }

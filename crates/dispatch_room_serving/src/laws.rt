@@ -21,18 +21,20 @@ pub fn starts_are_one_run<S: Alter>()
     ensures { StartsAreOneRun S.Store }
 {}
 
-/// What `serve_in` gives is such a start.
+/// What `serve_in` gives is a start of a run.
 pub fn what_was_served_is_a_start<S: Alter>()
     ensures { ServedIsAStart S.Store }
 {}
 
-/// What is being served is one after every number of calls.
+/// What is being served is a start of a run after every number of calls.
 pub fn what_is_served_is_a_start<S: Alter>()
     ensures { ServingIsAStart S.Store }
 {}
 
 /// The list that the service keeps over all starts can be replayed: from the room that the first
-/// found, with the answers that were given, to the room for which the store stands at the end.
+/// found, with the answers that were given, to the room for which the store stands at the end, or
+/// to the one before a last message without a status. It holds where a message that changes a room
+/// changes its digest.
 pub fn the_list_is_the_room_over_all_starts<S: Alter>()
     ensures { ListIsTheRoom S.Store }
 {}
@@ -42,7 +44,7 @@ pub fn what_was_served_kept_its_part<S: Alter>()
     ensures { ServedKeepsItsPart S.Store }
 {}
 
-/// So `replay` of the list, to a room that is equal to the first, comes to the room at its end.
+/// `replay` of the list, to a room that is equal to the first, comes to the room at its end.
 pub fn the_list_is_replayed<S: Alter, T: Alter>()
     ensures { ListIsReplayed S.Store T.Store }
 {}

@@ -1,11 +1,12 @@
 //! Who watches over what is served: a log, and perhaps a journal.
-ghost use Rattle.std.specs.Prelude.{◌≡◌, is_some};
+ghost use Rattle.std.specs.Prelude.{◌≡◌, [], is_some};
+ghost use Rattle.room_http.specs.Kept.{KeepsAll};
 ghost use Rattle.dispatch_room_journal.specs.JournalRecords.{answer_text, message_text, room_text};
 ghost use Rattle.dispatch_room_serving.specs.Journals.{failed_by, held_by};
 ghost use Rattle.dispatch_room_serving.specs.LoggedLines.{Logs};
 
 use crate::journal_observers::JournalObserver;
-use crate::journals::{Journal, Synced};
+use crate::journals::{Journal, Keeper};
 use crate::logs::Log;
 use room_http::arrivals::Arrived;
 use room_http::observers::{Asked, Observer, Unkept};
@@ -21,16 +22,27 @@ pub struct LogAndJournal<'a, E, T, W> {
     journal: Option<Journal<W>>,
 }
 
-impl<'a, E: Write, T: Clock, W: Synced> LogAndJournal<'a, E, T, W> {
+impl<'a, E: Write, T: Clock, W: Keeper> LogAndJournal<'a, E, T, W> {
     /// A log, and a journal or none.
     pub fn new(log: Log<'a, E, T>, journal: Option<Journal<W>>) -> LogAndJournal<'a, E, T, W>
         ensures { result.journal ≡ journal }
     {
         LogAndJournal { log, journal }
     }
+
+    /// What was kept ended well, where nothing failed.
+    pub fn end(&mut self) -> Result<(), Unkept>
+        ensures { KeepsAll (held_by W.held self.old.journal) (held_by W.held self.new.journal) []
+            result }
+    {
+        match &mut self.journal {
+            Some(journal) => journal.end(),
+            None => Ok(()),
+        }
+    }
 }
 
-impl<'a, E: Write, T: Clock, W: Synced> Observer for LogAndJournal<'a, E, T, W> {
+impl<'a, E: Write, T: Clock, W: Keeper> Observer for LogAndJournal<'a, E, T, W> {
     ghost held = { λ log_and_journal. held_by W.held log_and_journal.journal };
 
     ghost has_failed = { λ log_and_journal. failed_by log_and_journal.journal };
@@ -65,7 +77,7 @@ impl<'a, E: Write, T: Clock, W: Synced> Observer for LogAndJournal<'a, E, T, W> 
     }
 }
 
-impl<'a, E: Write, T: Clock, W: Synced> JournalObserver for LogAndJournal<'a, E, T, W> {
+impl<'a, E: Write, T: Clock, W: Keeper> JournalObserver for LogAndJournal<'a, E, T, W> {
     ghost wants = { λ log_and_journal. is_some log_and_journal.journal };
 
     ghost begun = { room_text };

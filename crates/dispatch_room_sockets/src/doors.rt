@@ -3,7 +3,7 @@
 use crate::entrances::Entrance;
 use crate::kept_callers::{Heard, is_over};
 use crate::lookaheads::{Lookahead, look_ahead};
-use crate::readiness::ready_now;
+use crate::readiness::is_readable;
 use crate::timeouts::earlier;
 use libc::types::rlimit;
 use libc::{RLIMIT_NOFILE, getrlimit};
@@ -13,7 +13,8 @@ use mio::{Interest, Poll, Token};
 use std::alloc::Global;
 use std::io::{Error, ErrorKind, Read};
 use std::net::{TcpListener, TcpStream};
-use std::os::fd::{AsRawFd, RawFd};
+use std::os::fd::{AsRawFd, OwnedFd, RawFd};
+use std::rc::Rc;
 use std::time::{Clock, Duration};
 use std::{io, thread};
 
@@ -28,7 +29,7 @@ const MOST_EVENTS: usize = 1100;
 // where too many files are open: it would say the same again at once.
 pub(crate) const PAUSE: u64 = 100;
 
-// How many descriptors are left to the room itself: its files, and the second one of who is served.
+// How many descriptors are left to the room itself, as to its files.
 const SPARE: u64 = 8;
 
 // How many bytes are thrown away by one read, and by how many reads in one look: who sends more
@@ -40,7 +41,7 @@ const MOST_PIECES: u32 = 4096;
 /// A connection of one who called.
 #[derive(Drop)]
 pub struct Client {
-    pub(crate) stream: TcpStream,
+    pub(crate) stream: Rc<TcpStream>,
     // What stood ahead when it was looked at last.
     pub(crate) ahead: Lookahead,
     slot: usize,
@@ -52,7 +53,7 @@ pub struct Client {
 
 impl Client {
     // A connection that was not looked at yet.
-    fn new(stream: TcpStream, slot: usize) -> Client {
+    fn new(stream: Rc<TcpStream>, slot: usize) -> Client {
         Client {
             stream,
             ahead: Lookahead::Nothing,
@@ -85,6 +86,7 @@ fn first_spare() -> RawFd {
 #[derive(Drop)]
 pub struct Door<'a> {
     rt: &'a HostRuntime,
+    alloc: Global,
     listener: TcpListener,
     poll: Poll,
     events: Events<Global>,
@@ -95,22 +97,33 @@ pub struct Door<'a> {
     slot: usize,
     // Whether someone may be calling.
     is_called: bool,
+    // Whether who may still speak is watched once it was looked at.
+    watches: bool,
     // Until when nobody is accepted.
     deaf_until: Duration,
     // Whether the last who was accepted has a descriptor that is to be left to the room itself.
     is_full: bool,
+    // Up to this one descriptors are not left to the room itself.
+    known: RawFd,
+}
+
+// Lets each answer of those who are accepted leave at once: they inherit it from what listens.
+fn set_nodelay(listener: &TcpListener) -> io::Result<()> {
+    TcpStream::from(OwnedFd::from(listener.try_clone()?)).set_nodelay(true)
 }
 
 impl<'a> Door<'a> {
     /// The door where this listens.
     pub fn new(rt: &'a HostRuntime, alloc: Global, listener: TcpListener) -> io::Result<Door<'a>> {
         listener.set_nonblocking(true)?;
+        set_nodelay(&listener)?;
         let poll = Poll::new(rt)?;
         let fd = listener.as_raw_fd();
         poll.registry()
             .register(&mut SourceFd(&fd), Token(SLOTS), Interest::READABLE)?;
         Ok(Door {
             rt,
+            alloc,
             listener,
             poll,
             events: Events::with_capacity(alloc, MOST_EVENTS)?,
@@ -118,8 +131,10 @@ impl<'a> Door<'a> {
             wait: 0,
             slot: 0,
             is_called: true,
+            watches: false,
             deaf_until: Duration::ZERO,
             is_full: false,
+            known: 0,
         })
     }
 
@@ -168,11 +183,38 @@ impl<'a> Door<'a> {
         }
     }
 
-    // Accepts nobody for a while.
+    // Accepts nobody for a while. Since then more descriptors may be left to the room itself.
     fn pause(&mut self) {
+        self.known = 0;
         if let Ok(now) = self.rt.monotonic() {
             self.deaf_until = now.saturating_add(Duration::from_millis(PAUSE));
         }
+    }
+
+    // Whether this descriptor is one of those that are left to the room itself. The system is asked
+    // only where it gave none as high before.
+    fn is_spare(&mut self, fd: RawFd) -> bool {
+        if fd <= self.known {
+            return false;
+        }
+        let is_spare = fd >= first_spare();
+        if !is_spare {
+            self.known = fd;
+        }
+        is_spare
+    }
+
+    // One who was accepted: none where its stream can't be had.
+    fn admitted(&mut self, stream: TcpStream) -> Option<Client> {
+        // To ask whether more call is cheaper than to be told that none does.
+        self.is_called = is_readable(self.listener.as_raw_fd());
+        self.is_full = self.is_spare(stream.as_raw_fd());
+        stream.set_nonblocking(true).ok()?;
+        let stream = Rc::new(self.alloc, stream).ok()?;
+        let slot = self.slot;
+        let next = slot.saturating_add(1);
+        self.slot = if next < SLOTS { next } else { 0 };
+        Some(Client::new(stream, slot))
     }
 
     // Whether the next descriptor is one of those that are left to the room itself.
@@ -211,14 +253,7 @@ impl<'a> Entrance for Door<'a> {
             return None;
         }
         match self.listener.accept() {
-            Ok((stream, _)) => {
-                let _ = stream.set_nodelay(true);
-                self.is_full = stream.as_raw_fd() >= first_spare();
-                let slot = self.slot;
-                let next = slot.saturating_add(1);
-                self.slot = if next < SLOTS { next } else { 0 };
-                Some(Client::new(stream, slot))
-            }
+            Ok((stream, _)) => self.admitted(stream),
             Err(error) => {
                 self.note(&error);
                 None
@@ -228,9 +263,10 @@ impl<'a> Entrance for Door<'a> {
 
     fn look(&mut self, client: &mut Client) -> Heard {
         if client.is_fresh || self.has_moved(client.slot) {
-            client.is_fresh = false;
-            client.ahead = look_ahead(&client.stream, ready_now(&client.stream));
-            if matches!(client.ahead, Lookahead::Nothing | Lookahead::Part) {
+            client.ahead = look_ahead(client.stream.as_ref());
+            let may_speak = matches!(client.ahead, Lookahead::Nothing | Lookahead::Part);
+            client.is_fresh = may_speak && !client.is_watched;
+            if may_speak && self.watches {
                 self.watch(client);
             }
         }
@@ -243,17 +279,23 @@ impl<'a> Entrance for Door<'a> {
         }
         client.is_fresh = false;
         let mut piece = [0; PIECE];
+        let mut stream = client.stream.as_ref();
         for _piece in 0..MOST_PIECES {
-            if !ready_now(&client.stream).is_readable {
-                self.watch(client);
-                return true;
-            }
-            match client.stream.read(&mut piece) {
-                Ok(0) | Err(_) => return false,
+            match stream.read(&mut piece) {
+                Ok(0) => return false,
                 Ok(_) => {}
+                Err(error) if error.kind() == ErrorKind::WouldBlock => {
+                    self.watch(client);
+                    return true;
+                }
+                Err(_) => return false,
             }
         }
         false
+    }
+
+    fn is_watched(&self, client: &Client) -> bool {
+        client.is_watched
     }
 
     fn wait(&mut self, most: Duration) {
@@ -263,6 +305,7 @@ impl<'a> Entrance for Door<'a> {
         } else {
             most
         };
+        self.watches = most.is_zero();
         self.wait = self.wait.saturating_add(1);
         if self.poll.poll(&mut self.events, Some(most)).is_err() {
             thread::sleep(self.rt, pause);

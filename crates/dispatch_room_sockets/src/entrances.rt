@@ -32,7 +32,11 @@ pub trait Entrance: Drop {
         ensures came { came self.new ≡ came self.old }
         ensures heard { heard self.new ≡ heard self.old };
 
-    /// Waits until someone moves, and so long at most.
+    /// Whether `wait` finds when one moves.
+    fn is_watched(&self, caller: &Self::Caller) -> bool;
+
+    /// Waits until someone moves, and so long at most. Who was looked at after it waited for nothing
+    /// is watched, where they may still speak.
     fn wait(&mut self, most: Duration)
         ensures came { came self.new ≡ came self.old }
         ensures heard { heard self.new ≡ heard self.old };

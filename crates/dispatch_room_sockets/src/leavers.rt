@@ -1,20 +1,53 @@
 //! Those who are parted from: the writing side of each is shut, and what they still say is thrown
 //! away among the others, so that nobody waits for them.
-ghost use Rattle.std.specs.Prelude.{◌≤◌, ◌<◌, All};
+ghost use Rattle.std.specs.Prelude.{◌≤◌, ◌<◌, All, true};
 ghost use Rattle.std.specs.Duration.{as_nanos};
 ghost use Rattle.std.specs.VecDeque.{deque_len, deque_capacity};
 ghost use Rattle.std.specs.Prelude.{◌≡◌};
 
 use crate::entrances::Entrance;
 use crate::kept_callers::is_over;
+use crate::timeouts::earlier;
 use std::collections::VecDeque;
 use std::time::Duration;
+
+// How many milliseconds one who leaves may stay longer than it rests where nobody else moves: to be
+// woken for each as soon as it is due would cost as much as to serve another.
+const SLACK: u64 = 100;
 
 /// One who is parted from, until they are gone, or until a moment.
 #[derive(Drop)]
 pub struct Leaver<C> {
     pub caller: C,
     pub until: Duration,
+    /// Until when it is left alone, since most are gone a moment later: none once it was looked at.
+    pub rests: Option<Duration>,
+}
+
+impl<C> Leaver<C> {
+    // Whether it is looked at now, which is noted.
+    fn is_due(&mut self, now: Duration) -> bool
+        ensures same { self.new.until ≡ self.old.until }
+    {
+        match self.rests {
+            Some(rests) if !is_over(now, rests) => false,
+            _ => {
+                self.rests = None;
+                true
+            }
+        }
+    }
+
+    /// When it is looked at at the latest, whether anybody moves or not.
+    pub(crate) fn next(&self) -> Duration {
+        match self.rests {
+            Some(rests) => {
+                let latest = rests.saturating_add(Duration::from_millis(SLACK));
+                earlier(latest, self.until)
+            }
+            None => self.until,
+        }
+    }
 }
 
 /// Throws away what each of them still says. Who has said all, or whose time is over, is dropped.
@@ -32,9 +65,21 @@ pub(crate) fn throw_away_all<E: Entrance>(
 {
     for _leaver in 0..leavers.len() {
         if let Some(mut leaver) = leavers.pop_front() {
-            if entrance.throw_away(&mut leaver.caller) && !is_over(now, leaver.until) {
+            if stays(entrance, &mut leaver, now) {
                 leavers.push_back_reserved(leaver);
             }
         }
     }
+}
+
+// Throws away what one of them still says, where it is to be looked at, and says whether it stays.
+fn stays<E: Entrance>(entrance: &mut E, leaver: &mut Leaver<E::Caller>, now: Duration) -> bool
+    ensures in_time { result ≡ true → as_nanos now < as_nanos leaver.new.until }
+    ensures came { E.came entrance.new ≡ E.came entrance.old }
+    ensures heard { E.heard entrance.new ≡ E.heard entrance.old }
+{
+    if is_over(now, leaver.until) {
+        return false;
+    }
+    !leaver.is_due(now) || entrance.throw_away(&mut leaver.caller)
 }

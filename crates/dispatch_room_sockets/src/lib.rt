@@ -16,6 +16,7 @@ pub mod pieces;
 mod read_deadlines;
 pub mod readiness;
 mod retries;
+mod shared_streams;
 pub mod socket_readers;
 pub mod socket_writers;
 pub mod timeouts;

@@ -5,9 +5,10 @@ ghost use Rattle.dispatch_room_sockets.specs.Lookaheads.{LookaheadIs, heard_of};
 ghost use Rattle.std.specs.Prelude.{◌≡◌};
 
 use crate::kept_callers::Heard;
-use crate::readiness::Readiness;
+use crate::readiness::has_ended;
 use room_http_messages::limits::INBOX_ROOM;
 use room_http_messages::message_prefixes::{MessagePrefix, look_at};
+use std::io::ErrorKind;
 use std::net::TcpStream;
 
 /// What stands ahead in a stream.
@@ -25,15 +26,20 @@ pub enum Lookahead {
     End,
 }
 
-/// What stands ahead in a stream that is so ready.
-pub(crate) fn look_ahead(stream: &TcpStream, ready: Readiness) -> Lookahead {
-    if !ready.is_readable {
-        return Lookahead::Nothing;
-    }
+/// What stands ahead in a stream that doesn't block. Whether more of a part may come is asked only
+/// where it is one.
+pub(crate) fn look_ahead(stream: &TcpStream) -> Lookahead {
     let mut bytes = [0; INBOX_ROOM];
     match stream.peek(&mut bytes) {
-        Ok(0) | Err(_) => Lookahead::End,
-        Ok(count) => lookahead_of(&bytes[..count], ready.has_ended),
+        Ok(0) => Lookahead::End,
+        Ok(count) => match lookahead_of(&bytes[..count], false) {
+            Lookahead::Part => lookahead_of(&bytes[..count], has_ended(stream)),
+            ahead => ahead,
+        },
+        Err(error) => match error.kind() {
+            ErrorKind::WouldBlock | ErrorKind::Interrupted => Lookahead::Nothing,
+            _ => Lookahead::End,
+        },
     }
 }
 

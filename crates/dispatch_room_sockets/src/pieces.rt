@@ -7,13 +7,13 @@ use crate::doors::{Client, Door, PAUSE};
 use crate::entrances::Entrance;
 use crate::kept_callers::{Kept, is_over};
 use crate::lookaheads::{Lookahead, look_ahead};
-use crate::readiness::{ready_before, ready_now};
+use crate::readiness::ready_before;
+use crate::shared_streams::SharedStream;
 use crate::socket_writers::SocketWriter;
 use crate::waiting_callers::Waiting;
 use room_http_messages::limits::INBOX_ROOM;
 use room_http_messages::sources::{ReadFailed, Source};
 use std::io::Read;
-use std::net::TcpStream;
 use std::os::fd::RawFd;
 use std::thread;
 use std::time::{Clock, Duration};
@@ -110,14 +110,15 @@ impl<'a> PieceReader<'a> {
             return Lookahead::Nothing;
         };
         let most = self.alone_until.saturating_sub(now);
-        let (ready, is_elsewhere) = ready_before(&self.kept.caller.stream, self.elsewhere, most);
+        let stream = self.kept.caller.stream.as_ref();
+        let (ready, is_elsewhere) = ready_before(stream, self.elsewhere, most);
         if is_elsewhere {
             self.alone_until = now;
         }
-        if self.has_had_its_turn() {
+        if !ready.is_readable || self.has_had_its_turn() {
             return Lookahead::Nothing;
         }
-        look_ahead(&self.kept.caller.stream, ready)
+        look_ahead(self.kept.caller.stream.as_ref())
     }
 
     // Whether others are served before it goes on.
@@ -143,10 +144,7 @@ impl<'a> PieceReader<'a> {
         } else {
             buf.len().min(self.left)
         };
-        let stream = &mut self.kept.caller.stream;
-        if self.is_last && !ready_now(stream).is_readable {
-            return Err(ReadFailed);
-        }
+        let mut stream = self.kept.caller.stream.as_ref();
         match stream.read(&mut buf[..most]) {
             Ok(count) => {
                 self.left = self.left.saturating_sub(count);
@@ -209,7 +207,7 @@ impl<'a> Source for PieceReader<'a> {
 }
 
 /// What is written to on a connection.
-pub type PieceWriter<'a> = SocketWriter<'a, TcpStream, HostRuntime>;
+pub type PieceWriter<'a> = SocketWriter<'a, SharedStream, HostRuntime>;
 
 /// The two sides of the next piece, where someone is to be served.
 pub fn next_piece<'a>(
@@ -230,8 +228,8 @@ pub fn next_piece<'a>(
     let door = waiting.entrance();
     door.release(&mut kept.caller);
     let elsewhere = door.set();
-    let Ok(stream) = kept.caller.stream.try_clone() else {
-        // Without a descriptor nobody can be served.
+    let Ok(stream) = SharedStream::new(&kept.caller.stream) else {
+        // Without memory nobody can be served.
         thread::sleep(rt, Duration::from_millis(PAUSE));
         kept.caller.refresh();
         waiting.take_back(kept);

@@ -1,6 +1,6 @@
 //! Whether something can be read from a socket, by the system.
 
-use libc::net::{POLLERR, POLLHUP, POLLIN, POLLRDHUP, poll};
+use libc::net::{POLLERR, POLLHUP, POLLIN, POLLOUT, POLLRDHUP, poll};
 use libc::types::pollfd;
 use std::net::TcpStream;
 use std::os::fd::{AsRawFd, RawFd};
@@ -24,19 +24,39 @@ fn readiness_of(events: i16) -> Readiness {
 }
 
 // What the system is asked of a descriptor.
-fn asked(fd: RawFd) -> pollfd {
+fn asked(fd: RawFd, events: i16) -> pollfd {
     pollfd {
         fd,
-        events: POLLIN | POLLRDHUP,
+        events,
         revents: 0,
     }
 }
 
-/// How ready a socket is now.
-pub(crate) fn ready_now(stream: &TcpStream) -> Readiness {
-    let mut sockets = [asked(stream.as_raw_fd())];
+// So many milliseconds, as the system counts them.
+fn in_millis(wait: Duration) -> i32 {
+    i32::try_from(wait.as_millis()).unwrap_or(i32::MAX)
+}
+
+/// Whether something can be read now, or one be accepted.
+pub(crate) fn is_readable(fd: RawFd) -> bool {
+    poll(&mut [asked(fd, POLLIN)], 0) > 0
+}
+
+/// Whether the peer of a socket sends no more. What it sent before can still be read.
+pub(crate) fn has_ended(stream: &TcpStream) -> bool {
+    let mut sockets = [asked(stream.as_raw_fd(), POLLRDHUP)];
     let ready = poll(&mut sockets, 0);
-    readiness_of(if ready > 0 { sockets[0].revents } else { 0 })
+    readiness_of(if ready > 0 { sockets[0].revents } else { 0 }).has_ended
+}
+
+/// Whether a socket has room for what is written to it, or may have, before a wait is over.
+pub(crate) fn has_room_before(stream: &TcpStream, wait: Option<Duration>) -> bool {
+    let mut sockets = [asked(stream.as_raw_fd(), POLLOUT)];
+    let millis = match wait {
+        Some(wait) => in_millis(wait),
+        None => 0,
+    };
+    poll(&mut sockets, millis) != 0
 }
 
 /// How ready a socket is once it is, or once something moves elsewhere, and whether that did. It
@@ -46,9 +66,9 @@ pub(crate) fn ready_before(
     elsewhere: RawFd,
     most: Duration,
 ) -> (Readiness, bool) {
-    let mut sockets = [asked(stream.as_raw_fd()), asked(elsewhere)];
-    let millis = i32::try_from(most.as_millis()).unwrap_or(i32::MAX);
-    let ready = poll(&mut sockets, millis);
+    let events = POLLIN | POLLRDHUP;
+    let mut sockets = [asked(stream.as_raw_fd(), events), asked(elsewhere, events)];
+    let ready = poll(&mut sockets, in_millis(most));
     if ready > 0 {
         (
             readiness_of(sockets[0].revents),

@@ -18,6 +18,10 @@ const MOST_KEPT: usize = 1024;
 // How many seconds it is waited at most for someone to move.
 const LONGEST_PAUSE: u64 = 1;
 
+// How many milliseconds it is waited at most where one isn't watched, and how many one who leaves
+// rests.
+const SHORTEST_PAUSE: u64 = 2;
+
 /// Those who wait, and where they come in.
 #[derive(Drop)]
 pub struct Waiting<E: Entrance> {
@@ -82,17 +86,37 @@ impl<E: Entrance> Waiting<E> {
         self.ready.pop_front()
     }
 
-    // Looks at all as they have moved by now, and where that finds nobody to be served, waits until
-    // someone moves and looks at all again.
+    // Looks at all once all are watched, and where nobody is to be served by then, waits until
+    // someone moves.
     fn look_around(&mut self)
         ensures given { GivesNext self.old.line.items self.old.ready.items self.old.next
             self.new.line.items self.new.ready.items self.new.next None }
     {
-        self.wait(Duration::ZERO);
+        self.watch_all();
         if self.ready.is_empty() {
             let pause = self.longest_pause();
             self.wait(pause);
         }
+    }
+
+    // Where not all are watched, looks at all as they have moved by now, so that they are.
+    fn watch_all(&mut self)
+        ensures given { GivesNext self.old.line.items self.old.ready.items self.old.next
+            self.new.line.items self.new.ready.items self.new.next None }
+    {
+        if !self.are_watched() {
+            self.wait(Duration::ZERO);
+        }
+    }
+
+    // Whether all who are looked at are watched.
+    fn are_watched(&self) -> bool {
+        for kept in &self.line {
+            if !self.entrance.is_watched(&kept.caller) {
+                return false;
+            }
+        }
+        true
     }
 
     // Until when nobody's time is over, from now on.
@@ -151,9 +175,12 @@ impl<E: Entrance> Waiting<E> {
         let mut pause = Duration::from_secs(LONGEST_PAUSE);
         for kept in &self.line {
             pause = earlier(pause, kept.until.saturating_sub(now));
+            if !self.entrance.is_watched(&kept.caller) {
+                pause = earlier(pause, Duration::from_millis(SHORTEST_PAUSE));
+            }
         }
         for leaver in &self.leavers {
-            pause = earlier(pause, leaver.until.saturating_sub(now));
+            pause = earlier(pause, leaver.next().saturating_sub(now));
         }
         pause
     }
@@ -197,10 +224,14 @@ impl<E: Entrance> Waiting<E> {
         ensures same { (self.new.line.items ≡ self.old.line.items)
             × (self.new.ready.items ≡ self.old.ready.items) × (self.new.next ≡ self.old.next) }
     {
+        let Some(now) = self.entrance.now() else {
+            return;
+        };
         if self.leavers.len() < MOST_KEPT {
             self.leavers.push_back_reserved(Leaver {
                 caller: kept.caller,
                 until,
+                rests: Some(now.saturating_add(Duration::from_millis(SHORTEST_PAUSE))),
             });
         }
     }

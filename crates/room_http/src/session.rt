@@ -52,9 +52,11 @@ pub enum ServeEnd {
 /// after the message is whole or refused. Where the room is the dispatch machine's, what is served
 /// keeps the room's promises, and a stop leaves the room after every answer that was written. So it
 /// is whoever is told of it. A witness that keeps what it is told keeps each message before the
-/// room acts on it, and its answer before it is written.
+/// room acts on it, and its answer before it is written. The routes are made where they aren't yet,
+/// and kept for the next stream: to make them takes longer than to answer.
 pub fn serve<R: Source, W: Sink, M: Room, C: Clock, N: Observer>(
     alloc: Global,
+    routes: &mut Option<Routes>,
     reader: &mut R,
     writer: &mut W,
     room: &mut M,
@@ -120,7 +122,7 @@ pub fn serve<R: Source, W: Sink, M: Room, C: Clock, N: Observer>(
     ensures none_missed { MissesNone (R.left reader.old) (R.left reader.new) (C.given clock.old)
         (C.given clock.new) result }
 {
-    let Ok(routes) = Routes::new(alloc) else {
+    let Some(routes) = made_once(alloc, routes) else {
         return ServeEnd::Memory;
     };
     let Ok(mut inbox) = Inbox::new(alloc) else {
@@ -134,7 +136,7 @@ pub fn serve<R: Source, W: Sink, M: Room, C: Clock, N: Observer>(
             Err(end) => return end,
         };
         if let Err(end) = answer(
-            alloc, &routes, setting, &arrived, writer, room, clock, observer,
+            alloc, routes, setting, &arrived, writer, room, clock, observer,
         ) {
             return end;
         }
@@ -143,6 +145,14 @@ pub fn serve<R: Source, W: Sink, M: Room, C: Clock, N: Observer>(
         }
         pass(&mut inbox, &read);
     }
+}
+
+// The routes, which are made where they aren't yet: none where memory lacks for them.
+fn made_once(alloc: Global, routes: &mut Option<Routes>) -> Option<&Routes> {
+    if routes.is_none() {
+        *routes = Routes::new(alloc).ok();
+    }
+    routes.as_ref()
 }
 
 // What was read, as it is answered, or why serving ends with no answer.

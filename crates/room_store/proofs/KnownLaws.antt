@@ -16,6 +16,7 @@ use Rattle.room_model.specs.Room.{Room}
 use Rattle.room_store_cache.specs.Cache.{IsCacheOf, KnowsNothing}
 use Rattle.room_store_cache.specs.Backlogs.{IsBacklogOf}
 use Rattle.room_store_cache.specs.IncidentViews.{IsIncidentViewOf}
+use Rattle.room_store_cache.specs.ShownLists.{IsShownListOf}
 use Rattle.room_store_cache.specs.declared.cache.Cache.{Cache}
 use Rattle.room_store_cache.specs.KnownTerminals.{AreTerminalsOf, IsOneOf}
 
@@ -30,6 +31,7 @@ knows_nothing cache room nothing = record {
   backlogs = none_kept (λ x. IsBacklogOf x room) cache.backlogs.kept.items nothing.backlogs;
   incident_views = none_kept (λ x. IsIncidentViewOf x room) cache.incident_views.kept.items nothing.incident_views;
   recent_incidents = rw nothing.recent_incidents tt;
+  shown_lists = none_kept (λ x. IsShownListOf x room) cache.shown_lists.kept.items nothing.shown_lists;
 }
 
 -- a store that begins knows no terminal

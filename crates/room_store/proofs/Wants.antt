@@ -78,6 +78,7 @@ all_known fleet is = record {
   backlogs = is.backlogs;
   incident_views = is.incident_views;
   recent_incidents = is.recent_incidents;
+  shown_lists = is.shown_lists;
 }
 
 -- and after it
@@ -88,4 +89,5 @@ still_known {room = room} fleet are same = record {
   backlogs = are.backlogs;
   incident_views = are.incident_views;
   recent_incidents = are.recent_incidents;
+  shown_lists = are.shown_lists;
 }

@@ -17,3 +17,5 @@ pub mod TerminalLaws
 pub mod KeyedUnions
 pub mod Selected
 pub mod CrewReads
+-- which incidents that are read a list has
+pub mod ShownLaws

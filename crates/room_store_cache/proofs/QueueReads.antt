@@ -64,7 +64,7 @@ numbers_of d reads (x ∷ xs) n h =
     ∙ one_step same (x.division == d) (x.number == n) (reads x) _ _ (pair_turned d n x.division x.number) (numbers_of d reads xs n h.1) gone
     ∙ sym (kept_cond reads same x (row_at pair_cmp incident_key xs (d, n)))
 
-kept_alike : (p q : Incident → Bool) → ((i : Incident) → p i ≡ q i) → (o : Option Incident)
+pub kept_alike : (p q : Incident → Bool) → ((i : Incident) → p i ≡ q i) → (o : Option Incident)
     → is_some (keep p o) ≡ is_some (keep q o)
 kept_alike p q e None = refl
 kept_alike p q e (Some i) = ap (λ (b : Bool). is_some (cond b (Some i) None)) (e i)

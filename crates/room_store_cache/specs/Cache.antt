@@ -5,6 +5,7 @@ use Rattle.room_store_cache.specs.Backlogs.{AreBacklogsOf}
 use Rattle.room_store_cache.specs.IncidentViews.{AreIncidentViewsOf}
 use Rattle.room_store_cache.specs.RecentIncidents.{AreRecent}
 use Rattle.room_store_cache.specs.OpenTurns.{AreTurnsOf}
+use Rattle.room_store_cache.specs.ShownLists.{AreShownListsOf}
 use Rattle.room_store_cache.specs.declared.cache.Cache.{Cache}
 use Rattle.room_store_cache.specs.declared.fleets.Fleet.{Fleet}
 use Rattle.room_store_cache.specs.declared.fleets.FleetRows.{FleetRows}
@@ -33,6 +34,7 @@ pub record KnowsNothing (cache : Cache) : Type 0 where
   pub backlogs : cache.backlogs.kept.items ≡ []
   pub incident_views : cache.incident_views.kept.items ≡ []
   pub recent_incidents : cache.recent_incidents.known ≡ None
+  pub shown_lists : cache.shown_lists.kept.items ≡ []
 
 -- what is known is so in this room
 pub record IsCacheOf (cache : Cache) (room : Room) : Type 0 where
@@ -40,3 +42,4 @@ pub record IsCacheOf (cache : Cache) (room : Room) : Type 0 where
   pub recent_incidents : AreRecent cache.recent_incidents room
   pub backlogs : AreBacklogsOf cache.backlogs.kept.items room
   pub incident_views : AreIncidentViewsOf cache.incident_views.kept.items room
+  pub shown_lists : AreShownListsOf cache.shown_lists.kept.items room

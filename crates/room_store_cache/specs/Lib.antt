@@ -4,6 +4,8 @@ pub mod RecentIncidents
 pub mod Backlogs
 -- which incident views are of a room
 pub mod IncidentViews
+-- which incidents that were shown are of a room
+pub mod ShownLists
 -- which turns are of a room
 pub mod OpenTurns
 -- which terminals are of a room
@@ -18,5 +20,7 @@ pub mod Selections
 pub mod RequestReads
 -- what the parts of a division's working rows are of the room
 pub mod Partitions
+-- what is known of the incidents that a request reads
+pub mod KnownParts
 -- what the parts of a vehicle's rows are of the room
 pub mod CrewParts

@@ -11,6 +11,7 @@ use Rattle.room_store_cache.specs.Backlogs.{AreBacklogsOf}
 use Rattle.room_store_cache.specs.Cache.{AreRowsOf}
 use Rattle.room_store_cache.specs.IncidentViews.{AreIncidentViewsOf}
 use Rattle.room_store_cache.specs.RecentIncidents.{AreRecent}
+use Rattle.room_store_cache.specs.ShownLists.{AreShownListsOf}
 use Rattle.room_store_cache.specs.declared.cache.Cache.{Cache}
 use Rattle.room_store_cache.specs.declared.fleets.FleetRows.{FleetRows}
 use Rattle.room_store_cache.specs.declared.working_rows.Work.{Work}
@@ -21,6 +22,7 @@ pub record AreKnown (known : Cache) (room : Room) : Type 0 where
   pub backlogs : AreBacklogsOf known.backlogs.kept.items room
   pub incident_views : AreIncidentViewsOf known.incident_views.kept.items room
   pub recent_incidents : AreRecent known.recent_incidents room
+  pub shown_lists : AreShownListsOf known.shown_lists.kept.items room
 
 -- some part has it
 abbrev pub any : {K : Type 0} → (K → Bool) → List K → Bool

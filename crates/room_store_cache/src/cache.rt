@@ -6,6 +6,7 @@ use crate::backlogs::Backlogs;
 use crate::fleets::Fleet;
 use crate::incident_views::IncidentViews;
 use crate::recent_incidents::RecentIncidents;
+use crate::shown_lists::ShownLists;
 use crate::views::View;
 use room_types::changes::Change;
 use std::alloc::Global;
@@ -18,6 +19,7 @@ pub struct Cache {
     pub backlogs: Backlogs,
     pub incident_views: IncidentViews,
     pub recent_incidents: RecentIncidents,
+    pub shown_lists: ShownLists,
 }
 
 impl Cache {
@@ -30,6 +32,7 @@ impl Cache {
             backlogs: Backlogs::new(alloc),
             incident_views: IncidentViews::new(alloc),
             recent_incidents: RecentIncidents::new(),
+            shown_lists: ShownLists::new(alloc),
         }
     }
 
@@ -41,6 +44,7 @@ impl Cache {
         self.backlogs.forget();
         self.incident_views.forget();
         self.recent_incidents.forget();
+        self.shown_lists.forget();
     }
 
     /// Makes changes of the room that were committed. What memory is refused for is not known any
@@ -54,6 +58,7 @@ impl Cache {
             self.backlogs.apply(change);
             self.incident_views.apply(change);
             self.recent_incidents.apply(change);
+            self.shown_lists.apply(change);
         }
     }
 }

@@ -1,6 +1,6 @@
 //! Parts of a division's calls, turns and reports that are known or that an index finds, and the
 //! load of all that are in some.
-ghost use Rattle.std.specs.Prelude.{◌≡◌, ◌==◌, ◌&&◌, ℕ, Bool, filter, not, IsTrue};
+ghost use Rattle.std.specs.Prelude.{◌≡◌, ◌==◌, ◌&&◌, ◌||◌, ℕ, Bool, filter, not, IsTrue};
 ghost use Rattle.sqlite.specs.Held.{state};
 ghost use Rattle.sqlite.specs.State.{HasCleanDisk};
 ghost use Rattle.room_types.specs.Codes.{outcome_number};
@@ -52,23 +52,24 @@ pub trait Partition: Table {
         ensures reads { ReadsOnly S.Store conn.old conn.new result };
 }
 
-/// The rows that are in one of some parts.
+/// Adds the rows that are in one of some parts to rows of their table.
 pub fn load_parts<R: Partition, S: Alter>(
     alloc: Global,
     conn: &mut Connection<S>,
     known: &Cache,
     division: DivisionNumber,
     parts: &[R::Part],
+    mut rows: Rows<R>,
 ) -> Result<Rows<R>, Fault>
     requires room { HasRoomSchema S.Store conn.old }
     requires open { HasCleanDisk (state S.Store conn.old)
         → IsTrue (state S.Store conn.old).is_open }
     ensures rows { Finds S.Store conn.old conn.new result (λ room x.
-        AreKnown known.now room → IsKeyed R.Key.cmp R.key_of (R.rows room)
-        → x ≡ filter (λ y. any (λ p. R.is_in division p y) parts.now) (R.rows room)) }
+        (first : R → Bool) → AreKnown known.now room → IsKeyed R.Key.cmp R.key_of (R.rows room)
+        → rows ≡ filter first (R.rows room)
+        → x ≡ filter (λ y. first y || any (λ p. R.is_in division p y) parts.now) (R.rows room)) }
     ensures reads { ReadsOnly S.Store conn.old conn.new result }
 {
-    let mut rows = Rows::new(alloc);
     for part in parts {
         let more = R::load_part::<S>(alloc, conn, known, division, part)?;
         add_all(&mut rows, &more)?;

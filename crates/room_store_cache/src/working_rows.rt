@@ -1,5 +1,5 @@
 //! The rows of a division that a request reads: of the fleet those known, others from the tables.
-ghost use Rattle.std.specs.Prelude.{◌≡◌, ◌&&◌, ◌==◌, ℕ, filter, IsTrue, IfErr, IfOk};
+ghost use Rattle.std.specs.Prelude.{◌≡◌, ◌&&◌, ◌==◌, ℕ, Bool, filter, not, true, IsTrue, IfErr, IfOk};
 ghost use Rattle.sqlite.specs.Held.{state};
 ghost use Rattle.sqlite.specs.State.{HasCleanDisk};
 ghost use Rattle.room_tables.specs.FoundRows.{Finds};
@@ -9,7 +9,7 @@ ghost use Rattle.room_types.specs.declared.tables.Turn.{Turn};
 ghost use Rattle.room_model.specs.Queries.{held};
 ghost use Rattle.room_model.specs.Room.{IsInOrder, Room};
 ghost use Rattle.room_model.specs.RoomSlices.{room_of};
-ghost use Rattle.room_model.specs.Working.{is_last_turn, reads_number, working};
+ghost use Rattle.room_model.specs.Working.{is_last_turn, reads_active, reads_number, working};
 ghost use Rattle.room_tables_schema.specs.declared.database_faults.Fault.TheVariants.{Memory};
 ghost use Rattle.room_tables_schema.specs.FileConnections.{HasRoomSchema};
 ghost use Rattle.room_store_cache.specs.Backlogs.{AreBacklogsOf};
@@ -17,16 +17,19 @@ ghost use Rattle.room_store_cache.specs.Cache.{AreRowsOf};
 ghost use Rattle.room_store_cache.specs.IncidentViews.{AreIncidentViewsOf};
 ghost use Rattle.room_store_cache.specs.IncidentNumbers.{contains};
 ghost use Rattle.room_store_cache.specs.RecentIncidents.{AreRecent};
+ghost use Rattle.room_store_cache.specs.ShownLists.{AreShownListsOf};
 ghost use Rattle.room_store_cache.specs.Partitions.{AreKnown, IsHeld, IsWork, is_turn};
 ghost use Rattle.room_store_cache.specs.RequestReads.{Selects, is_report};
 
 use crate::cache::Cache;
 use crate::cached_rows::own_rows;
 use crate::fleets::FleetRows;
-use crate::incident_reads::{load_incidents, numbers_read};
+use crate::incident_reads::load_incidents;
+use crate::known_parts::{KnownPart, known_part};
 use crate::partitions::load_parts;
 use crate::request_reads::{Incidents, Reads, Reports, reads_of};
 use crate::selections::{load_one, owned_row, part_of};
+use crate::shown_lists::ShownLists;
 use room_place::plans::DivisionNumber;
 use room_tables_schema::database_faults::Fault;
 use room_types::asks::Ask;
@@ -79,7 +82,7 @@ pub fn load_working<S: Alter>(
     Ok(rows)
 }
 
-// Keeps what a queue shows, or the one incident that was named, where it isn't known.
+// Keeps what a queue or a list shows, or the one incident that was named, where it isn't known.
 fn fill(
     alloc: Global,
     cache: &mut Cache,
@@ -96,6 +99,11 @@ fn fill(
         → room_of room.plan rows.now ≡ working division ask at room
         → AreIncidentViewsOf cache.old.incident_views.kept.items room
         → AreIncidentViewsOf cache.new.incident_views.kept.items room }
+    ensures shown_lists { (room : Room) (ask : AskModel) (at : ℕ) → IsInOrder room
+        → Selects division ask reads.now
+        → room_of room.plan rows.now ≡ working division ask at room
+        → AreShownListsOf cache.old.shown_lists.kept.items room
+        → AreShownListsOf cache.new.shown_lists.kept.items room }
     ensures fleet { cache.new.fleet ≡ cache.old.fleet }
     ensures recent_incidents { cache.new.recent_incidents ≡ cache.old.recent_incidents }
 {
@@ -104,8 +112,29 @@ fn fill(
         cache.incident_views.fill_shown(alloc, division, rows);
         return;
     }
-    if let Incidents::One(number) = reads.incidents {
-        cache.incident_views.fill(alloc, division, number, rows);
+    match reads.incidents {
+        Incidents::Active => fill_list(alloc, &mut cache.shown_lists, division, reads, rows),
+        Incidents::One(number) => cache.incident_views.fill(alloc, division, number, rows),
+        _ => {}
+    }
+}
+
+// Keeps what a list shows.
+fn fill_list(
+    alloc: Global,
+    lists: &mut ShownLists,
+    division: DivisionNumber,
+    reads: &Reads,
+    rows: &DivisionRows,
+)
+    ensures { (room : Room) (ask : AskModel) (at : ℕ) → IsInOrder room
+        → Selects division ask reads.now → reads_active ask ≡ true
+        → room_of room.plan rows.now ≡ working division ask at room
+        → AreShownListsOf lists.old.kept.items room
+        → AreShownListsOf lists.new.kept.items room }
+{
+    if reads.calls {
+        lists.fill(alloc, division, rows);
     }
 }
 
@@ -160,10 +189,23 @@ fn load_work<S: Alter>(
     ensures reads { ReadsOnly S.Store conn.old conn.new result }
 {
     let incidents = load_incidents(alloc, conn, division, &reads.incidents, at, cache)?;
-    let numbers = numbers_read(alloc, &reads.incidents, &incidents)?;
+    let KnownPart {
+        incidents,
+        calls,
+        turns,
+        numbers,
+    } = known_part(alloc, division, reads, incidents, &cache.shown_lists)?;
     let of_calls = numbers_if(reads.calls, numbers.as_slice());
-    let calls = load_parts::<Call, S>(alloc, conn, cache, division, of_calls)?;
-    let turns = load_turns(alloc, conn, division, reads, cache, numbers.as_slice())?;
+    let calls = load_parts::<Call, S>(alloc, conn, cache, division, of_calls, calls)?;
+    let turns = load_turns(
+        alloc,
+        conn,
+        division,
+        reads,
+        cache,
+        numbers.as_slice(),
+        turns,
+    )?;
     let reports = load_reports(alloc, conn, division, &reads.reports, cache)?;
     Ok(Work {
         incidents,
@@ -200,7 +242,10 @@ fn load_reports<S: Alter>(
         Reports::Nothing => Ok(Rows::new(alloc)),
         Reports::Uncleared => match known.backlogs.get(division) {
             Some(backlog) => own_rows(alloc, &backlog.exceptions, division),
-            None => load_parts::<Report, S>(alloc, conn, known, division, &EXCEPTIONS),
+            None => {
+                let none = Rows::new(alloc);
+                load_parts::<Report, S>(alloc, conn, known, division, &EXCEPTIONS, none)
+            }
         },
         Reports::One(named) => load_one::<Report, S>(alloc, conn, division, named),
     }
@@ -214,7 +259,8 @@ const EXCEPTIONS: [Outcome; 4] = [
     Outcome::Stale,
 ];
 
-// The turns of some incidents, or that of the named vehicle's last order.
+// The turns of some incidents, beside those that are known, or that of the named vehicle's last
+// order.
 fn load_turns<S: Alter>(
     alloc: Global,
     conn: &mut Connection<S>,
@@ -222,19 +268,23 @@ fn load_turns<S: Alter>(
     reads: &Reads,
     known: &Cache,
     numbers: &[Number],
+    turns: Rows<Turn>,
 ) -> Result<Rows<Turn>, Fault>
     requires room { HasRoomSchema S.Store conn.old }
     requires open { HasCleanDisk (state S.Store conn.old)
         → IsTrue (state S.Store conn.old).is_open }
     ensures rows { Finds S.Store conn.old conn.new result (λ room x. (ask : AskModel)
-        → IsInOrder room → AreKnown known.now room → Selects division ask reads.now
-        → ((n : ℕ) → contains n numbers.now ≡ reads_number division ask room n)
+        (is_known : ℕ → Bool) → IsInOrder room → AreKnown known.now room
+        → Selects division ask reads.now
+        → turns ≡ filter (λ t. t.division == division
+        && (is_known t.incident && reads_number division ask room t.incident)) room.turns
+        → ((n : ℕ) → contains n numbers.now ≡ not (is_known n) && reads_number division ask room n)
         → x ≡ (working division ask 0 room).turns) }
     ensures reads { ReadsOnly S.Store conn.old conn.new result }
 {
     match reads.last_turn {
         Some(callsign) => last_turn(alloc, conn, division, known.fleet.get(), &callsign),
-        None => load_parts::<Turn, S>(alloc, conn, known, division, numbers),
+        None => load_parts::<Turn, S>(alloc, conn, known, division, numbers, turns),
     }
 }
 

@@ -19,8 +19,8 @@ messages-init g c =
       run = (
         [],
         [],
-        Going-kept _ _ _ _ _ _ _ _ _ _ _ (Going-none g.M.Room.step c.args.setting.now _ _ _ _ (λ terminals room standing. (standing, λ was. g.met.M.Room.leaves_it _ terminals room was standing))) (Keeps-prepend _ _ c.in-Ok-new.ensures),
-        Noted-kept _ _ _ _ _ _ _ _ _ _ _ _ _ _ (Noted-none g.N.Observer.came g.N.Observer.told g.M.Room.step c.args.setting.now _ _ _ _) (Keeps-prepend _ _ c.in-Ok-new.ensures),
+        Going-kept _ _ _ _ _ _ _ _ _ _ _ (Going-none g.M.Room.step c.args.setting.now _ _ _ _ (λ terminals room standing. (standing, λ was. g.met.M.Room.leaves_it _ terminals room was standing))) (Keeps-prepend _ _ c.in-Ok.ensures),
+        Noted-kept _ _ _ _ _ _ _ _ _ _ _ _ _ _ (Noted-none g.N.Observer.came g.N.Observer.told g.M.Room.step c.args.setting.now _ _ _ _) (Keeps-prepend _ _ c.in-Ok.ensures),
       );
       trusted = λ trust. trust;
       kept = λ trust was. was;

@@ -17,7 +17,7 @@ returns-in-Ok-clause-decided g c clean =
     IfOk-weaker (unless_out_of_memory c.decide_known.result) _ _ (λ x told config room h.
     let fleet = c.in-Ok.ensures.known first config room h.stands h.cache.fleet in
     told config room (kept _ _ (c.in-Ok.ensures.reads.ok first) config room h.stands) h.formed h.plan h.addressed fleet
-    (record { fleet = λ _. fleet; backlogs = h.cache.backlogs; incident_views = h.cache.incident_views; recent_incidents = h.cache.recent_incidents })) (c.decide_known.ensures.decided clean)
+    (record { fleet = λ _. fleet; backlogs = h.cache.backlogs; incident_views = h.cache.incident_views; recent_incidents = h.cache.recent_incidents; shown_lists = h.cache.shown_lists })) (c.decide_known.ensures.decided clean)
 
 pub returns-in-Ok-clause-cache : goal.returns-in-Ok-clause-cache
 returns-in-Ok-clause-cache g c clean =
@@ -25,7 +25,7 @@ returns-in-Ok-clause-cache g c clean =
     IfOk-weaker (unless_out_of_memory c.decide_known.result) _ _ (λ x now config room h.
     let fleet = c.in-Ok.ensures.known first config room h.stands h.cache.fleet in
     now config room (kept _ _ (c.in-Ok.ensures.reads.ok first) config room h.stands) h.formed h.plan h.addressed fleet
-    (record { fleet = λ _. fleet; backlogs = h.cache.backlogs; incident_views = h.cache.incident_views; recent_incidents = h.cache.recent_incidents })) (c.decide_known.ensures.cache clean)
+    (record { fleet = λ _. fleet; backlogs = h.cache.backlogs; incident_views = h.cache.incident_views; recent_incidents = h.cache.recent_incidents; shown_lists = h.cache.shown_lists })) (c.decide_known.ensures.cache clean)
 
 pub returns-in-Ok-clause-reads : goal.returns-in-Ok-clause-reads
 returns-in-Ok-clause-reads g c = then_any (looked c.in-Ok.ensures.reads) (unless_out_of_memory c.decide_known.result) c.decide_known.ensures.reads

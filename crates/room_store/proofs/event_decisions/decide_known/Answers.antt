@@ -19,7 +19,7 @@ returns-in-Crew-clause-decided g c clean = IfOk-weaker (unless_out_of_memory c.f
 
 pub returns-in-Crew-clause-cache : goal.returns-in-Crew-clause-cache
 returns-in-Crew-clause-cache g c clean = IfOk-weaker (unless_out_of_memory c.for_crew.result) _ _ (λ x known config room h formed planned addressed fleet is.
-    record { fleet = λ _. known config room h fleet; backlogs = is.backlogs; incident_views = is.incident_views; recent_incidents = is.recent_incidents }) (c.for_crew.ensures.known clean)
+    record { fleet = λ _. known config room h fleet; backlogs = is.backlogs; incident_views = is.incident_views; recent_incidents = is.recent_incidents; shown_lists = is.shown_lists }) (c.for_crew.ensures.known clean)
 
 pub returns-in-Call-clause-decided : goal.returns-in-Call-clause-decided
 returns-in-Call-clause-decided g c clean = IfOk-weaker (unless_out_of_memory c.for_call.result) _ _ (λ x told config room h formed planned addressed fleet is.

@@ -1,4 +1,4 @@
-use Rattle.std.proofs.Common.{take, ◌≡◌}
+use Rattle.std.proofs.Common.{Bool, take, ◌≡◌, ◌||◌}
 use Rattle.std.specs.Prelude.{filter}
 use Rattle.sqlite.specs.Held.{state}
 use Rattle.sqlite.specs.State.{HasCleanDisk}
@@ -16,5 +16,7 @@ invariant-loop-part g l =
     record {
       looked : Looked g.S.Store l.fn.conn l.conn;
       rows : HasCleanDisk (state g.S.Store l.conn) → (config : Configuration) (room : Room) → Stands (state g.S.Store l.fn.conn).now.trees config room
-          → AreKnown l.known room → IsKeyed g.R.Key.Ord.cmp g.R.Row.key_of (table room) → l.rows ≡ filter (λ x. any (λ p. g.R.Partition.is_in l.division p x) seen) (table room);
+          → (first : g.row.R.Denot → Bool) → AreKnown l.known room → IsKeyed g.R.Key.Ord.cmp g.R.Row.key_of (table room)
+          → l.fn.rows ≡ filter first (table room)
+          → l.rows ≡ filter (λ x. first x || any (λ p. g.R.Partition.is_in l.division p x) seen) (table room);
     }

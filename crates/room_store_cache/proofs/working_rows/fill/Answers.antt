@@ -18,3 +18,7 @@ returns-in-One-clause-incident_views c room ask at in_order selects read =
     let n = c.in-One.number in
     let named : names_incident ask n ≡ true = selects.named n ∙ rw c.in-One.is (eq-eqb n n refl) in
     c.fill-in-One.ensures room ask at in_order (or_right _ _ named) read
+
+pub returns-in-Active-clause-shown_lists : goal.returns-in-Active-clause-shown_lists
+returns-in-Active-clause-shown_lists c room ask at in_order selects read =
+    c.fill_list.ensures room ask at in_order selects (selects.active ∙ rw c.in-Active.is refl) read

@@ -4,7 +4,7 @@ use Rattle.std.specs.Prelude.{false}
 use Rattle.room_types.specs.Codes.{is_normal}
 use Rattle.room_types.specs.Keys.{owns_report}
 use Rattle.room_tables_laws.proofs.ReadLaws.{begins, told, told_any}
-use Rattle.room_store_cache.proofs.Filters.{filter_as, filter_never, filter_owned, numbered_is}
+use Rattle.room_store_cache.proofs.Filters.{filter_as, filter_never, filter_none, filter_owned, numbered_is}
 use Rattle.room_store_cache.proofs.Selected.{exceptional}
 use Rattle.room_store_cache.proofs.working_rows.load_reports.Goals as goal
 
@@ -28,7 +28,7 @@ returns-in-Some-clause-reads g c = told_any c.own_rows.result (begins c.requires
 pub returns-in-None-clause-rows : goal.returns-in-None-clause-rows
 returns-in-None-clause-rows g c clean =
     IfOk-weaker c.load_parts.result _ _ (λ x found config room h in_order are.
-    rw c.in-Uncleared.is (found config room h are in_order.reports ∙ filter_as _ _ room.reports (λ y. exceptional c.args.division y))) (c.load_parts.ensures.rows clean)
+    rw c.in-Uncleared.is (found config room h (λ y. false) are in_order.reports (c.new-none.ensures ∙ sym (filter_none room.reports)) ∙ filter_as _ _ room.reports (λ y. exceptional c.args.division y))) (c.load_parts.ensures.rows clean)
 
 pub returns-in-One-clause-rows : goal.returns-in-One-clause-rows
 returns-in-One-clause-rows g c clean =

@@ -42,12 +42,14 @@ returns-clause-known g c clean config room h in_order are =
       backlogs = are.backlogs;
       incident_views = are.incident_views;
       recent_incidents = c.in_ok-work.ensures.recent_incidents clean config room h are.recent_incidents;
+      shown_lists = are.shown_lists;
     }) in
     record {
       rows = subst (λ (x : Fleet). AreRowsOf x.rows room) (sym c.fill.ensures.fleet) known.rows;
       backlogs = c.fill.ensures.backlogs room a c.args.at selects read known.backlogs;
       incident_views = c.fill.ensures.incident_views room a c.args.at in_order selects read known.incident_views;
       recent_incidents = subst (λ x. AreRecent x room) (sym c.fill.ensures.recent_incidents) known.recent_incidents;
+      shown_lists = c.fill.ensures.shown_lists room a c.args.at in_order selects read known.shown_lists;
     }
 
 pub returns-clause-reads : goal.returns-clause-reads

@@ -4,5 +4,5 @@ use Rattle.dispatch_room_sockets.proofs.waiting_callers.Waiting.look_around.Goal
 
 pub returns-then-is_empty : goal.returns-then-is_empty
 returns-then-is_empty g c = record {
-  given = given_after _ _ _ _ _ _ _ _ _ None c.wait.ensures.given c.wait-then-is_empty.ensures.given;
+  given = given_after _ _ _ _ _ _ _ _ _ None c.watch_all.ensures.given c.wait.ensures.given;
 }

@@ -25,4 +25,5 @@ loop-change-preserved c room in_order known =
       backlogs = c.apply-in-loop-change.ensures _ then before.backlogs;
       incident_views = c.apply-in-loop-change-2.ensures _ then before.incident_views;
       recent_incidents = c.apply-in-loop-change-3.ensures _ then before.recent_incidents;
+      shown_lists = c.apply-in-loop-change-4.ensures _ then before.shown_lists;
     })

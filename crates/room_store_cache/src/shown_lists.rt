@@ -1,0 +1,172 @@
+//! The incidents that a division's list showed last, with all their calls and turns.
+ghost use Rattle.std.specs.Prelude.{◌≡◌, ◌≢◌, ◌==◌, ◌&&◌, ℕ, [], All, AllPairs, IfErr, IfOk, IfSome, map};
+ghost use Rattle.room_types.specs.declared.asks.Ask.TheVariants.{Incidents};
+ghost use Rattle.room_model.specs.Room.{IsInOrder, Room};
+ghost use Rattle.room_model.specs.RoomSlices.{room_of};
+ghost use Rattle.room_model.specs.Working.{working};
+ghost use Rattle.room_tables_schema.specs.declared.database_faults.Fault.TheVariants.{Memory};
+ghost use Rattle.room_store_cache.specs.ShownLists.{AreShownListsOf, IsShownListOf, has, is_among};
+
+use crate::cached_rows::{own_rows, put_if};
+use crate::views::{Entry, View, apply_each};
+use room_place::plans::DivisionNumber;
+use room_tables_schema::database_faults::Fault;
+use room_types::changes::Change;
+use room_types::numbers::Number;
+use room_types::rows::Rows;
+use room_types::slices::DivisionRows;
+use room_types::tables::{Call, Incident, Turn};
+use std::alloc::Global;
+
+/// All calls and turns of some incidents of a division. An incident that was closed or merged since
+/// is still among them.
+#[derive(Drop)]
+pub struct ShownList {
+    pub division: DivisionNumber,
+    /// The incidents, as they were shown.
+    pub incidents: Rows<Incident>,
+    pub calls: Rows<Call>,
+    pub turns: Rows<Turn>,
+}
+
+/// The lists of some divisions that are known, at most one of each, with no more incidents than it
+/// showed.
+#[derive(Drop)]
+pub struct ShownLists {
+    kept: Vec<ShownList>,
+    ghost apart: { AllPairs (λ c d. c ≢ d) (map (λ x. x.division) kept.items) },
+}
+
+impl ShownList {
+    /// Whether the division's incident of a number is among them.
+    pub fn has(&self, number: Number) -> bool
+        ensures { result ≡ has self.now number }
+    {
+        is_among(self.division, &self.incidents, number)
+    }
+
+    // Whether it has the calls and turns of a division's incident.
+    fn keeps(&self, division: DivisionNumber, number: Number) -> bool
+        ensures { result ≡ division == self.now.division && has self.now number }
+    {
+        division == self.division && self.has(number)
+    }
+
+    // Whether all these incidents of the division are among them.
+    fn has_all(&self, incidents: &Rows<Incident>) -> bool {
+        incidents.iter().all(|incident| self.has(incident.number))
+    }
+}
+
+impl ShownLists {
+    /// None is known yet.
+    pub fn new(alloc: Global) -> ShownLists
+        ensures { result.kept.items ≡ [] }
+    {
+        ShownLists {
+            kept: Vec::new(alloc),
+        }
+    }
+
+    /// The list of a division, if it is known.
+    pub fn get(&self, division: DivisionNumber) -> Option<&ShownList>
+        ensures { (room : Room) → AreShownListsOf self.now.kept.items room
+            → IfSome result (λ x. (x.now.division ≡ division) × IsShownListOf x.now room) }
+    {
+        for list in &self.kept {
+            if list.division == division {
+                return Some(list);
+            }
+        }
+        None
+    }
+
+    /// Keeps the incidents that a division's list shows, out of the rows that it reads, where they
+    /// aren't all known.
+    pub fn fill(&mut self, alloc: Global, division: DivisionNumber, rows: &DivisionRows)
+        ensures { (room : Room) (at : ℕ) → IsInOrder room
+            → room_of room.plan rows.now ≡ working division Incidents at room
+            → AreShownListsOf self.old.kept.items room → AreShownListsOf self.new.kept.items room }
+    {
+        if let Some(list) = self.get(division)
+            && list.has_all(&rows.incidents)
+        {
+            return;
+        }
+        if let Ok(list) = list_of(alloc, division, rows) {
+            self.put(list);
+        }
+    }
+
+    // Keeps a list in the place of the one of its division, where memory is not refused.
+    fn put(&mut self, list: ShownList)
+        ensures { (room : Room) → AreShownListsOf self.old.kept.items room
+            → IsShownListOf list room → AreShownListsOf self.new.kept.items room }
+    {
+        for at in 0..self.kept.len() {
+            if self.kept[at].division == list.division {
+                self.kept[at] = list;
+                return;
+            }
+        }
+        let _ = self.kept.push(list);
+    }
+}
+
+impl View for ShownLists {
+    ghost is_so = { λ lists room. AreShownListsOf lists.kept.items room };
+
+    ghost is_empty = { λ lists. lists.kept.items ≡ [] };
+
+    fn apply(&mut self, change: &Change) {
+        apply_each(&mut self.kept, change);
+    }
+
+    fn forget(&mut self) {
+        self.kept.clear();
+    }
+}
+
+impl Entry for ShownList {
+    ghost is_so = { IsShownListOf };
+
+    ghost division_of = { λ x. x.division };
+
+    // Of an incident that was opened since, nothing is kept before the next list shows it.
+    fn apply(&mut self, change: &Change) -> Result<(), Fault> {
+        match change {
+            Change::PutCall(call) => {
+                let is_kept = self.keeps(call.division, call.incident);
+                put_if(is_kept, &mut self.calls, call)
+            }
+            Change::PutTurn(turn) => {
+                let is_kept = self.keeps(turn.division, turn.incident);
+                put_if(is_kept, &mut self.turns, turn)
+            }
+            _ => Ok(()),
+        }
+    }
+}
+
+// What a list shows, out of the rows that it reads. The one fault is `Memory`.
+fn list_of(alloc: Global, division: DivisionNumber, rows: &DivisionRows) -> Result<ShownList, Fault>
+    ensures list { IfOk result (λ list. (room : Room) (at : ℕ) → IsInOrder room
+        → room_of room.plan rows.now ≡ working division Incidents at room
+        → IsShownListOf list room) }
+    ensures division { IfOk result (λ list. list.division ≡ division) }
+    ensures memory { IfErr result (λ e. e ≡ Memory) }
+{
+    Ok(ShownList {
+        division,
+        incidents: own_rows(alloc, &rows.incidents, division)?,
+        calls: own_rows(alloc, &rows.calls, division)?,
+        turns: own_rows(alloc, &rows.turns, division)?,
+    })
+}
+
+/// Whether a division's incident of a number is one of some.
+pub fn is_among(division: DivisionNumber, incidents: &Rows<Incident>, number: Number) -> bool
+    ensures { result ≡ is_among division incidents.now number }
+{
+    incidents.get(&(division, number)).is_some()
+}
