@@ -1,8 +1,67 @@
-"""What tests read of the documents and of the examples: the links of a page, and the lines of a
-day without what differs from one day to the next."""
+"""What tests read of the documents and of the examples: the links of a page, the table of buttons,
+its blocks of commands and of other text, and the lines of a day without what differs from one day
+to the next."""
+import collections
 import re
 
 LINK = re.compile(r'\[([^\]]+)\]\(([^)#\s]+)(?:#L(\d+))?\)')
+BUTTONS = ['Position', 'Mobile', 'Scene', 'Leave', 'Hospital', 'Return', 'Home']
+
+
+def table_of_buttons(rules):
+    """What each button comes to at each status, by its number and words, as RULES.md has it: what a
+    row calls normal, what else it calls skipped, what stays, and all else is wrong."""
+    rows = re.findall(r'^\| (\d) ([a-z ]+) \|(.*)\|(.*)\|(.*)\|$', rules, re.M)
+    found = {}
+    for number, words, *cells in rows:
+        outcomes = dict.fromkeys(BUTTONS, 'wrong')
+        for outcome, cell in zip(['stays', 'skipped', 'normal'], reversed(cells)):
+            outcomes.update(dict.fromkeys(re.findall(r'[A-Z][a-z]+', cell), outcome))
+        found[int(number), words] = outcomes
+    return found
+
+
+FENCED = re.compile(r'^```(\w*)\n(.*?)^```\n', re.M | re.S)
+INDENTED = re.compile(r'(?:\A|(?<=\n\n))(?:    .*\n(?:\n+(?=    ))?)+')
+
+# A block of a page: the line where its text begins, its language, which is empty where it is
+# indented, and its text.
+Block = collections.namedtuple('Block', 'line language text')
+
+
+def blocks(page):
+    """The blocks of a page's text, fenced or indented, in their order."""
+    found = [Block(page.count('\n', 0, it.start(2)) + 1, it[1], it[2])
+             for it in FENCED.finditer(page)]
+    # (blank lines take the place of what is fenced, so that nothing in it is taken for indented)
+    rest = FENCED.sub(lambda it: '\n' * it[0].count('\n'), page)
+    found += [Block(rest.count('\n', 0, it.start()) + 1, '', re.sub('^    ', '', it[0], flags=re.M))
+              for it in INDENTED.finditer(rest)]
+    return sorted(found)
+
+
+HERE_DOCUMENT = re.compile(r"<<'(\w+)'")
+
+
+def commands(text):
+    """The commands of a block, each with the lines behind it that are no command: where '$ ' stands
+    before a line, all others are none. What is said beside a command, three spaces away, is left
+    out."""
+    lines, found = text.split('\n')[:-1], []
+    has_prompts = any(it.startswith('$ ') for it in lines)
+    while lines:
+        line = lines.pop(0)
+        if has_prompts and not line.startswith('$ '):
+            found[-1][1].append(line)
+            continue
+        command = [line.removeprefix('$ ')]
+        end = HERE_DOCUMENT.search(line)
+        while lines and (command[-1].endswith('\\') or end and command[-1] != end[1]):
+            command.append(lines.pop(0))
+        if len(command) == 1:
+            command = [re.sub(r'(?<=\S) {3,}\S.*$', '', command[0])]
+        found.append(('\n'.join(command), []))
+    return found
 
 
 def told(line, folder):

@@ -14,6 +14,7 @@ import time
 import unittest
 
 from browser import ELEMENT, Browser, Line, until
+from documents import table_of_buttons
 from pages import PHONE, companion, faults_everywhere, sign_in
 from room import PATIENT, PROGRAM, TOP, TestCase, ask, call, free_port, made, message, sql
 
@@ -173,19 +174,19 @@ class Served(TestCase):
 # ---- the table of buttons
 
 
-def table_of_buttons():
-    """What docs/RULES.md says of each button at each status, by the status' words."""
-    rules = (TOP / 'docs' / 'RULES.md').read_text()
-    rows = [re.split(r' *\| *', it)[1:-1] for it in re.findall(r'^\| \d [a-z ]+\|.*$', rules, re.M)]
-    return {row[0][2:]: dict(zip(BUTTONS, row[1:])) for row in rows if len(row) == 8}
+def outcomes():
+    """What RULES.md says of each button at each status, by the status' words."""
+    table = table_of_buttons((TOP / 'docs' / 'RULES.md').read_text())
+    return {words: {button.lower(): it for button, it in row.items()}
+            for (_, words), row in table.items()}
 
 
-TABLE = table_of_buttons()
+TABLE = outcomes()
 
 
 def normal_at(status, is_acknowledged=True):
     cells = TABLE[status]
-    found = {it for it in BUTTONS if cells[it].startswith(('normal', 'stays'))}
+    found = {it for it in BUTTONS if cells[it] in ('normal', 'stays')}
     return found if status != 'mobilised' or is_acknowledged else found - {'scene'}
 
 

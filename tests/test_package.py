@@ -163,7 +163,7 @@ class Package(TestCase):
         scripts = {f'{DOCUMENTS}/examples/{it}' for it in SCRIPTS}
         programs = scripts | {'usr/bin/dispatch_room'}
         documents = [*set(TOP.glob('*.md')) - {TOP / 'CHANGELOG.md'},
-                     *(TOP / 'bench').glob('**/README.md'),
+                     *(TOP / 'bench').glob('**/README.md'), TOP / 'bench' / 'figures.csv',
                      *EXAMPLES.glob('*.*'), *EXAMPLES.glob('*/*.*'), *(TOP / 'docs').glob('*.*')]
         others = {f'{DOCUMENTS}/{it.relative_to(TOP)}' for it in documents}
         others |= {UNIT, PAGES_UNIT, PAGE, COMPLETION, *OF_DEBIAN}
@@ -207,7 +207,7 @@ class Package(TestCase):
         """Links between documents lead somewhere, but for those into the sources."""
         for page in self.path(DOCUMENTS).rglob('*.md'):
             for name, link, _ in LINK.findall(page.read_text()):
-                if '://' not in link and 'crates/' not in link:
+                if '://' not in link and not re.search('(crates|edits)/', link):
                     self.check(f'{page.name}: {name}', (page.parent / link).exists(), True)
 
     # ---- its use

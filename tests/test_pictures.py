@@ -9,6 +9,7 @@ import subprocess
 import sys
 import tempfile
 
+from documents import table_of_buttons
 from room import TOP, TestCase
 
 sys.path.insert(0, str(TOP / 'tools'))
@@ -42,11 +43,8 @@ def text_of(name):
 
 def rules():
     """What each button comes to at each status, by the table of RULES.md."""
-    text = (DOCS / 'RULES.md').read_text()
-    names = re.search(r'^\| status \| (Position .*) \|$', text, re.M)[1].split(' | ')
-    rows = re.findall(r'^\| (\d) [a-z ]+ \| (.*) \|$', text, re.M)
-    return {(int(status), name): it for status, row in rows
-            for name, it in zip(names, row.split(' | '), strict=True)}
+    table = table_of_buttons((DOCS / 'RULES.md').read_text())
+    return {(status, button): it for (status, _), row in table.items() for button, it in row.items()}
 
 
 def closed(edges):
@@ -101,7 +99,7 @@ class Pictures(TestCase):
         self.check('the table', len(table), 56)
         for kinds, word in [(['button'], 'normal'), (['skipped'], 'skipped')]:
             wanted = {(status, BUTTONS[button]) for (status, button), it in table.items()
-                      if re.match(word, it)}
+                      if it == word}
             self.check(word, led(kinds), wanted)
         self.check('requests', led(['request']), REQUESTS)
         said = re.search(r'Statuses: (.*?)\.\s', (DOCS / 'RULES.md').read_text(), re.S)[1]

@@ -197,7 +197,7 @@ class UnitTestCase(TestCase):
 
 def recipe():
     """The lines by which a room is made and started, without sudo."""
-    section = OPERATING.read_text().partition('## Making a room and starting it\n\n')[2]
+    section = OPERATING.read_text().partition('## A new room\n\n')[2]
     return re.findall('^    sudo (.*)$', section.partition('\n\n')[0], re.M)
 
 
@@ -342,7 +342,7 @@ class Health(UnitTestCase):
     """The health checks of the document."""
 
     def section(self):
-        return OPERATING.read_text().partition('## Watching it\n')[2].partition('\n## ')[0]
+        return OPERATING.read_text().partition('## Health checks\n')[2].partition('\n## ')[0]
 
     def test_curl(self):
         line = re.search('^    (curl .*)$', self.section(), re.M)[1]

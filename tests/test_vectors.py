@@ -520,9 +520,17 @@ def grow_to(process, size):
 
 class Refusals(TestCase):
     def test_documents(self):
+        """HTTP.md has those that are sent in its table, RULES.md names those of a fleet, and no
+        number that is none."""
         rows = [it[:3] for it in REFUSALS]
-        self.assertEqual(told_in('RULES.md'), rows)
         self.assertEqual(told_in('HTTP.md'), [it for it in rows if it[0] not in OF_A_FLEET])
+        rules = (TOP / 'docs' / 'RULES.md').read_text()
+        named = re.findall(r'\b(\d+)\s+([A-Z][a-z]+[A-Z]\w+)', rules)
+        self.assertEqual(named, [(str(it[0]), it[2]) for it in rows if it[0] in OF_A_FLEET])
+        told = {int(it) for told in re.findall(r'\(((?:\d+(?:, )?)+)\)', rules)
+                for it in told.split(', ') if len(it) < 3}
+        self.assertLessEqual(told, {it[0] for it in rows})
+        self.assertGreaterEqual(told, {it[0] for it in rows if it[0] < 23})
 
     def test_each_is_met(self):
         for number, _, name, file in REFUSALS:

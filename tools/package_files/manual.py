@@ -5,8 +5,7 @@ import time
 from package_files.words import usage
 
 COLUMNS = 4  # of the table of exit statuses
-DIAGNOSTICS = ('What standard error says, as OPERATING.md tells it: what it calls above and below '
-               'stands there.')
+DIAGNOSTICS = 'What standard error says, as OPERATING.md has it, with the sections that are named.'
 
 
 def roff(text):
@@ -28,7 +27,7 @@ def item(name, meaning):
 
 def plain(text):
     """A cell of a document's table without its marks."""
-    return re.sub(r'\[(.*?)\]\(.*?\)', r'\1', text).replace('`', '')
+    return re.sub(r'[`*]', '', re.sub(r'\[(.*?)\]\(.*?\)', r'\1', text))
 
 
 def errors(document):

@@ -1,0 +1,522 @@
+"""Every command in README.md and docs/: each block of a page is typed here, in folders of the
+test's own, or is typed or compared by the test that is named for it, or it is left out for a
+reason. A block that no test knows fails. What systemd starts and signals is started and signalled
+by the unit's line; what needs root is done without."""
+# needs: curl sqlite3 python3
+# builds: dispatch_room
+import contextlib
+import json
+import os
+import re
+import shutil
+import subprocess
+import sys
+import time
+
+import first_version
+from broken_rooms import WORK
+from documents import blocks, commands
+from room import (FLEET, PLAN, PROGRAM, TOP, TestCase, ask, call, dump, fleet_of, free_port, made,
+                  message, run, sql)
+from test_errors import on_terminal
+from test_journal import chain
+
+sys.path.append(str(TOP / 'examples' / 'three'))
+import digest  # noqa: E402
+
+UNIT = TOP / 'examples' / 'dispatch_room.service'
+ADDRESS = '127.0.0.1:8080'
+QUEUE = message('deskone1', 'GET /queue')
+CALLS = 'SELECT count(*) FROM calls'
+
+# Pages of which a test reads every block.
+WHOLE = {'TUTORIAL.md': 'tutorial', 'HTTP.md': 'http', 'JUDGING.md': 'judging'}
+
+# Other blocks, by their first lines, with the test that reads them out of the page.
+READ = {
+    'OPERATING.md': {
+        'sudo mkdir --parents --mode=700 /var/lib/dispatch-room': 'unit',
+        '[Service]': 'operating',
+        "cat >plan.csv <<'END'": 'five_desks',
+        'sudo mkdir --parents --mode=700 /var/lib/dispatch-room /etc/dispatch-room': 'five_desks',
+        "curl --silent --header 'X-Terminal: deskcentral' http://127.0.0.1:8082/room/vehicles":
+            'five_desks',
+        'sudo apt install nginx-light openssl': 'five_desks',
+        'curl --silent --max-time 5 http://127.0.0.1:8080/queue | grep --quiet NoTerminal': 'unit',
+        'option httpchk': 'unit'},
+    'ARCHITECTURE.md': {
+        'dispatch_room                 the program: hands on its words and streams': 'documents'},
+}
+
+# Commands that are typed by no test, with the test of what they do, and why.
+LEFT_OUT = {
+    './test': ('commands', 'it is the gate, and runs this test'),
+    'tools/package': ('package', 'it is made there, and twice'),
+    'sudo apt install ./out/dispatch-room_VERSION_amd64.deb':
+        ('package', 'it is installed there by dpkg, below a folder'),
+    'tools/package && sudo apt install ./out/dispatch-room_*_amd64.deb':
+        ('package', 'it is made there, and installed by dpkg below a folder'),
+}
+
+# The blocks that are typed here, by their first lines.
+TYPED = {
+    'README.md': ['./dispatch_room <examples/first-call.http'],
+    'OPERATING.md': [
+        'sudo systemctl stop dispatch-room', 'dispatch_room terminals room.db',
+        'dispatch_room board 127.0.0.1:8080 deskone1',
+        '$ journalctl --unit=dispatch-room --output=cat',
+        'sudo systemctl kill --signal=STOP dispatch-room',
+        'sqlite3 room.db ".backup /backup/room.db"',
+        '(umask 077; sqlite3 room.db "PRAGMA page_size = 512; VACUUM INTO \'/backup/room.db\'")',
+        'dispatch_room serve room.db 127.0.0.1:8080 --journal room.list',
+        'cp room.db copy.db && : >room.list', '$ dispatch_room check room.db'],
+    'FILES.md': [
+        'what,number,a,b,c,d', 'callsign,division,kind,place,token',
+        'incident,opened,activation', '-- Which vehicle is where, and sent to what?',
+        "-- Incidents: the active, those since the day, and those with a call since then or a "
+        "position's last.", 'version 2', 'cp room.db room.db-wal /backup/',
+        'room 2 6b1f4e0c4d9d5a0f2a3f4a1c8f6f0f0e3f2f1c9d8b7a695847362514f0e1d2c3',
+        'def entries(text):', 'list 2', 'def plain(text):'],
+}
+
+STUBS = {
+    'sudo': '[ "$1" != -u ] || shift 2\nexec "$@"',
+    'watch': 'while [ "$1" != dispatch_room ]; do shift; done\nexec "$@"',
+    'journalctl': 'exec cat "$UNIT/log"',
+    'systemctl': '''case $1 in
+start)
+  : >"$UNIT/serving"
+  sh -c "exec $EXEC_START" >"$UNIT/serving" 2>>"$UNIT/log" </dev/null &
+  echo $! >"$UNIT/pid"
+  until grep --quiet serving "$UNIT/serving"; do kill -0 $! || exit 1; sleep 0.05; done ;;
+stop)
+  pid=$(cat "$UNIT/pid")
+  kill -CONT "$pid"
+  kill "$pid"
+  until [ ! -e "/proc/$pid" ] || grep -q '^State:.Z' "/proc/$pid/status"; do sleep 0.05; done ;;
+kill) kill "-${2#--signal=}" "$(cat "$UNIT/pid")" ;;
+*) exit 1 ;;
+esac''',
+}
+
+
+def pages():
+    return [TOP / 'README.md', *sorted((TOP / 'docs').glob('*.md'))]
+
+
+def first_line(block):
+    """The line by which a block is known: of a command without what is said beside it."""
+    line = block.text.partition('\n')[0]
+    return re.sub(r'(?<=\S) {3,}\S.*$', '', line) if not block.language else line
+
+
+class Known(TestCase):
+    """Each block of each page is known to a test, and what is known is there."""
+
+    def test_blocks(self):
+        seen = set()
+        for page in pages():
+            for block in blocks(page.read_text()):
+                name = first_line(block)
+                seen.add((page.name, name))
+                with self.subTest(f'{page.name}, line {block.line}: {name}'):
+                    self.assertTrue(self.is_known(page.name, block), 'no test knows it')
+        named = {(page, it) for known in (READ, TYPED) for page, own in known.items() for it in own}
+        self.check('what is known, and not there', sorted(named - seen), [])
+
+    def is_known(self, page, block):
+        name = first_line(block)
+        return (page in WHOLE or name in READ.get(page, {}) or name in TYPED.get(page, [])
+                or all(it in LEFT_OUT for it, _ in commands(block.text)))
+
+    def test_tests(self):
+        """The tests that are named are there, and read their pages."""
+        for page, test in [*WHOLE.items(), *((page, test) for page, own in READ.items()
+                                             for test in own.values())]:
+            text = (TOP / 'tests' / f'test_{test}.py').read_text()
+            self.check(f'{test} reads {page}', page.partition('.')[0] in text, True)
+        for test, _ in LEFT_OUT.values():
+            self.check(f'{test} is there', (TOP / 'tests' / f'test_{test}.py').exists(), True)
+
+
+# The pages beside the examples and the measurements, with the tests that try what they describe.
+# (What is measured takes hours, wants a machine with nothing beside it, and is tried by nobody.)
+BESIDE = {'examples/1992': ['1992'], 'examples/desks': ['desks', 'five_desks'],
+          'examples/haproxy': ['haproxy'], 'examples/metrics': ['metrics', 'unit'],
+          'examples/three': ['three', 'three_etcd'], 'examples/wall': ['wall', 'wall_front'],
+          'bench': [], 'bench/three': []}
+
+
+class Beside(TestCase):
+    """The pages beside examples and measurements: what their commands run is there, and takes the
+    words that it is given."""
+
+    def test_commands(self):
+        found = [it for folder in ('examples', 'bench') for it in (TOP / folder).rglob('README.md')]
+        self.check('pages', sorted(str(it.parent.relative_to(TOP)) for it in found),
+                   sorted(BESIDE))
+        for page in found:
+            text = '\n'.join(it.text for it in blocks(page.read_text()))
+            for place, words in re.findall(r'\b((?:examples|bench)/[\w./]+|\w+\.py)\b(.*)', text):
+                own = TOP / place if '/' in place else page.with_name(place)
+                self.check(f'{page.parent.name}: {place} is there', own.exists(), True)
+                sources = ''.join(it.read_text() for it in own.parent.glob('*')
+                                  if it.suffix in ('.py', '') and it.is_file())
+                words = re.split(r' {3,}|\\|<|\|', words)[0]
+                for option in re.findall(r'--[a-z][\w-]*|(?<=^ )[a-z]+$|(?<=^ )[a-z]+(?= )', words):
+                    self.check(f'{place} takes {option}', option in sources, True)
+
+    def test_tests(self):
+        for test in {it for tests in BESIDE.values() for it in tests}:
+            self.check(test, (TOP / 'tests' / f'test_{test}.py').exists(), True)
+
+
+class Typing(TestCase):
+    """A folder with the room's files, and commands in front of those of the machine."""
+
+    PAGE = None
+
+    def setUp(self):
+        super().setUp()
+        self.port = free_port()
+        for name in ('bin', 'unit', 'backup', 'state/dispatch-room', 'place'):
+            (self.folder / name).mkdir(parents=True)
+        for name, text in STUBS.items():
+            (self.folder / 'bin' / name).write_text(f'#!/bin/sh\n{text}\n')
+            (self.folder / 'bin' / name).chmod(0o755)
+        (self.folder / 'bin' / 'dispatch_room').symlink_to(PROGRAM)
+        self.place = self.folder / 'place'
+        self.room = self.place / 'room.db'
+        self.unit_room = self.folder / 'state' / 'dispatch-room' / 'room.db'
+        start = re.search('^ExecStart=(.*)$', UNIT.read_text(), re.M)[1]
+        self.environment = os.environ | {
+            'PATH': f'{self.folder}/bin:{os.environ["PATH"]}', 'UNIT': str(self.folder / 'unit'),
+            'EXEC_START': self.here(start.replace('${ROOM_ADDRESS}', ADDRESS)
+                                    .replace('/usr/bin/', f'{self.folder}/bin/'))}
+
+    def here(self, text):
+        """A text with the folders and the port of this test."""
+        for one, other in [('/var/lib', f'{self.folder}/state'),
+                           (ADDRESS, f'127.0.0.1:{self.port}'),
+                           ('/backup/', f'{self.folder}/backup/')]:
+            text = text.replace(one, other)
+        return text
+
+    def block(self, first):
+        return next(it for it in blocks((TOP / 'docs' / self.PAGE).read_text())
+                    if first_line(it) == first)
+
+    def commands(self, first):
+        return [it for it, _ in commands(self.block(first).text)]
+
+    def type(self, text, status=0):
+        """Types a text; gives what it printed."""
+        out = self.folder / 'out'
+        with out.open('wb') as to:  # (a file, since what is started in it would hold a pipe open)
+            done = subprocess.run(['bash', '-e', '-c', self.here(text)], cwd=self.place, stdout=to,
+                                  stderr=subprocess.STDOUT, stdin=subprocess.DEVNULL, timeout=300,
+                                  env=self.environment)
+        self.check(f'{text}: its status', (done.returncode, out.read_text() if done.returncode
+                                           != status else ''), (status, ''))
+        return out.read_text()
+
+    @contextlib.contextmanager
+    def served(self):
+        """The room of the unit, which is started."""
+        run('init', self.unit_room, PLAN)
+        run('import', self.unit_room, FLEET)
+        try:
+            self.type('systemctl start dispatch-room')
+            yield
+        finally:
+            if (self.folder / 'unit' / 'pid').exists():
+                self.type('systemctl stop dispatch-room')
+
+    def made(self):
+        """A room that is not served."""
+        run('init', self.room, PLAN)
+        run('import', self.room, FLEET)
+        return self.room
+
+
+class Readme(Typing):
+    def test_first_call(self):
+        """(The program is built: what builds it is tested in `examples`.)"""
+        (self.place / 'dispatch_room').symlink_to(PROGRAM)
+        (self.place / 'examples').symlink_to(TOP / 'examples')
+        answer = (TOP / 'examples' / 'first-call.out').read_text()
+        self.check('its answer', self.type(TYPED['README.md'][0]), answer)
+
+
+class Operating(Typing):
+    PAGE = 'OPERATING.md'
+
+    def asked(self, *sent):
+        return [it for it, _ in ask(self.port, *sent)]
+
+    def test_lost_terminal(self):
+        with self.served():
+            token = self.type('\n'.join(self.commands('sudo systemctl stop dispatch-room'))).strip()
+            self.check('a token', re.fullmatch('[A-Za-z0-9]{24}', token) is not None, True)
+            self.check('is known, and no other', [
+                self.asked(message(it, 'GET /order')) for it in (token, 'crewofa1')],
+                [[200], [403]])
+
+    def test_terminals(self):
+        self.made()
+        who, new, gone = self.commands('dispatch_room terminals room.db')
+        crews = ''.join(f'crew {it}\n' for it in ('A1', 'A2', 'A3', 'B1', 'C1'))
+        self.check('who', self.type(who), f'desk 1\ndesk 2\nposition 1\n{crews}')
+        self.check('a token', len(self.type(new)), 25)
+        self.check('position 3', 'position 3\n' in self.type(who), True)
+        self.check('gone', self.type(gone), 'revoked\n')
+        self.check('no position 3', 'position 3\n' in self.type(who), False)
+
+    def test_board(self):
+        with self.served():
+            ask(self.port, call(1))
+            for words in self.commands('dispatch_room board 127.0.0.1:8080 deskone1'):
+                printed = self.type(words)
+                for what, wanted in [('Room at', True), ('Queue: ', True),
+                                     ('Incident 1: active', '--incident' in words),
+                                     ('\x1b[', 'always' in words)]:
+                    self.check(f'{words}: {what}', what in printed, wanted)
+
+    def test_log(self):
+        [(command, shown)] = commands(self.block('$ journalctl --unit=dispatch-room '
+                                                 '--output=cat').text)
+        with self.served():
+            ask(self.port, call(1), QUEUE)
+            ask(self.port, message('nobody12', 'POST /report', '{}'))
+            time.sleep(0.2)
+            lines = self.type(command).splitlines()
+        formed = lambda it: re.sub(r'\d+ ms$', 'N ms', re.sub(r'^[-\dT:]{19}Z', 'MOMENT', it))
+        self.check('lines', [formed(it) for it in lines], [formed(it) for it in shown])
+
+    def test_copy_of_a_served_room(self):
+        with self.served():
+            ask(self.port, call(1))
+            self.type('\n'.join(self.commands('sudo systemctl kill --signal=STOP dispatch-room')))
+            self.check('it is served on', self.asked(call(2)), [200])
+        copy = self.folder / 'backup' / 'room.db'
+        self.check('the copy', run('times', copy, 1, '2026-01-01')[0], 0)
+        self.check('its calls', sql(copy, CALLS), '1\n')
+
+    def test_copies(self):
+        """Each by itself, of a room that has a log, as after a kill."""
+        with self.served():
+            ask(self.port, call(1))
+        for name in ('room.db', 'room.db-wal'):
+            shutil.copy(self.unit_room.with_name(name), self.place)
+        shutil.copytree(self.place, self.folder / 'as it was')
+        before = dump(self.unit_room)
+        small = '(umask 077; sqlite3 room.db "PRAGMA page_size = 512; VACUUM INTO ' \
+            '\'/backup/room.db\'")'
+        for words in [*self.commands('sqlite3 room.db ".backup /backup/room.db"'),
+                      *self.commands(small)]:
+            shutil.rmtree(self.place)
+            shutil.copytree(self.folder / 'as it was', self.place)
+            shutil.rmtree(self.folder / 'backup')
+            (self.folder / 'backup').mkdir()
+            self.type(words)
+            copy = self.folder / 'backup' / 'room.db'
+            self.check(f'{words}: the copy', run('times', copy, 1, '2026-01-01')[0], 0)
+            self.check(f'{words}: its rows', dump(copy) == before, True)
+
+    def test_journal(self):
+        [serve] = self.commands('dispatch_room serve room.db 127.0.0.1:8080 --journal room.list')
+        begin, *others = self.commands('cp room.db copy.db && : >room.list')
+        self.made()
+        self.type(begin)
+        first = (self.place / 'copy.db').read_bytes()
+        process = subprocess.Popen(['bash', '-c', f'exec {self.here(serve)}'], cwd=self.place,
+                                   env=self.environment, stdout=subprocess.PIPE)
+        self.addCleanup(process.communicate)
+        self.addCleanup(process.kill)
+        self.check('it is served', process.stdout.readline(), b'serving\n')
+        ask(self.port, call(1), call(2), QUEUE)
+        process.terminate()
+        process.wait()
+        day = time.strftime('%Y-%m-%d')
+        early = int(subprocess.check_output(['date', '-d', '03:15', '+%s']))
+        is_later = time.time() > early
+        for words in others:
+            (self.place / 'copy.db').write_bytes(first)
+            printed = self.type(words)
+            if '--until' in words:
+                self.check(f'{words} on {day}', printed, f'replayed {0 if is_later else 3}\n')
+            elif 'verify' in words:
+                self.check(words, printed.splitlines()[0], 'verified 3')
+            else:
+                self.check(words, printed, 'replayed 3\n')
+                self.check('the room', dump(self.place / 'copy.db') == dump(self.room), True)
+
+    def test_a_new_room(self):
+        with self.served():
+            ask(self.port, call(1))
+            block = [it for it in blocks((TOP / 'docs' / self.PAGE).read_text())
+                     if 'dispatch_room renew' in it.text][0]
+            printed = self.type(block.text)
+            self.check('what is in it', printed.splitlines()[0],
+                       'renewed: incidents 1, calls 1, turns 0, reports 0')
+            self.check('it is served', self.asked(call(1), QUEUE), [200, 200])
+            old = self.unit_room.with_name(f'room.{time.strftime("%Y-%m-%d")}.db')
+            self.check('the archive', [run('check', old)[0], sql(old, CALLS)], [0, '1\n'])
+
+    def test_what_is_explained(self):
+        """As on a terminal. The fleet has its mistake in line 9."""
+        self.made()
+        rows = [f'V{it},1,1,TQ303804,crewofv{it}0' for it in range(7)]
+        (self.place / 'fleet.csv').write_text(fleet_of(*rows, 'V9,9,1,TQ303804,crewofv90'))
+        for command, shown in commands(self.block('$ dispatch_room check room.db').text):
+            words = command.split()[1:]
+            with contextlib.chdir(self.place), contextlib.ExitStack() as stack:
+                if 'in use' in ''.join(shown):
+                    process = stack.enter_context(subprocess.Popen(
+                        [PROGRAM, 'serve', 'room.db', f'127.0.0.1:{self.port}'],
+                        stdout=subprocess.PIPE))
+                    stack.callback(process.kill)
+                    process.stdout.readline()
+                _, told = on_terminal(*words)
+            formed = lambda it: re.sub(r'process \d+', 'process N', it)
+            self.check(command, [formed(it) for it in told.splitlines()],
+                       [formed(it) for it in shown])
+
+
+class Files(Typing):
+    PAGE = 'FILES.md'
+
+    def put(self, name, first):
+        (self.place / name).write_text(self.block(first).text)
+
+    def played(self, *messages):
+        """The room after messages, each with its moment."""
+        room = self.made()
+        sent = digest.head_of(room).encode()
+        sent += b''.join(b'message %d %d\n%s\n' % (moment, len(it), it) for moment, it in messages)
+        done = subprocess.run([PROGRAM, 'replay', room, '--answers', '--history'], input=sent,
+                              capture_output=True, timeout=120)
+        self.check('each is answered well', [done.returncode, done.stdout.count(b'HTTP/1.1 200')],
+                   [0, len(messages)])
+        return room
+
+    def test_plan_and_fleet(self):
+        self.put('plan.csv', 'what,number,a,b,c,d')
+        self.put('fleet.csv', 'callsign,division,kind,place,token')
+        self.check('init', self.type('dispatch_room init room.db plan.csv'),
+                   'created: divisions 2, areas 2, terminals 3\n')
+        self.check('import', self.type('dispatch_room import room.db fleet.csv'), 'A1 added\n')
+
+    def test_report(self):
+        day, later = 1774742400, 1774825199
+        on_duty = message('deskone1', 'POST /vehicles/A1/duty',
+                          f'{{"place":"TQ303804","until":{later}}}')
+        send = message('deskone1', 'POST /incidents/1/mobilise', '{"vehicle":"A1"}')
+        self.played((day, call(1)), (day, on_duty), (day + 120, send), (later, call(2, 'TQ350850')))
+        self.check('the report', self.type('dispatch_room times room.db 1 2026-03-29'),
+                   self.block('incident,opened,activation').text)
+
+    def test_questions(self):
+        """Each is answered; of a day in which there is something to answer."""
+        until = int(time.time()) + 3600
+        duty = [message('deskone1', f'POST /vehicles/{it}/duty',
+                        f'{{"place":"TQ303804","until":{until}}}') for it in ('A1', 'A2')]
+        send = message('deskone1', 'POST /incidents/1/mobilise', '{"vehicle":"A1"}')
+        lend = message('deskone1', 'POST /vehicles/A2/lend', f'{{"to":2,"until":{until}}}')
+        report = lambda number, button: message('crewofa1', 'POST /report', json.dumps(
+            {'button': button, 'number': number, 'order': 1, 'place': 'TQ300800'}))
+        room = self.played(*((1774742400, it) for it in [
+            call(1), *duty, send, lend, message('desktwo2', 'POST /vehicles/A2/accept'),
+            report(1, 'scene'), report(2, 'mobile')]))
+        text = self.block('-- Which vehicle is where, and sent to what?').text
+        questions = [it for it in text.split(';\n') if it.strip()]
+        self.check('questions', len(questions), 5)
+        found = [sql(room, f'\n{it}') for it in questions]  # or '--' would be an option
+        self.check('no mistake', [it for it in found if 'Error' in it or 'sqlite3:' in it], [])
+        self.check('rows', [it.count('\n') for it in found], [5, 1, 1, 2, 1])
+
+    def test_renewed_rows(self):
+        """What is left is what `renew` leaves."""
+        days = [1774224000, 1774310400, 1774396800, 1774742400]
+        duty = message('deskone1', 'POST /vehicles/A1/duty',
+                       '{"place":"TQ303804","until":1774800000}')
+        close = [message('deskone1', f'POST /incidents/{it}/close') for it in (1, 2)]
+        report = [message('crewofa1', 'POST /report', json.dumps(
+            {'button': 'scene', 'number': it, 'order': 0, 'place': 'TQ300800'}))
+            for it in (1, 2, 3)]
+        clear = message('deskone1', 'POST /queue/A1/1/clear')
+        room = self.played((days[0], duty), (days[0], call(1)), (days[0], report[0]),
+                           (days[0], clear), (days[0], close[0]), (days[1], call(2, 'TQ350850')),
+                           (days[1], report[1]), (days[1], close[1]),
+                           (days[3], call(3, 'TQ330830')), (days[3], report[2]))
+        self.type('dispatch_room renew room.db new.db --since 2026-03-25')
+        kept, of_reports = self.statements()
+        with contextlib.closing(digest.opened(room)) as old, \
+                contextlib.closing(digest.opened(self.place / 'new.db')) as new:
+            rows = lambda file, text: sorted(file.execute(text, {'since': days[2]}).fetchall())
+            incident, of = '(division, number) IN kept', '(division, incident) IN kept'
+            for table, text in [
+                    ('incidents', f'{kept} SELECT * FROM incidents WHERE {incident}'),
+                    ('calls', f'{kept} SELECT * FROM calls WHERE {of}'),
+                    ('turns', f'{kept} SELECT * FROM turns WHERE {of}'),
+                    ('reports', of_reports)]:
+                left, all_of = rows(old, text), rows(old, f'SELECT * FROM {table}')
+                self.check(f'{table}: as renewed', rows(new, f'SELECT * FROM {table}'), left)
+                if table in ('incidents', 'calls', 'reports'):
+                    self.check(f'{table}: some stay behind', 0 < len(left) < len(all_of), True)
+
+    def statements(self):
+        """The beginning that says which incidents are kept, and the statement for reports."""
+        name = next(it for it in TYPED['FILES.md'] if it.startswith('-- Incidents: the active'))
+        first, _, last = [it for it in re.split(r'^--.*\n', self.block(name).text, flags=re.M)
+                          if it.strip()][0].partition('SELECT * FROM incidents WHERE')
+        of_reports = self.block(name).text.partition("vehicle's last.\n")[2].rstrip(';\n')
+        self.check('all are read', bool(first and last and of_reports), True)
+        return first, of_reports
+
+    def test_check(self):
+        sql(self.made(), WORK)
+        self.check('a room with work', self.type('dispatch_room check room.db'),
+                   self.block('version 2').text)
+
+    def test_migrate(self):
+        first_version.killed_room(self.room)
+        self.check('migrated', self.type('\n'.join(self.commands('cp room.db room.db-wal '
+                                                                 '/backup/'))), 'migrated\n')
+        self.check('the copy', sql(self.folder / 'backup' / 'room.db',
+                                   'SELECT version FROM meta'), '1\n')
+
+    def function(self, first):
+        """A function that stands on the page."""
+        found = {'hashlib': __import__('hashlib')}
+        exec(self.block(first).text, found)
+        return found[re.match(r'def (\w+)', first)[1]]
+
+    def test_entries(self):
+        """The list on the page, and one that was kept, are read by what stands there."""
+        entries = self.function('def entries(text):')
+        text = self.block('room 2 6b1f4e0c4d9d5a0f2a3f4a1c8f6f0f0e3f2f1c9d8b7a695847362514f0e1d2c3'
+                          ).text
+        head, _, rest = text.partition('POST')
+        sent, _, end = rest.partition('\n\n\n')
+        sent = f'POST{sent}\n\n'.replace('\n', '\r\n')
+        read = list(entries(f'{head}{sent}\n{end}'.encode()))
+        self.check('of the page', [it[0] for it in read], ['room', 'message', 'answer'])
+        self.check('its message', read[1][2], sent.encode())
+
+    def test_plain(self):
+        plain = self.function('def plain(text):')
+        bodies = [b'room 2 %s\n' % (b'0' * 64), b'message 1 4\nwhat\n', b'end\n', b'answer 200\n']
+        self.check('the records', plain(chain(bodies)), b''.join(it for it in bodies
+                                                                 if it != b'end\n'))
+        with self.assertRaises(AssertionError):
+            plain(chain(bodies).replace(b'what', b'that'))
+
+    def test_lengths_of_the_chain(self):
+        """The lengths that the page shows are those of the records of the list above it."""
+        shown = re.findall(r'^(\d{5}) ', self.block('list 2').text, re.M)
+        head = 'room 2 6b1f4e0c4d9d5a0f2a3f4a1c8f6f0f0e3f2f1c9d8b7a695847362514f0e1d2c3'
+        lines = self.block(head).text.splitlines()
+        size = int(lines[1].split()[2])
+        self.check('lengths', [int(it) for it in shown],
+                   [len(head) + 1, len(lines[1]) + 1 + size + 1])
