@@ -1,5 +1,5 @@
 """The program under the library of preload/, which is loaded before the C library's own, and the
-switches of it that preload/preload.h tells."""
+switches of it that preload/preload.h names."""
 import atexit
 import contextlib
 import errno

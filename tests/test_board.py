@@ -1,5 +1,5 @@
 """The board of a desk: what it asks a room, what it shows of a room that is served, line by line,
-and what it tells of a peer that is silent, drips, refuses or talks no HTTP."""
+and what it says of a peer that is silent, drips, refuses or talks no HTTP."""
 # needs: python3 sqlite3
 # builds: dispatch_room
 import os

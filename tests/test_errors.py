@@ -233,7 +233,7 @@ class Rooms(ErrorCase):
 
     def test_no_room(self):
         sql(self.other, 'CREATE TABLE vehicles (callsign TEXT)')
-        told = f'{self.other} is no room: `dispatch_room check` tells what is wrong'
+        told = f'{self.other} is no room: `dispatch_room check` says what is wrong'
         self.check_error('times', ['times', self.other, 1, '2026-03-29'], 1, 'refused: file', told)
 
     def test_versions(self):

@@ -1,4 +1,4 @@
-"""What docs/OPERATING.md tells whoever runs a room: how it is stopped and started again, what a
+"""What docs/OPERATING.md says to whoever runs a room: how it is stopped and started again, what a
 copy of it holds that was made while it was served, after it, or after the program was killed, and
 what comes of a full disk."""
 # needs: python3 sqlite3

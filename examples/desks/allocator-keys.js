@@ -9,7 +9,7 @@ const MOVES = [['↑ ↓', 'another line'], ['PgUp PgDn', 'another page'],
 
 export const isTyped = (node) => node.closest('input, textarea, select') !== null;
 
-/** Moves the selection of a panel by a key; tells whether it was one for that. */
+/** Moves the selection of a panel by a key; says whether it was one for that. */
 export function move(panel, key) {
   const moves = { ArrowDown: () => panel.move(1), ArrowUp: () => panel.move(-1),
     PageDown: () => panel.turn(1), PageUp: () => panel.turn(-1), Home: () => panel.select(0),

@@ -221,7 +221,7 @@ function turnTo(one) {
   one.focus();
 }
 
-/** Does what a key stands for; tells whether it stands for something. */
+/** Does what a key stands for; says whether it stands for something. */
 function press(key) {
   const action = ACTIONS.find((it) => it.key === key);
   const ofPage = PAGE_KEYS.find((it) => it.key === key);

@@ -18,7 +18,7 @@ class Ask:
 
 
 def no_answer(is_kept: str) -> bytes:
-    """Tells a terminal that there is no answer, and whether its request is kept in the list or will
+    """Answers a terminal that there is no answer, and whether its request is kept in the list or will
     be: no, yes or perhaps."""
     return messages.told(503, {'error': 'NoAnswer', 'kept': is_kept})
 

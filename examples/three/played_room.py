@@ -121,7 +121,7 @@ class PlayedRoom:
         return read[at:]
 
     def look(self) -> None:
-        """Tells whether the program is there. (What it is given by a clock that stands still while
+        """Says whether the program is there. (What it is given by a clock that stands still while
         the machine sleeps, as it does itself.)"""
         if self.has_ended:
             raise Ended('the room ended')

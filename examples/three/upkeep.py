@@ -103,7 +103,7 @@ class Upkeep:
     # ---- clocks
 
     def tell_word(self) -> None:
-        """Tells the others how this machine is, and hears them."""
+        """Shows the others how this machine is, and hears them."""
         machine = self.machine
         word = {'clock': clocks.moment(), 'played': machine.player.played,
                 'copy': machine.tail.copy.number}
@@ -129,7 +129,7 @@ class Upkeep:
     # ---- copies
 
     def tell_copy(self, copy: Copy) -> None:
-        """Tells the others of a copy. Where two differ at one record, none takes more. Records that
+        """Informs the others of a copy. Where two differ at one record, none takes more. Records that
         all machines have in copies go from the list."""
         telling = KeptList(Member(self.kept.member.reach, TELLS_WITHIN))
         self.copied = passed()
@@ -162,7 +162,7 @@ class Upkeep:
             self.compact(kept, kept.drop_before(first) - history)
 
     def tell_outcome(self, number: int, outcome: bytes) -> None:
-        """Tells what became of a record that is no message."""
+        """Reports what became of a record that is no message."""
         telling = KeptList(Member(self.kept.member.reach, TELLS_WITHIN))
         say(f'record {number}: {outcome.decode(errors="replace").strip() or "done"}')
         try:

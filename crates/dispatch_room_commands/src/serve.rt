@@ -73,7 +73,8 @@ struct ServiceRun<'a> {
     journal: &'a Option<OpenedList>,
 }
 
-// Whether a service goes on until it is stopped.
+// Whether a service goes on until it is stopped. Else a connection counts as soon as it is asked
+// for, whatever becomes of it.
 fn is_endless(service: &Service<'_>) -> bool
     ensures { result ≡ is_endless service.now }
 {

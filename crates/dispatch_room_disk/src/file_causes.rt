@@ -45,7 +45,7 @@ pub(crate) fn explain_undone(explainer: Explainer<'_>, file: RoomFile<'_>, fault
             explainer.explain(format_args!("{path} is a room already, or another database"));
         }
         (_, Failure::File) => explainer.explain(format_args!(
-            "{path} is no room: `dispatch_room check` tells what is wrong"
+            "{path} is no room: `dispatch_room check` says what is wrong"
         )),
         (RoomFile::Old(_), Failure::Version) => {
             explainer.explain(format_args!("{path} is a room of this version already"));

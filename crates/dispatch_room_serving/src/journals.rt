@@ -39,7 +39,7 @@ pub trait Keeper {
 }
 
 /// A journal: each message at its moment, as it came, and the status of its answer. What is refused
-/// in the place of a message is not kept. Once something could not be kept, nothing more is.
+/// where there is no message is not kept. Once something could not be kept, nothing more is.
 #[derive(Drop)]
 pub struct Journal<W> {
     out: W,

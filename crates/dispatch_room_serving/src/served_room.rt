@@ -85,7 +85,7 @@ pub fn serve_in<S: Alter + Drop, P: Callers, C: Clock, N: JournalObserver>(
     Ok((served, room.close()))
 }
 
-// Tells the watcher where the room begins, lets the callers begin, and serves so many calls.
+// Hands the watcher the room where it begins, lets the callers begin, and serves so many calls.
 fn begin_and_serve<S: Alter, P: Callers, C: Clock, N: JournalObserver>(
     alloc: Global,
     callers: &mut P,
@@ -138,7 +138,7 @@ fn begin_and_serve<S: Alter, P: Callers, C: Clock, N: JournalObserver>(
     }
 }
 
-// Tells the watcher at which room it begins, if it wants to know.
+// Hands the watcher the digest of the room at which it begins, if it wants to know.
 fn announce<S: Alter, N: JournalObserver>(
     room: &mut Store<S>,
     journal_observer: &mut N,

@@ -87,7 +87,7 @@ impl<E: Entrance> Waiting<E> {
     }
 
     // Looks at all once all are watched, and where nobody is to be served by then, waits until
-    // someone moves.
+    // someone moves. So who calls is heard beside those who ask without a pause.
     fn look_around(&mut self)
         ensures given { GivesNext self.old.line.items self.old.ready.items self.old.next
             self.new.line.items self.new.ready.items self.new.next None }

@@ -33,7 +33,7 @@ pub fn create_in<S: Alter + Drop, O: Write>(
     }
 }
 
-// Tells how much a created room has.
+// Prints how much a created room has.
 fn tell<O: Write>(created: &PlanFile, out: &mut O) -> Result<Done, Failure>
     ensures { IsTold created.now (O.contents out.old) (O.contents out.new) result }
 {

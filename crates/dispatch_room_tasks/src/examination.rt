@@ -27,7 +27,7 @@ use sqlite::{Alter, Connection};
 use std::alloc::Global;
 use std::io::{self, Write};
 
-/// Tells how much the room of a database has, or what is wrong with its file first. Nothing is
+/// Prints how much the room of a database has, or what is wrong with its file first. Nothing is
 /// written to the file.
 pub fn check_in<S: Alter + Drop, O: Write>(
     alloc: Global,
@@ -48,7 +48,7 @@ pub fn check_in<S: Alter + Drop, O: Write>(
     (done, conn)
 }
 
-// Tells how much a room has; or that its days can't be reckoned, as the zone of its plan is no
+// Prints how much a room has; or says that its days can't be reckoned, as the zone of its plan is no
 // rule.
 fn tell_room<O: Write>(plan: &Plan, summary: &Summary, out: &mut O) -> Result<Done, Failure>
     ensures text { OnOk result (Appends (O.contents out.old) (O.contents out.new)
@@ -70,7 +70,7 @@ fn tell_room<O: Write>(plan: &Plan, summary: &Summary, out: &mut O) -> Result<Do
     }
 }
 
-// Tells what is wrong with a file, by which the program fails.
+// Reports what is wrong with a file, by which the program fails.
 fn tell_wrong<O: Write>(wrong: Wrong, out: &mut O) -> Result<Done, Failure>
     ensures { (result ≡ Err (failure_of wrong)) ⊎ (result ≡ Err Network) }
 {

@@ -152,7 +152,7 @@ pub fn begin_in<S: Alter + Drop, O: Write>(
     }
 }
 
-// Tells how much of what happened a new room has that is made by these changes.
+// Prints how much of what happened a new room has that is made by these changes.
 fn tell<O: Write>(changes: &[Change], out: &mut O) -> Result<Done, Failure>
     ensures { IsTold changes.now (O.contents out.old) (O.contents out.new) result }
 {

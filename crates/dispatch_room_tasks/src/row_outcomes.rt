@@ -25,7 +25,7 @@ fn row_in(line: &FleetLine) -> Option<FleetRow>
     }
 }
 
-/// Tells what became of each line, up to the first good one that has no fate, and how much is done
+/// Prints what became of each line, up to the first good one that has no fate, and how much is done
 /// by that.
 pub fn tell<O: Write>(lines: &[FleetLine], fates: &[RowFate], out: &mut O) -> io::Result<Done>
     ensures text { OnOk result (Appends (O.contents out.old) (O.contents out.new)
@@ -54,7 +54,7 @@ pub fn tell<O: Write>(lines: &[FleetLine], fates: &[RowFate], out: &mut O) -> io
     Ok(done)
 }
 
-// Tells what became of a row, and whether it is enrolled.
+// Prints what became of a row, and says whether it is enrolled.
 fn tell_fate<O: Write>(row: &FleetRow, fate: &RowFate, out: &mut O) -> io::Result<bool>
     ensures text { OnOk result (Appends (O.contents out.old) (O.contents out.new)
         (row.now.callsign ++ fate_text fate.now)) }
